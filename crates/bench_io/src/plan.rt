@@ -1,0 +1,82 @@
+// What the source and the sink in memory that fail have in common: how much a call moves, and which calls
+// fail.
+ghost use Rattle.std.specs.Prelude.{◌≡◌, ◌↔◌, ◌≤◌, ◌++◌, length, min, take, drop, IsTrue, Contains};
+ghost use Rattle.std.specs.Bool.{OnTrue, OnFalse};
+ghost use Rattle.bench_io.specs.Turns.{Turns, Fails, after_call, after_failure};
+
+use std::marker::Model;
+
+// The calls of a source or a sink, some of which are to fail.
+#[derive(Drop)]
+pub(crate) struct Plan {
+    most: usize,
+    failing: Vec<u64>,
+    // Wider than the numbers in `failing`, so that no call after the last of those has one of them.
+    calls: u128,
+    faults: u64,
+}
+
+impl Model for Plan {
+    ghost use Rattle.std.specs.Prelude.{◌≤◌};
+    ghost use Rattle.bench_io.specs.Turns.{Turns};
+
+    ghost Value = { Turns };
+
+    ghost view = { λ p. record { most = p.most; failing = p.failing.items; calls = p.calls; faults = p.faults } };
+}
+
+impl Plan {
+    pub(crate) fn new(most: usize, failing: Vec<u64>) -> Plan
+        ensures { result ≡ record { most = most; failing = failing.items; calls = 0; faults = 0 } }
+    {
+        Plan {
+            most,
+            failing,
+            calls: 0,
+            faults: 0,
+        }
+    }
+
+    pub(crate) fn most(&self) -> usize
+        ensures { result ≡ self.now.most }
+    {
+        self.most
+    }
+
+    // Counts a call, and says whether it is to fail.
+    pub(crate) fn begin(&mut self) -> bool
+        ensures fails { IsTrue result ↔ Fails self.old }
+        ensures failed { OnTrue result (self.new ≡ after_failure self.old) }
+        ensures never_falls { self.old.faults ≤ self.new.faults }
+        ensures went_on { OnFalse result (self.new ≡ after_call self.old) }
+    {
+        let fails = is_listed(&self.failing, self.calls);
+        self.calls = self.calls.saturating_add(1);
+        if fails {
+            self.faults = self.faults.saturating_add(1);
+        }
+        fails
+    }
+}
+
+// Whether the number of a call is one of these.
+fn is_listed(numbers: &[u64], call: u128) -> bool
+    ensures { IsTrue result ↔ Contains numbers.now call }
+{
+    for number in numbers {
+        if *number as u128 == call {
+            return true;
+        }
+    }
+    false
+}
+
+// Copies the front of `from` over the front of `into`, at most `most` bytes, and returns how many.
+pub(crate) fn copy_front(from: &[u8], most: usize, into: &mut [u8]) -> usize
+    ensures amount { result ≡ min most (min (length into.old) (length from.now)) }
+    ensures copied { into.new ≡ take result from.now ++ drop result into.old }
+{
+    let n = most.min(into.len()).min(from.len());
+    into[..n].copy_from_slice(&from[..n]);
+    n
+}
