@@ -1,5 +1,5 @@
 -- The bytes that a source has left or a sink has taken, where they are known.
-use Rattle.std.specs.Prelude.{◌≡◌, ℕ, List, [], IfSome, Option}
+use Rattle.std.specs.Prelude.{◌≡◌, ℕ, List, IfSome, Option}
 use Rattle.std.specs.Io.KnownBytes.{prepend_known, append_known}
 
 -- The source gave these bytes from the front of what it had left. Where that was not known, it still is not.

@@ -1,3 +1,4 @@
+pub mod Adapted
 pub mod Faults
 pub mod Known
 pub mod Supply

@@ -1,5 +1,5 @@
 -- What a source in memory has left, and what a sink in memory has taken.
-use Rattle.std.specs.Prelude.{ℕ, List, ◌++◌, drop}
+use Rattle.std.specs.Prelude.{ℕ, List}
 use Rattle.bench_io.specs.Turns.{Turns}
 
 pub record Supply : Type 0 where

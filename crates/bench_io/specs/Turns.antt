@@ -12,6 +12,10 @@ pub record Turns : Type 0 where
   -- how many of them failed
   pub faults : ℕ
 
+-- before the first call
+abbrev pub new_turns : ℕ → List ℕ → Turns
+new_turns most failing = record { most = most; failing = failing; calls = 0; faults = 0 }
+
 -- the next call is one of those that fail
 abbrev pub Fails : Turns → Type 0
 Fails turns = Contains turns.failing turns.calls

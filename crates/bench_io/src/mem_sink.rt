@@ -1,7 +1,7 @@
 // A sink in memory that takes a few bytes at a time and fails when it is told to.
-ghost use Rattle.std.specs.Prelude.{◌≡◌, ◌≢◌, ◌↔◌, ◌<◌, ◌≤◌, ◌++◌, [], length, min, take, IfOk, OnErr, IsErrOf};
+ghost use Rattle.std.specs.Prelude.{◌≡◌, ◌↔◌, ◌<◌, ◌≤◌, ◌++◌, [], length, min, take, IfOk, OnErr, IsErrOf};
 ghost use Rattle.bench_io.specs.Supply.{Intake};
-ghost use Rattle.bench_io.specs.Turns.{Fails, after_call, after_failure};
+ghost use Rattle.bench_io.specs.Turns.{Fails, new_turns, after_call, after_failure};
 
 use crate::plain::FIRST_ROOM;
 use crate::plan::Plan;
@@ -34,7 +34,7 @@ impl MemSink {
     pub fn new(alloc: Global, most: usize, failing: Vec<u64>) -> Result<MemSink, NoMemory>
         requires { 1 ≤ most }
         ensures bytes { IfOk result (λ sink. sink.bytes ≡ []) }
-        ensures turns { IfOk result (λ sink. sink.turns ≡ record { most = most; failing = failing.items; calls = 0; faults = 0 }) }
+        ensures turns { IfOk result (λ sink. sink.turns ≡ new_turns most failing.items) }
     {
         Ok(MemSink {
             bytes: Vec::with_capacity(alloc, FIRST_ROOM)?,
@@ -71,8 +71,10 @@ impl Sink for MemSink {
         // A call that is refused.
         ensures same_bytes { OnErr result (self.new.bytes ≡ self.old.bytes) }
         ensures never_falls { self.old.turns.faults ≤ self.new.turns.faults }
-        ensures counted_failure { IsErrOf result Fault.Failed → self.new.turns ≡ after_failure self.old.turns }
-        ensures counted_refusal { IsErrOf result Fault.NoMemory → self.new.turns ≡ after_call self.old.turns }
+        ensures counted_failure { IsErrOf result Fault.Failed
+            → self.new.turns ≡ after_failure self.old.turns }
+        ensures counted_refusal { IsErrOf result Fault.NoMemory
+            → self.new.turns ≡ after_call self.old.turns }
     {
         if self.plan.begin() {
             return Err(Fault::Failed);

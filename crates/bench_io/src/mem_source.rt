@@ -1,7 +1,7 @@
 // A source in memory that gives a few bytes at a time and fails when it is told to.
 ghost use Rattle.std.specs.Prelude.{◌≡◌, ◌≢◌, ◌↔◌, ◌<◌, ◌≤◌, ◌++◌, [], length, min, take, drop, IfOk, OnErr};
 ghost use Rattle.bench_io.specs.Supply.{Supply};
-ghost use Rattle.bench_io.specs.Turns.{Fails, after_call, after_failure};
+ghost use Rattle.bench_io.specs.Turns.{Fails, new_turns, after_call, after_failure};
 
 use crate::plan::{Plan, copy_front};
 use crate::{Fault, Source};
@@ -33,7 +33,7 @@ impl MemSource {
     pub fn new(bytes: Vec<u8>, most: usize, failing: Vec<u64>) -> MemSource
         requires { 1 ≤ most }
         ensures bytes { result.left ≡ bytes.items }
-        ensures turns { result.turns ≡ record { most = most; failing = failing.items; calls = 0; faults = 0 } }
+        ensures turns { result.turns ≡ new_turns most failing.items }
     {
         MemSource {
             bytes,
@@ -57,7 +57,8 @@ impl Source for MemSource {
         ensures no_other { result ≢ Err Fault.NoMemory }
 
         // A call that does not fail.
-        ensures amount { IfOk result (λ n. n ≡ min self.old.turns.most (min (length into.old) (length self.old.left))) }
+        ensures amount { IfOk result (λ n.
+            n ≡ min self.old.turns.most (min (length into.old) (length self.old.left))) }
         ensures copied { IfOk result (λ n. into.new ≡ take n self.old.left ++ drop n into.old) }
         ensures rest { IfOk result (λ n. self.new.left ≡ drop n self.old.left) }
         ensures counted { IfOk result (λ _. self.new.turns ≡ after_call self.old.turns) }

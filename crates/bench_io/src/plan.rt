@@ -1,8 +1,8 @@
-// What the source and the sink in memory that fail have in common: how much a call moves, and which calls
-// fail.
+// What the sources and sinks in memory have in common: which calls fail, how much one moves, and a copy of
+// the front of some bytes.
 ghost use Rattle.std.specs.Prelude.{◌≡◌, ◌↔◌, ◌≤◌, ◌++◌, length, min, take, drop, IsTrue, Contains};
 ghost use Rattle.std.specs.Bool.{OnTrue, OnFalse};
-ghost use Rattle.bench_io.specs.Turns.{Turns, Fails, after_call, after_failure};
+ghost use Rattle.bench_io.specs.Turns.{Fails, new_turns, after_call, after_failure};
 
 use std::marker::Model;
 
@@ -17,17 +17,21 @@ pub(crate) struct Plan {
 }
 
 impl Model for Plan {
-    ghost use Rattle.std.specs.Prelude.{◌≤◌};
     ghost use Rattle.bench_io.specs.Turns.{Turns};
 
     ghost Value = { Turns };
 
-    ghost view = { λ p. record { most = p.most; failing = p.failing.items; calls = p.calls; faults = p.faults } };
+    ghost view = { λ p. record {
+      most = p.most;
+      failing = p.failing.items;
+      calls = p.calls;
+      faults = p.faults;
+    } };
 }
 
 impl Plan {
     pub(crate) fn new(most: usize, failing: Vec<u64>) -> Plan
-        ensures { result ≡ record { most = most; failing = failing.items; calls = 0; faults = 0 } }
+        ensures { result ≡ new_turns most failing.items }
     {
         Plan {
             most,
