@@ -1,0 +1,4 @@
+pub mod Ascending
+pub mod Derivations
+pub mod Orderings
+pub mod Searches

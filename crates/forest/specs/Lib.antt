@@ -1,0 +1,5 @@
+pub mod Derivation
+pub mod Orders
+pub mod Nodes
+pub mod Forests
+pub mod Equality
