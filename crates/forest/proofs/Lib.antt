@@ -2,3 +2,4 @@ pub mod Ascending
 pub mod Derivations
 pub mod Orderings
 pub mod Searches
+pub mod Counting

@@ -3,3 +3,4 @@ pub mod Orders
 pub mod Nodes
 pub mod Forests
 pub mod Equality
+pub mod Distinct

@@ -1,4 +1,4 @@
-ghost use Rattle.std.specs.Prelude.{◌≡◌};
+ghost use Rattle.std.specs.Prelude.{◌≡◌, ◌↔◌, IsTrue};
 ghost use Rattle.std.specs.List.Sorted.{IsStrictlySortedBy};
 ghost use Rattle.std.proofs.lemmas.Map.Keys.{IsStrictlySortedBy-prop};
 ghost use Rattle.forest.specs.Orders.{rule_cmp};
@@ -44,6 +44,19 @@ impl RuleList {
         ensures { result.now ≡ self.now }
     {
         self.items.as_slice()
+    }
+
+    /// Whether the rules strictly ascend by number, as those of a grammar do.
+    pub fn is_ascending(&self) -> bool
+        ensures { IsTrue result ↔ IsStrictlySortedBy rule_cmp self.now }
+    {
+        let rules = self.as_slice();
+        for at in 1..rules.len() {
+            if rules[at - 1].number >= rules[at].number {
+                return false;
+            }
+        }
+        true
     }
 
     pub fn into_vec(self) -> Vec<Rule>
