@@ -71,10 +71,10 @@ has_bit items tables inv x i j at t b here is_t is_b li lj =
     let get : slice_get t.bits.items (bit i j) ≡ Some b = read_is t.bits.items (bit i j) b is_b bound in (
       λ e. inv.bits at i j x here li lj (record { table = t; is = there; bit = get ∙ ap Some e }),
       λ c.
-        let (a, ta, s) = inv.listed (span x i j) c in
-        let places : a ≡ at = inv.single x a at ta here in
-        let tables_same : t ≡ s.table = some_same t s.table (sym there ∙ (rw places at s.is)) in
-        some_same b true (sym get ∙ (rw (sym tables_same) at s.bit)),
+          let (a, ta, s) = inv.listed (span x i j) c in
+          let places : a ≡ at = inv.single x a at ta here in
+          let tables_same : t ≡ s.table = some_same t s.table (sym there ∙ (rw places at s.is)) in
+          some_same b true (sym get ∙ (rw (sym tables_same) at s.bit)),
     )
 
 pub has_no_table : (items : List Span) (tables : List Table) → IsIndexed items tables → (x : SymbolId) (i j : ℕ) → ((at : ℕ) → IsTableAt tables x at → ⊥) → Contains items (span x i j) → ⊥
