@@ -1,5 +1,5 @@
 -- The nodes of spans, and the forest that they make.
-use Rattle.std.proofs.Common.{◌≡◌, ℕ, zero, suc, ◌+◌, ◌<◌, ◌≤◌, inl, inr, List, [], ◌∷◌, ◌++◌, length, map, take, refl, sym, ◌∙◌, ap, subst, arith, Contains, slice_get, Some}
+use Rattle.std.proofs.Common.{◌≡◌, ℕ, zero, suc, ◌+◌, inl, inr, List, [], ◌∷◌, ◌++◌, map, take, refl, sym, ◌∙◌, ap, subst, arith, Contains, slice_get, Some}
 use Rattle.std.specs.declared.cmp.Ordering.TheVariants.{Less}
 use Rattle.std.specs.List.{AllByRecursion}
 use Rattle.std.specs.List.Sorted.{IsStrictlySortedBy}
@@ -8,7 +8,7 @@ use Rattle.forest.specs.declared.rules.Rule.{Rule}
 use Rattle.forest.specs.declared.nodes.Node.{Node}
 use Rattle.forest.specs.declared.forest.Forest.{Forest}
 use Rattle.forest.specs.Derivation.{IsSentence}
-use Rattle.forest.specs.Forests.{IsForestOf, IsNodeOf, InForest}
+use Rattle.forest.specs.Forests.{IsForestOf}
 use Rattle.forest.specs.Orders.{node_cmp}
 use Rattle.plain_chart.specs.declared.spans.Span.{Span}
 use Rattle.plain_chart.specs.Span.{span}

@@ -7,7 +7,7 @@ use Rattle.std.proofs.lemmas.List.Elements.{Contains-append_left, Contains-appen
 use Rattle.forest.specs.declared.symbols.SymbolId.{SymbolId}
 use Rattle.forest.specs.declared.symbols.TheConstants.{START}
 use Rattle.forest.specs.declared.rules.Rule.{Rule}
-use Rattle.forest.specs.Derivation.{Derives, DerivesAlong, token, by_rule, done, part, IsNonterminal, AreTerminals}
+use Rattle.forest.specs.Derivation.{Derives, DerivesAlong, done, part, IsNonterminal, AreTerminals}
 use Rattle.forest.specs.Distinct.{IsDistinct}
 use Rattle.forest.specs.Forests.{IsPart, here, later, InForest, root, part_of}
 use Rattle.forest.proofs.Ascending.{contains_cases, contains_there, contains_here}

@@ -1,11 +1,10 @@
 -- Places from which something is derived, as bits.
-use Rattle.std.proofs.Common.{◌≡◌, ℕ, zero, suc, ◌+◌, ◌<◌, ◌≤◌, ◌↔◌, inl, inr, List, [], ◌∷◌, length, get_or, replicate, set, refl, sym, ◌∙◌, ap, subst, arith, Bool, true, false, IsTrue, slice_get, Some}
+use Rattle.std.proofs.Common.{◌≡◌, ℕ, zero, suc, ◌+◌, ◌<◌, ◌≤◌, ◌↔◌, inl, inr, List, [], ◌∷◌, length, get_or, replicate, set, sym, ◌∙◌, ap, subst, arith, Bool, true, false, IsTrue, slice_get, Some}
 use Rattle.std.proofs.lemmas.Bool.{cases_lt}
 use Rattle.std.proofs.lemmas.List.{length-replicate, get_or-replicate}
-use Rattle.std.proofs.lemmas.Option.{slice_get_within}
 use Rattle.forest.specs.declared.symbols.SymbolId.{SymbolId}
 use Rattle.plain_chart.specs.declared.spans.Span.{Span}
-use Rattle.plain_chart.specs.Known.{IsKnown, AreKnown, AreSources, LeadsTo, AreLeads}
+use Rattle.plain_chart.specs.Known.{AreSources, LeadsTo, AreLeads}
 use Rattle.plain_chart.proofs.TableLemmas.{some_same, read_is, get_set, set_here, set_there, not_set}
 
 -- one bit is set

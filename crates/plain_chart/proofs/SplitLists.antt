@@ -1,29 +1,27 @@
 -- The splits of a span, rule after rule.
-use Rattle.std.proofs.Common.{◌≡◌, ℕ, ◌+◌, ◌<◌, ◌≤◌, ◌⊎◌, inl, inr, List, [], ◌∷◌, ◌++◌, length, map, get_or, refl, sym, ◌∙◌, ap, subst, arith, Contains, slice_get, Some}
+use Rattle.std.proofs.Common.{◌≡◌, ℕ, ◌+◌, ◌<◌, ◌≤◌, inl, inr, List, [], ◌∷◌, ◌++◌, length, map, get_or, refl, sym, ◌∙◌, ap, subst, arith, Contains, slice_get, Some}
 use Rattle.std.proofs.lemmas.Bool.{cases_lt}
 use Rattle.std.proofs.lemmas.Map.Keys.{Less-from_sorted}
 use Rattle.std.proofs.lemmas.List.Elements.{Contains-append_cases, Contains-append_left, Contains-append_right}
 use Rattle.std.proofs.lemmas.Option.{slice_get_within, slice_get_read, unwrap_or-slice_get}
 use Rattle.std.specs.Option.{unwrap_or}
 use Rattle.std.specs.Ordering.{nat_cmp, ordering_then}
-use Rattle.std.specs.declared.cmp.Ordering.{Ordering}
-use Rattle.std.specs.declared.cmp.Ordering.TheVariants.{Less, Equal}
+use Rattle.std.specs.declared.cmp.Ordering.TheVariants.{Less}
 use Rattle.std.specs.Cmp.Lexicographic.{slice_cmp}
 use Rattle.std.specs.List.{AllByRecursion}
 use Rattle.std.specs.List.Sorted.{IsStrictlySortedBy}
 use Rattle.forest.specs.declared.symbols.SymbolId.{SymbolId}
 use Rattle.forest.specs.declared.rules.Rule.{Rule}
 use Rattle.forest.specs.declared.nodes.Split.{Split}
-use Rattle.forest.specs.Derivation.{Derives, DerivesAlong, done, part}
-use Rattle.forest.specs.Forests.{IsSplit}
+use Rattle.forest.specs.Derivation.{DerivesAlong, done, part}
 use Rattle.forest.specs.Orders.{rule_cmp, split_cmp}
 use Rattle.forest.proofs.Ascending.{contains_cases, contains_there, contains_here}
 use Rattle.forest.proofs.Derivations.{Derives-le, Derives-within, Along-le}
 use Rattle.plain_chart.specs.declared.spans.Span.{Span}
-use Rattle.plain_chart.specs.Known.{IsKnown, IsWhole}
+use Rattle.plain_chart.specs.Known.{IsWhole}
 use Rattle.plain_chart.specs.Cuts.{AreCuts, AreAllCuts, AreSplits, split_of}
 use Rattle.plain_chart.proofs.Fine.{known_derived}
-use Rattle.plain_chart.proofs.CutLists.{nat_cmp-refl, nat_cmp-less, sorted_append}
+use Rattle.plain_chart.proofs.CutLists.{nat_cmp-refl, sorted_append}
 
 -- an element that is read is in the list
 pub get_contained : {X : Type 0} (xs : List X) (k : ℕ) (x : X) → slice_get xs k ≡ Some x → get_or xs k x ≡ x

@@ -1,5 +1,5 @@
 -- How tables find spans.
-use Rattle.std.specs.Prelude.{◌≡◌, ℕ, ◌+◌, ◌*◌, ◌<◌, List, [], ◌∷◌, ◌++◌, Contains, slice_get, Some, true, length, ◌⊎◌, replicate, false}
+use Rattle.std.specs.Prelude.{◌≡◌, ℕ, ◌+◌, ◌*◌, ◌<◌, List, [], ◌∷◌, ◌++◌, Contains, slice_get, Some, true, length, replicate, false}
 use Rattle.forest.specs.declared.symbols.SymbolId.{SymbolId}
 use Rattle.plain_chart.specs.declared.spans.Span.{Span}
 use Rattle.plain_chart.specs.declared.spans.Table.{Table}

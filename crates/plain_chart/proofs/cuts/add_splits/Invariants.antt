@@ -1,4 +1,4 @@
-use Rattle.std.proofs.Common.{◌≡◌, ◌++◌, take, map, length}
+use Rattle.std.proofs.Common.{◌≡◌, ◌++◌, map}
 use Rattle.plain_chart.specs.Cuts.{split_of}
 use Rattle.plain_chart.proofs.cuts.add_splits.Given as goal
 

@@ -1,4 +1,4 @@
-use Rattle.std.proofs.Common.{ℕ, refl, arith, length}
+use Rattle.std.proofs.Common.{ℕ, refl, arith}
 use Rattle.std.proofs.lemmas.List.{length-set}
 use Rattle.plain_chart.specs.Known.{LeadsTo}
 use Rattle.plain_chart.proofs.Places.{none_set, bits_more, clear_more, leads_all}

@@ -1,8 +1,5 @@
-use Rattle.std.proofs.Common.{ℕ, List, arith, refl, sym}
+use Rattle.std.proofs.Common.{arith, refl, sym}
 use Rattle.std.proofs.lemmas.Option.{slice_get_read}
-use Rattle.plain_chart.specs.declared.spans.Span.{Span}
-use Rattle.plain_chart.specs.Known.{IsSettled}
-use Rattle.plain_chart.proofs.Fine.{grows_then, settled_more}
 use Rattle.plain_chart.proofs.derive.round.Goals as goal
 
 pub returns-clause-settled : goal.returns-clause-settled

@@ -1,4 +1,4 @@
-use Rattle.std.proofs.Common.{get_or, sym, Contains}
+use Rattle.std.proofs.Common.{get_or, sym}
 use Rattle.std.proofs.lemmas.List.{get_or_default}
 use Rattle.plain_chart.specs.declared.spans.Span.{Span}
 use Rattle.plain_chart.proofs.NodeLists.{nodes_more}

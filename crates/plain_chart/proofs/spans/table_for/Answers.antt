@@ -1,5 +1,4 @@
-use Rattle.std.proofs.Common.{rules, ◌≡◌, ◌-◌, ◌++◌, ◌∷◌, [], length, refl, false, replicate}
-use Rattle.std.proofs.lemmas.Grind.{common_steps}
+use Rattle.std.proofs.Common.{rules, ◌≡◌, ◌-◌, length, refl, false, replicate}
 use Rattle.plain_chart.specs.declared.spans.Table.{Table}
 use Rattle.plain_chart.proofs.TableLemmas.{get_last}
 use Rattle.plain_chart.specs.Tables.{same, added}

@@ -2,7 +2,6 @@ use Rattle.std.proofs.Common.{◌≡◌, inl, inr, sym, ◌∙◌, subst, arith}
 use Rattle.std.proofs.lemmas.Bool.{cases_lt}
 use Rattle.std.proofs.lemmas.Option.{slice_get_within}
 use Rattle.plain_chart.specs.declared.spans.Table.{Table}
-use Rattle.plain_chart.specs.Tables.{IsTableAt}
 use Rattle.plain_chart.proofs.TableLemmas.{read_is, some_same}
 use Rattle.plain_chart.proofs.spans.table_of.Goals as goal
 

@@ -1,4 +1,3 @@
-use Rattle.std.proofs.Common.{rules}
 use Rattle.plain_chart.proofs.TableLemmas.{has_bit, has_no_table}
 use Rattle.plain_chart.proofs.spans.Spans.has.Goals as goal
 
