@@ -20,11 +20,11 @@ AreKnown tokens known (x ∷ xs) i j = (k : ℕ) × (i ≤ k) × (k ≤ j) × Is
 abbrev pub AreSources : List SymbolId → List Span → List SymbolId → ℕ → List Bool → Type 0
 AreSources tokens known xs j places = (i : ℕ) → i < 65 → (slice_get places i ≡ Some true) ↔ AreKnown tokens known xs i j
 
--- x is known to derive the tokens from i to a place up to j that is ahead
+-- x is known to derive the tokens from i to a place up to j that is among those ahead
 abbrev pub LeadsTo : List SymbolId → List Span → SymbolId → ℕ → List Bool → ℕ → Type 0
 LeadsTo tokens known x i ahead j = (k : ℕ) × (i ≤ k) × (k ≤ j) × IsKnown tokens known x i k × (slice_get ahead k ≡ Some true)
 
--- the places are those from which x leads to an open place
+-- the places are those from which x leads to one of those ahead
 abbrev pub AreLeads : List SymbolId → List Span → SymbolId → List Bool → ℕ → List Bool → Type 0
 AreLeads tokens known x ahead j places = (i : ℕ) → i < 65 → (slice_get places i ≡ Some true) ↔ LeadsTo tokens known x i ahead j
 

@@ -29,7 +29,7 @@ pub fn is_known(known: &Spans, tokens: &[SymbolId], symbol: SymbolId, from: u32,
     is_token(tokens, symbol, from, to) || known.has(symbol, from, to)
 }
 
-/// Whether the symbol leads from a place to one of those that are ahead.
+/// Whether the symbol leads from a place to one of the places ahead, up to `to`.
 fn leads(
     known: &Spans,
     tokens: &[SymbolId],
@@ -51,7 +51,7 @@ fn leads(
     false
 }
 
-/// The places from which the symbol leads to one of those that are ahead.
+/// The places from which the symbol leads to one of the places ahead.
 fn places_before(
     known: &Spans,
     tokens: &[SymbolId],
@@ -70,7 +70,7 @@ fn places_before(
     places
 }
 
-/// The place alone.
+/// This place alone.
 fn one_place(to: u32) -> [bool; PLACES]
     requires { to < 65 }
     ensures { (i : ℕ) → i < 65 → (slice_get result i ≡ Some true) ↔ (i ≡ to) }
@@ -124,7 +124,7 @@ fn settle(
     Ok(changed)
 }
 
-/// The same for each end.
+/// Settles the rule for each end, and tells whether a span was added.
 fn settle_rule(
     alloc: Global,
     known: &mut Spans,
