@@ -1,0 +1,5 @@
+pub mod Ascending
+pub mod Derivations
+pub mod Orderings
+pub mod Searches
+pub mod Counting

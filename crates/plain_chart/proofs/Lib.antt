@@ -1,0 +1,9 @@
+pub mod Fine
+pub mod Universe
+pub mod CutLists
+pub mod TableLemmas
+pub mod Places
+pub mod SplitLists
+pub mod PartLists
+pub mod SameSpans
+pub mod NodeLists
