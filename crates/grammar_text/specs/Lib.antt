@@ -1,0 +1,6 @@
+pub mod Names
+pub mod Pieces
+pub mod Spelling
+pub mod Canonical
+pub mod Limits
+pub mod Reading

@@ -1,0 +1,22 @@
+//! Edits of a grammar and their text: one edit a line, as a person writes it.
+#![tactic(auto)]
+
+mod bad_edit;
+mod canonical;
+mod cursor;
+mod edit;
+mod limits;
+mod literal;
+mod name;
+mod reading;
+mod symbol;
+mod text;
+
+pub use bad_edit::BadEdit;
+pub use canonical::written_len;
+pub use edit::{DefText, Edit, RuleText};
+pub use limits::{EDIT_LIMIT, LINE_LIMIT, LITERAL_LIMIT, NAME_LIMIT, SYMBOL_LIMIT};
+pub use name::Name;
+pub use reading::read_edit;
+pub use symbol::{Symbol, Symbols};
+pub use text::Text;

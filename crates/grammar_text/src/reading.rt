@@ -1,0 +1,178 @@
+//! Reading an edit from a line.
+
+ghost use Rattle.std.specs.Prelude.{◌≡◌, ◌≤◌, List, length, IfOk, Ok, codes};
+ghost use Rattle.grammar_text.specs.declared.limits.TheConstants.{LINE_LIMIT, SYMBOL_LIMIT, LITERAL_LIMIT};
+ghost use Rattle.grammar_text.specs.declared.edit.Edit.{Edit as AnEdit};
+ghost use Rattle.grammar_text.specs.Pieces.{IsLine};
+ghost use Rattle.grammar_text.specs.Spelling.{Spells};
+ghost use Rattle.grammar_text.specs.Limits.{IsWithinLimits};
+ghost use Rattle.grammar_text.specs.Reading.{Gives, word_at, name_at, literal_from, literal_at, symbol_at, symbols_at, rule_at, edit_at, edit_of};
+
+use crate::bad_edit::BadEdit;
+use crate::canonical::written_len;
+use crate::cursor::{Cursor, is_blank_led};
+use crate::edit::{Edit, RuleText};
+use crate::limits::{EDIT_LIMIT, SYMBOL_LIMIT};
+use crate::literal::literal_of;
+use crate::name::{Name, is_name};
+use crate::symbol::{Symbol, Symbols};
+use std::alloc::Global;
+
+/// The place behind a word that must come next.
+#[tactic(auto, unfolding(crate::specs::Reading::word_at))]
+fn word<'a>(place: &Cursor<'a>, word: &[u8]) -> Result<Cursor<'a>, BadEdit>
+    ensures { Gives result (word_at word.now place.now) }
+{
+    let next = place.trimmed();
+    let (piece, behind) = next.split_piece();
+    if piece != word {
+        return Err(BadEdit::Shape {
+            offset: next.offset(),
+        });
+    }
+    Ok(behind)
+}
+
+/// A name that must come next, and the place behind it.
+#[tactic(auto, unfolding(crate::specs::Reading::name_at))]
+fn name<'a>(alloc: Global, place: &Cursor<'a>) -> Result<(Name, Cursor<'a>), BadEdit>
+    ensures { Gives result (name_at place.now) }
+{
+    let next = place.trimmed();
+    if next.left().is_empty() {
+        return Err(BadEdit::Shape {
+            offset: next.offset(),
+        });
+    }
+    let (piece, behind) = next.split_piece();
+    if !is_name(piece) {
+        return Err(BadEdit::BadName {
+            offset: next.offset(),
+        });
+    }
+    Ok((Name::from_bytes(alloc, piece)?, behind))
+}
+
+/// A literal, from what was read behind its opening quote at this place.
+fn literal<'a>(
+    alloc: Global,
+    place: &Cursor<'a>,
+    text: &'a [u8],
+) -> Result<(Symbol, Cursor<'a>), BadEdit>
+    requires { length text.now ≤ length place.now.left }
+    ensures { Gives result (literal_from place.now (literal_at LITERAL_LIMIT text.now)) }
+{
+    let Some((bytes, rest)) = literal_of(alloc, text)? else {
+        return Err(BadEdit::BadLiteral {
+            offset: place.offset(),
+        });
+    };
+    if bytes.bytes().is_empty() {
+        return Err(BadEdit::BadLiteral {
+            offset: place.offset(),
+        });
+    }
+    let behind = place.at(rest);
+    if !is_blank_led(rest) {
+        return Err(BadEdit::Shape {
+            offset: behind.offset(),
+        });
+    }
+    Ok((Symbol::Literal(bytes), behind))
+}
+
+/// The symbol that begins at this place, and the place behind it.
+#[tactic(auto, unfolding(crate::specs::Reading::symbol_at))]
+fn symbol<'a>(alloc: Global, place: &Cursor<'a>) -> Result<(Symbol, Cursor<'a>), BadEdit>
+    ensures { Gives result (symbol_at place.now) }
+{
+    if let [b'"', text @ ..] = place.left() {
+        return literal(alloc, place, text);
+    }
+    let (piece, behind) = place.split_piece();
+    if !is_name(piece) {
+        return Err(BadEdit::BadName {
+            offset: place.offset(),
+        });
+    }
+    Ok((Symbol::Named(Name::from_bytes(alloc, piece)?), behind))
+}
+
+/// The symbols up to the line's end.
+fn symbols(alloc: Global, place: &Cursor<'_>) -> Result<Symbols, BadEdit>
+    ensures { Gives result (symbols_at SYMBOL_LIMIT place.now) }
+{
+    let mut symbols = Vec::new(alloc);
+    let mut next = place.trimmed();
+    while !next.left().is_empty() {
+        if symbols.len() == SYMBOL_LIMIT {
+            return Err(BadEdit::TooManySymbols {
+                offset: next.offset(),
+            });
+        }
+        let (symbol, behind) = symbol(alloc, &next)?;
+        symbols.push(symbol)?;
+        next = behind.trimmed();
+    }
+    Ok(Symbols::from_vec(symbols))
+}
+
+/// A name, `::=` and the symbols up to the line's end.
+#[tactic(auto, unfolding(crate::specs::Reading::rule_at))]
+fn rule(alloc: Global, place: &Cursor<'_>) -> Result<RuleText, BadEdit>
+    ensures { Gives result (rule_at place.now) }
+{
+    let (left, behind) = name(alloc, place)?;
+    let behind = word(&behind, b"::=")?;
+    let right = symbols(alloc, &behind)?;
+    Ok(RuleText { left, right })
+}
+
+/// An edit of any length, by its first piece.
+#[tactic(auto, unfolding(crate::specs::Reading::edit_at))]
+fn edit(alloc: Global, place: &Cursor<'_>) -> Result<Edit, BadEdit>
+    ensures { Gives result (edit_at place.now) }
+{
+    let next = place.trimmed();
+    if next.left().is_empty() {
+        return Err(BadEdit::Shape {
+            offset: next.offset(),
+        });
+    }
+    let (keyword, behind) = next.split_piece();
+    if keyword != b"rule".as_slice() {
+        return Err(BadEdit::Shape { offset: 0 });
+    }
+    Ok(Edit::AddRule(rule(alloc, &behind)?))
+}
+
+/// The edit that the line is, or its first wrong piece from the left.
+#[tactic(auto, unfolding(crate::specs::Reading::edit_of))]
+fn edit_of(alloc: Global, line: &[u8]) -> Result<Edit, BadEdit>
+    requires { length line.now ≤ LINE_LIMIT }
+    ensures { Gives result (edit_of line.now) }
+{
+    let edit = edit(alloc, &Cursor::new(line))?;
+    if written_len(&edit) > EDIT_LIMIT {
+        return Err(BadEdit::TooLong { offset: 0 });
+    }
+    Ok(edit)
+}
+
+/// Reads an edit from a line.
+///
+/// Blanks, which are spaces and tabs, part the pieces of a line and may stand at both of its ends. The
+/// line is read from the left, and its first wrong piece decides which error comes.
+pub fn read_edit(alloc: Global, line: &[u8]) -> Result<Edit, BadEdit>
+    requires short { length line.now ≤ LINE_LIMIT }
+    requires one_line { IsLine line.now }
+
+    // What is read is spelled so, within the limits.
+    ensures found { IfOk result (λ edit. Spells line.now edit × IsWithinLimits edit) }
+    // What is spelled so within the limits is read, unless memory runs out.
+    ensures only { (edit : AnEdit) → Spells line.now edit → IsWithinLimits edit → Gives result (Ok edit) }
+    // Which error it is.
+    ensures exact { Gives result (edit_of line.now) }
+{
+    edit_of(alloc, line)
+}

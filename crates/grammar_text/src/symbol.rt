@@ -1,0 +1,81 @@
+//! Symbols, and lists of them.
+
+ghost use Rattle.std.specs.Prelude.{◌≡◌, ◌↔◌, IsTrue, List, length};
+
+use crate::name::Name;
+use crate::text::Text;
+use std::marker::Model;
+
+/// A symbol of a rule's right side.
+#[derive(Debug, Drop)]
+pub enum Symbol {
+    /// The name of a nonterminal or of a token.
+    Named(Name),
+    /// A text that stands for itself, by the bytes that its escapes stand for.
+    Literal(Text),
+}
+
+impl Symbol {
+    /// Whether both are the same symbol. A name and a literal never are.
+    pub fn is_same(&self, other: &Symbol) -> bool
+        ensures { IsTrue result ↔ (self.now ≡ other.now) }
+    {
+        match (self, other) {
+            (Symbol::Named(name), Symbol::Named(other)) => name.is_same(other),
+            (Symbol::Literal(text), Symbol::Literal(other)) => text.is_same(other),
+            _ => false,
+        }
+    }
+}
+
+/// Symbols in their order, seen as the list of them.
+#[derive(Debug, Drop)]
+pub struct Symbols {
+    items: Vec<Symbol>,
+}
+
+impl Model for Symbols {
+    ghost use Rattle.std.specs.Prelude.{List};
+    ghost use Rattle.grammar_text.specs.declared.symbol.Symbol.{Symbol};
+
+    ghost Value = { List Symbol };
+
+    ghost view = { λ symbols. symbols.items.items };
+}
+
+impl Symbols {
+    /// The list of these symbols.
+    pub fn from_vec(items: Vec<Symbol>) -> Symbols
+        ensures { result ≡ items.items }
+    {
+        Symbols { items }
+    }
+
+    pub fn as_slice(&self) -> &[Symbol]
+        ensures { result.now ≡ self.now }
+    {
+        &self.items
+    }
+
+    /// Whether both have the same symbols in the same order.
+    pub fn is_same(&self, other: &Symbols) -> bool
+        ensures { IsTrue result ↔ (self.now ≡ other.now) }
+    {
+        are_same(self.as_slice(), other.as_slice())
+    }
+}
+
+fn are_same(symbols: &[Symbol], others: &[Symbol]) -> bool
+    ensures { IsTrue result ↔ (symbols.now ≡ others.now) }
+{
+    let mut left = symbols;
+    let mut right = others;
+    while let ([a, after_a @ ..], [b, after_b @ ..]) = (left, right) {
+        if !a.is_same(b) {
+            return false;
+        }
+        left = after_a;
+        right = after_b;
+    }
+    left.is_empty() && right.is_empty()
+}
