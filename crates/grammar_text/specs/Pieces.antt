@@ -1,9 +1,10 @@
 -- The pieces of a line, which blanks part.
-use Rattle.std.specs.Prelude.{◌≢◌, All, ℕ, ◌-◌, Bool, true, ◌||◌, ◌==◌, List, [], ◌∷◌, length, if◌then◌else◌}
+use Rattle.std.specs.Prelude.{IsTrue, not, ℕ, ◌-◌, Bool, true, ◌||◌, ◌==◌, List, [], ◌∷◌, length, if◌then◌else◌}
+use Rattle.std.specs.List.{list_all}
 
 -- a line has no byte 10
 abbrev pub IsLine : List ℕ → Type 0
-IsLine bytes = All (λ byte. byte ≢ 10) bytes
+IsLine bytes = IsTrue (list_all (λ byte. not (byte == 10)) bytes)
 
 -- a space or a tab
 abbrev pub is_blank : ℕ → Bool

@@ -20,3 +20,6 @@ pub use name::Name;
 pub use reading::read_edit;
 pub use symbol::{Symbol, Symbols};
 pub use text::Text;
+
+#[cfg(test)]
+mod tests;

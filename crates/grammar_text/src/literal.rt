@@ -45,10 +45,7 @@ fn closed(text: &[u8]) -> Option<&[u8]>
 }
 
 /// A literal behind its opening quote, and what is left behind its closing one.
-pub(crate) fn literal_of(
-    alloc: Global,
-    text: &[u8],
-) -> Result<Option<(Text, &[u8])>, AllocError>
+pub(crate) fn literal_of(alloc: Global, text: &[u8]) -> Result<Option<(Text, &[u8])>, AllocError>
     ensures { IfOk result (λ read. option_map (λ found. (found.0, found.1.now)) read ≡ literal_at LITERAL_LIMIT text.now) }
 {
     let mut bytes = Vec::new(alloc);
