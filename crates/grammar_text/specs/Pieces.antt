@@ -1,5 +1,5 @@
 -- The pieces of a line, which blanks part.
-use Rattle.std.specs.Prelude.{IsTrue, not, ℕ, ◌-◌, Bool, true, ◌||◌, ◌==◌, List, [], ◌∷◌, length, if◌then◌else◌}
+use Rattle.std.specs.Prelude.{IsTrue, not, ℕ, ◌-◌, Bool, true, false, ◌||◌, ◌==◌, List, [], ◌∷◌, length, if◌then◌else◌}
 use Rattle.std.specs.List.{list_all}
 
 -- a line has no byte 10
@@ -24,6 +24,10 @@ piece_of (byte ∷ bytes) = if is_blank byte then [] else byte ∷ piece_of byte
 abbrev pub behind_piece : List ℕ → List ℕ
 behind_piece [] = []
 behind_piece (byte ∷ bytes) = if is_blank byte then byte ∷ bytes else behind_piece bytes
+
+abbrev pub is_empty : List ℕ → Bool
+is_empty [] = true
+is_empty (byte ∷ bytes) = false
 
 -- a blank comes next, or nothing
 abbrev pub blank_led : List ℕ → Bool

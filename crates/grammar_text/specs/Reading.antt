@@ -1,5 +1,5 @@
 -- Reading a line from left to right, up to the first wrong piece.
-use Rattle.std.specs.Prelude.{◌≡◌, ℕ, zero, suc, Bool, true, false, ◌==◌, nat_lt, List, [], ◌∷◌, length, drop, Option, Some, None, Result, Ok, Err, if◌then◌else◌, codes}
+use Rattle.std.specs.Prelude.{◌≡◌, ℕ, zero, suc, Bool, false, ◌==◌, nat_lt, List, [], ◌∷◌, length, drop, Option, Some, None, Result, Ok, Err, if◌then◌else◌, codes}
 use Rattle.std.specs.Option.{option_map, option_map_or}
 use Rattle.std.specs.Str.{bytes_eq}
 use Rattle.grammar_text.specs.declared.limits.TheConstants.{LITERAL_LIMIT, SYMBOL_LIMIT, EDIT_LIMIT}
@@ -11,7 +11,7 @@ use Rattle.grammar_text.specs.declared.edit.RuleText.{RuleText}
 use Rattle.grammar_text.specs.declared.edit.Edit.{Edit}
 use Rattle.grammar_text.specs.declared.edit.Edit.TheVariants.{AddRule}
 use Rattle.grammar_text.specs.Names.{is_name}
-use Rattle.grammar_text.specs.Pieces.{Place, start_of, offset_of, trimmed, piece_of, behind_piece, blank_led}
+use Rattle.grammar_text.specs.Pieces.{Place, start_of, offset_of, trimmed, piece_of, behind_piece, blank_led, is_empty}
 use Rattle.grammar_text.specs.Spelling.{unescaped}
 use Rattle.grammar_text.specs.Canonical.{canonical}
 
@@ -33,10 +33,6 @@ Fails (TooLong offset) read = read ≡ Err (TooLong offset)
 abbrev pub Gives : {A : Type 0} → Result A BadEdit → Result A BadEdit → Type 0
 Gives (Ok x) read = read ≡ Ok x
 Gives (Err e) read = Fails e read
-
-abbrev pub is_empty : List ℕ → Bool
-is_empty [] = true
-is_empty (byte ∷ bytes) = false
 
 -- the same line with these bytes left
 abbrev pub at : Place → List ℕ → Place

@@ -1,7 +1,7 @@
 //! A place in a line.
 
 ghost use Rattle.std.specs.Prelude.{◌≡◌, ◌≤◌, length};
-ghost use Rattle.grammar_text.specs.Pieces.{Place, start_of, offset_of, trimmed, piece_of, behind_piece, is_blank, blank_led};
+ghost use Rattle.grammar_text.specs.Pieces.{Place, start_of, offset_of, trimmed, piece_of, behind_piece, is_blank, blank_led, is_empty};
 ghost use Rattle.grammar_text.specs.declared.limits.TheConstants.{LINE_LIMIT};
 
 use crate::limits::LINE_LIMIT;
@@ -48,6 +48,13 @@ impl<'a> Cursor<'a> {
         ensures { result.now ≡ self.now.left }
     {
         self.left
+    }
+
+    /// Whether nothing is left.
+    pub(crate) fn is_at_end(&self) -> bool
+        ensures { result ≡ is_empty self.now.left }
+    {
+        self.left.is_empty()
     }
 
     /// The same line's place with only these bytes left.

@@ -39,7 +39,7 @@ fn name<'a>(alloc: Global, place: &Cursor<'a>) -> Result<(Name, Cursor<'a>), Bad
     ensures { Gives result (name_at place.now) }
 {
     let next = place.trimmed();
-    if next.left().is_empty() {
+    if next.is_at_end() {
         return Err(BadEdit::Shape {
             offset: next.offset(),
         });
@@ -104,7 +104,7 @@ fn symbols(alloc: Global, place: &Cursor<'_>) -> Result<Symbols, BadEdit>
 {
     let mut symbols = Vec::new(alloc);
     let mut next = place.trimmed();
-    while !next.left().is_empty() {
+    while !next.is_at_end() {
         if symbols.len() == SYMBOL_LIMIT {
             return Err(BadEdit::TooManySymbols {
                 offset: next.offset(),
@@ -134,7 +134,7 @@ fn edit(alloc: Global, place: &Cursor<'_>) -> Result<Edit, BadEdit>
     ensures { Gives result (edit_at place.now) }
 {
     let next = place.trimmed();
-    if next.left().is_empty() {
+    if next.is_at_end() {
         return Err(BadEdit::Shape {
             offset: next.offset(),
         });
