@@ -45,7 +45,7 @@ literal-more limit front new text byte rest total lt pushed next so_far =
     let longer : length new ≡ length front + 1 = ap length pushed ∙ length-append front (byte ∷ []) in
     let room : limit - length front ≡ suc (limit - length new) = omega arith in
     let one : with_front front (literal_at (limit - length front) text) ≡ with_front (front ++ byte ∷ []) (literal_at (limit - length new) rest) =
-        rw (room, ← next) (with_front-with_byte front byte (literal_at (limit - length new) rest)) in
+    rw (room, ← next) (with_front-with_byte front byte (literal_at (limit - length new) rest)) in
     ap (λ (bytes : List ℕ). with_front bytes (literal_at (limit - length new) rest)) pushed ∙ sym one ∙ so_far
 
 -- a literal is at its end where there is no room, or where no byte comes

@@ -44,7 +44,7 @@ symbols-more limit front new place behind symbol total lt more is read pushed so
     let longer : length new ≡ length front + 1 = ap length pushed ∙ length-append front (symbol ∷ []) in
     let room : limit - length front ≡ suc (limit - length new) = omega arith in
     let one : with_front front (symbols_at (limit - length front) place) ≡ with_front (front ++ symbol ∷ []) (symbols_at (limit - length new) (piece_at behind)) =
-        rw (room, next-symbol (limit - length new) place behind symbol more is read) (regroup front symbol (symbols_at (limit - length new) (piece_at behind))) in
+    rw (room, next-symbol (limit - length new) place behind symbol more is read) (regroup front symbol (symbols_at (limit - length new) (piece_at behind))) in
     ap (λ (symbols : List Symbol). with_front symbols (symbols_at (limit - length new) (piece_at behind))) pushed ∙ sym one ∙ so_far
 
 -- a symbol is refused

@@ -50,7 +50,7 @@ SpellsSymbol piece (Literal bytes) = (inner : List ℕ) × SpellsBytes inner byt
 -- the text is these symbols, blanks before each of them and maybe at the end
 abbrev pub SpellsSymbols : List ℕ → List Symbol → Type 0
 SpellsSymbols text [] = AreBlanks text
-SpellsSymbols text (symbol ∷ symbols) = (gap piece rest : List ℕ) × IsGap gap × SpellsSymbol piece symbol × SpellsSymbols rest symbols × (text ≡ gap ++ piece ++ rest)
+SpellsSymbols text (symbol ∷ symbols) = (gap piece rest : List ℕ) × IsGap gap × SpellsSymbol piece symbol × SpellsSymbols rest symbols × (text ≡ gap ++ (piece ++ rest))
 
 -- ---- the forms of an edit
 
@@ -97,14 +97,14 @@ SpellsTail text (DropSkip name) = AreBlanks text
 -- the text begins with these pieces, blanks before each of them, and goes on with the rest
 abbrev pub BeginsWith : List ℕ → List (List ℕ) → List ℕ → Type 0
 BeginsWith text [] rest = text ≡ rest
-BeginsWith text (word ∷ words) rest = (gap behind : List ℕ) × IsGap gap × BeginsWith behind words rest × (text ≡ gap ++ word ++ behind)
+BeginsWith text (word ∷ words) rest = (gap behind : List ℕ) × IsGap gap × BeginsWith behind words rest × (text ≡ gap ++ (word ++ behind))
 
 -- the line is this edit
 pub record Spells (line : List ℕ) (edit : Edit) : Type 0 where
   pub blanks : List ℕ
   pub behind : List ℕ
   pub rest : List ℕ
-  pub begins : line ≡ blanks ++ keyword_of edit ++ behind
+  pub begins : line ≡ blanks ++ (keyword_of edit ++ behind)
   pub blank : AreBlanks blanks
   pub words : BeginsWith behind (words_of edit) rest
   pub named : IsName (name_of edit)

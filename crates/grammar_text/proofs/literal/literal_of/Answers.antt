@@ -19,10 +19,10 @@ returns-in-Some-closed c =
     let front = c.loop-rest.bytes.items in
     let rest = c.loop-rest.rest.now in
     let ended : literal_at (LITERAL_LIMIT - length front) rest ≡ option_map (λ (left : List ℕ). ([], left)) (closed rest) =
-        elim c.loop-rest-test.branch [
-          | else-loop-rest-test w ↦ literal-full LITERAL_LIMIT (length front) rest (omega arith)
-          | then-loop-rest-test+in_default w ↦ literal-ended LITERAL_LIMIT (length front) rest w.in_default.ensures
-        ] in
+    elim c.loop-rest-test.branch [
+      | else-loop-rest-test w ↦ literal-full LITERAL_LIMIT (length front) rest (omega arith)
+      | then-loop-rest-test+in_default w ↦ literal-ended LITERAL_LIMIT (length front) rest w.in_default.ensures
+    ] in
     rw c.from_vec.ensures (literal-found front rest c.in-Some-closed.behind.now _ _ ended c.in-Some-closed.ensures c.loop-rest.invariant.so_far)
 
 pub returns : goal.returns
@@ -30,8 +30,8 @@ returns c =
     let front = c.loop-rest.bytes.items in
     let rest = c.loop-rest.rest.now in
     let ended : literal_at (LITERAL_LIMIT - length front) rest ≡ option_map (λ (left : List ℕ). ([], left)) (closed rest) =
-        elim c.loop-rest-test.branch [
-          | else-loop-rest-test w ↦ literal-full LITERAL_LIMIT (length front) rest (omega arith)
-          | then-loop-rest-test+in_default w ↦ literal-ended LITERAL_LIMIT (length front) rest w.in_default.ensures
-        ] in
+    elim c.loop-rest-test.branch [
+      | else-loop-rest-test w ↦ literal-full LITERAL_LIMIT (length front) rest (omega arith)
+      | then-loop-rest-test+in_default w ↦ literal-ended LITERAL_LIMIT (length front) rest w.in_default.ensures
+    ] in
     literal-missing front rest _ _ ended c.in-None.ensures c.loop-rest.invariant.so_far
