@@ -1,5 +1,5 @@
 -- Reading an edit: what is read is spelled so, and what is spelled so is read.
-use Rattle.std.proofs.Common.{◌≡◌, ℕ, suc, ◌+◌, ◌*◌, ◌<◌, ◌≤◌, ◌^◌, Bool, true, false, cond, ltb, List, [], ◌∷◌, ◌++◌, length, Result, Ok, Err, refl, sym, ap, subst, ◌∙◌, length-append, arith}
+use Rattle.std.proofs.Common.{◌≡◌, ℕ, ◌+◌, ◌*◌, ◌<◌, ◌≤◌, ◌^◌, Bool, true, false, cond, ltb, List, [], ◌∷◌, ◌++◌, length, Result, Ok, Err, refl, sym, ap, subst, ◌∙◌, length-append, arith}
 use Rattle.std.specs.Prelude.{IfOk, codes}
 use Rattle.std.specs.Str.{bytes_eq}
 use Rattle.std.proofs.lemmas.Bool.{ltb-false, le-ltb}
@@ -7,7 +7,6 @@ use Rattle.std.proofs.lemmas.Slice.Eq.{bytes_eq-Decides}
 use Rattle.grammar_text.specs.declared.limits.TheConstants.{SYMBOL_LIMIT, EDIT_LIMIT}
 use Rattle.grammar_text.specs.declared.bad_edit.BadEdit.{BadEdit}
 use Rattle.grammar_text.specs.declared.bad_edit.BadEdit.TheVariants.{TooLong}
-use Rattle.grammar_text.specs.declared.symbol.Symbol.{Symbol}
 use Rattle.grammar_text.specs.declared.edit.RuleText.{RuleText}
 use Rattle.grammar_text.specs.declared.edit.Edit.{Edit}
 use Rattle.grammar_text.specs.declared.edit.Edit.TheVariants.{AddRule, DropRule, AddToken, DropToken, AddSkip, DropSkip}
@@ -19,7 +18,7 @@ use Rattle.grammar_text.specs.Limits.{RightFits, IsWithinLimits, PartsFit, IsInU
 use Rattle.grammar_text.specs.Reading.{◌>>=◌, Gives, at, word_at, name_at, symbols_at, rule_at, edit_at, edit_of}
 use Rattle.grammar_text.proofs.Gaps.{leads, piece_splits, behind_led, led-gap, trimmed-blanks, piece-word, behind-word}
 use Rattle.grammar_text.proofs.NameBytes.{name_facts}
-use Rattle.grammar_text.proofs.Words.{bind_ok, unless_ok, guard_ok, done, ok_is, word_takes, name_takes, word_again, name_again}
+use Rattle.grammar_text.proofs.Words.{bind_ok, unless_ok, done, ok_is, word_takes, name_takes, word_again, name_again}
 use Rattle.grammar_text.proofs.SymbolLaws.{ReadsSymbols, symbols_take, symbols_again, symbols_led, symbols_len}
 
 -- the text is a rule: a name, `::=` and symbols

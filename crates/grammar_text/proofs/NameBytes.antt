@@ -1,9 +1,9 @@
 -- The bytes of a name are no blanks and no quotes.
-use Rattle.std.proofs.Common.{◌≡◌, ℕ, ◌<◌, ◌≤◌, Bool, true, false, ◌&&◌, ◌||◌, not, eqb, leb, List, [], ◌∷◌, ◌++◌, length, refl, sym, ap, subst, ◌∙◌, inl, inr, arith}
+use Rattle.std.proofs.Common.{◌≡◌, ℕ, ◌<◌, ◌≤◌, true, false, ◌&&◌, not, eqb, leb, List, [], ◌∷◌, ◌++◌, length, refl, subst, inl, inr, arith}
 use Rattle.std.specs.List.{list_all}
 use Rattle.std.proofs.lemmas.Bool.{and_parts, and_from, or_cases, cases_Bool, eqb-true, leb-true, not_from_false}
 use Rattle.grammar_text.specs.declared.limits.TheConstants.{NAME_LIMIT}
-use Rattle.grammar_text.specs.Names.{is_letter, is_name_byte, begins_with_letter, is_name, IsName}
+use Rattle.grammar_text.specs.Names.{is_letter, is_name_byte, begins_with_letter, IsName}
 use Rattle.grammar_text.specs.Pieces.{is_blank}
 use Rattle.grammar_text.specs.Reading.{is_quoted}
 use Rattle.grammar_text.proofs.Gaps.{IsWord}

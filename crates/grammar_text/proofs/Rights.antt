@@ -1,5 +1,5 @@
 -- Reading symbols one after the other, as a loop does.
-use Rattle.std.proofs.Common.{◌≡◌, ℕ, zero, suc, ◌+◌, ◌-◌, ◌<◌, ◌≤◌, true, false, List, [], ◌∷◌, ◌++◌, length, Result, Ok, Err, refl, sym, ap, ◌∙◌, append_assoc, length-append, arith}
+use Rattle.std.proofs.Common.{◌≡◌, ℕ, zero, suc, ◌+◌, ◌-◌, ◌<◌, true, false, List, [], ◌∷◌, ◌++◌, length, Result, Ok, Err, refl, sym, ap, ◌∙◌, append_assoc, length-append, arith}
 use Rattle.std.proofs.lemmas.List.{append-nil}
 use Rattle.grammar_text.specs.declared.bad_edit.BadEdit.{BadEdit}
 use Rattle.grammar_text.specs.declared.bad_edit.BadEdit.TheVariants.{Shape, BadName, BadLiteral, TooManySymbols, TooLong, NoMemory}

@@ -1,5 +1,5 @@
 -- Which edits are within the limits.
-use Rattle.std.specs.Prelude.{ℕ, ◌<◌, ◌≤◌, List, length}
+use Rattle.std.specs.Prelude.{◌<◌, ◌≤◌, List, length}
 use Rattle.std.specs.List.{AllByRecursion}
 use Rattle.grammar_text.specs.declared.limits.TheConstants.{LITERAL_LIMIT, SYMBOL_LIMIT, EDIT_LIMIT}
 use Rattle.grammar_text.specs.declared.symbol.Symbol.{Symbol}

@@ -1,6 +1,6 @@
 -- How a line spells an edit, piece by piece. A line has no byte 10.
-use Rattle.std.specs.Prelude.{◌≡◌, ℕ, ◌<◌, ◌≤◌, Bool, ◌||◌, ◌==◌, not, List, [], ◌∷◌, ◌++◌, length, Option, Some, None, IsTrue, if◌then◌else◌, codes}
-use Rattle.std.specs.List.{flat_map, list_all, AllByRecursion}
+use Rattle.std.specs.Prelude.{◌≡◌, ℕ, ◌<◌, Bool, ◌||◌, ◌==◌, not, List, [], ◌∷◌, ◌++◌, length, Option, Some, None, IsTrue, if◌then◌else◌, codes}
+use Rattle.std.specs.List.{list_all}
 use Rattle.grammar_text.specs.declared.symbol.Symbol.{Symbol}
 use Rattle.grammar_text.specs.declared.symbol.Symbol.TheVariants.{Named, Literal}
 use Rattle.grammar_text.specs.declared.edit.Edit.{Edit}

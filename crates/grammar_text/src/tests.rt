@@ -1,16 +1,21 @@
-ghost use Rattle.std.specs.Prelude.{◌≤◌, length};
-ghost use Rattle.grammar_text.specs.declared.limits.TheConstants.{LINE_LIMIT};
-ghost use Rattle.grammar_text.specs.Pieces.{IsLine};
+ghost use Rattle.std.specs.Prelude.{◌≡◌, not, ◌==◌};
+ghost use Rattle.std.specs.List.{list_all};
 
 use super::*;
 use std::alloc::Global;
 use std::test::Fail;
 
-/// Why the line is no edit.
-fn refusal(alloc: Global, line: &[u8]) -> Option<BadEdit>
-    requires short { length line.now ≤ LINE_LIMIT }
-    requires one_line { IsLine line.now }
+fn is_line(bytes: &[u8]) -> bool
+    ensures { result ≡ list_all (λ byte. not (byte == 10)) bytes.now }
 {
+    bytes.iter().all(|byte| *byte != b'\n')
+}
+
+/// Why the line is no edit.
+fn refusal(alloc: Global, line: &[u8]) -> Option<BadEdit> {
+    if line.len() > LINE_LIMIT || !is_line(line) {
+        return None;
+    }
     read_edit(alloc, line).err()
 }
 
@@ -34,118 +39,74 @@ fn reads_a_rule(rt: HostRuntime) -> Result<(), Fail> {
 }
 
 #[test]
-fn needs_each_word(rt: HostRuntime) {
-    assert_eq!(rt;
-        refusal(rt.alloc(), b""),
-        Some(BadEdit::Shape { offset: 0 })
-    );
-    assert_eq!(rt;
-        refusal(rt.alloc(), b" \t "),
-        Some(BadEdit::Shape { offset: 3 })
-    );
-    assert_eq!(rt;
-        refusal(rt.alloc(), b"rul E ::= a"),
-        Some(BadEdit::Shape { offset: 0 })
-    );
-    assert_eq!(rt;
-        refusal(rt.alloc(), b"rule"),
-        Some(BadEdit::Shape { offset: 4 })
-    );
-    assert_eq!(rt;
-        refusal(rt.alloc(), b"rule E"),
-        Some(BadEdit::Shape { offset: 6 })
-    );
-    assert_eq!(rt;
-        refusal(rt.alloc(), b"rule E = a"),
-        Some(BadEdit::Shape { offset: 7 })
-    );
-}
-
-#[test]
-fn needs_names(rt: HostRuntime) {
-    assert_eq!(rt;
-        refusal(rt.alloc(), b"rule 1E ::="),
-        Some(BadEdit::BadName { offset: 5 })
-    );
-    assert_eq!(rt;
-        refusal(rt.alloc(), b"rule E ::= a-b"),
-        Some(BadEdit::BadName { offset: 11 })
-    );
-    assert_eq!(rt;
-        refusal(rt.alloc(), b"rule abcdefghijklmnopqrstuvwxyz_01234 ::="),
-        None
-    );
-    assert_eq!(rt;
-        refusal(rt.alloc(), b"rule abcdefghijklmnopqrstuvwxyz_01234x ::="),
-        Some(BadEdit::BadName { offset: 5 })
-    );
-    assert_eq!(rt;
-        refusal(rt.alloc(), b"rule E ::= ab\""),
-        Some(BadEdit::BadName { offset: 11 })
-    );
-}
-
-#[test]
-fn needs_literals(rt: HostRuntime) {
-    assert_eq!(rt;
-        refusal(rt.alloc(), b"rule E ::= \"\""),
-        Some(BadEdit::BadLiteral { offset: 11 })
-    );
-    assert_eq!(rt;
-        refusal(rt.alloc(), b"rule E ::= \"a"),
-        Some(BadEdit::BadLiteral { offset: 11 })
-    );
-    assert_eq!(rt;
-        refusal(rt.alloc(), b"rule E ::= \"ab\""),
-        Some(BadEdit::BadLiteral { offset: 11 })
-    );
-    assert_eq!(rt;
-        refusal(rt.alloc(), b"rule E ::= \"\\q\""),
-        Some(BadEdit::BadLiteral { offset: 11 })
-    );
-    assert_eq!(rt;
-        refusal(rt.alloc(), b"rule E ::= \"\\t\" \"\\\"\" \"\t\" \" \""),
-        None
-    );
-    assert_eq!(rt;
-        refusal(rt.alloc(), b"rule E ::= \"a\"b"),
-        Some(BadEdit::Shape { offset: 14 })
-    );
+fn refuses_the_first_wrong_piece(rt: HostRuntime) {
+    let rows = [
+        ("", Some(BadEdit::Shape { offset: 0 })),
+        (" \t ", Some(BadEdit::Shape { offset: 3 })),
+        ("rul E ::= a", Some(BadEdit::Shape { offset: 0 })),
+        ("rule", Some(BadEdit::Shape { offset: 4 })),
+        ("rule E", Some(BadEdit::Shape { offset: 6 })),
+        ("rule E = a", Some(BadEdit::Shape { offset: 7 })),
+        ("rule 1E ::=", Some(BadEdit::BadName { offset: 5 })),
+        ("rule E ::= a-b", Some(BadEdit::BadName { offset: 11 })),
+        ("rule E ::= ab\"", Some(BadEdit::BadName { offset: 11 })),
+        ("rule E ::= \"\"", Some(BadEdit::BadLiteral { offset: 11 })),
+        ("rule E ::= \"a", Some(BadEdit::BadLiteral { offset: 11 })),
+        (
+            "rule E ::= \"ab\"",
+            Some(BadEdit::BadLiteral { offset: 11 }),
+        ),
+        (
+            "rule E ::= \"\\q\"",
+            Some(BadEdit::BadLiteral { offset: 11 }),
+        ),
+        ("rule E ::= \"\\t\" \"\\\"\" \"\t\" \" \"", None),
+        ("rule E ::= \"a\"b", Some(BadEdit::Shape { offset: 14 })),
+    ];
+    for (line, expected) in rows {
+        assert_eq!(rt;
+            refusal(rt.alloc(), line.as_bytes()),
+            expected,
+            "in {line:?}"
+        );
+    }
 }
 
 #[test]
 fn keeps_the_limits(rt: HostRuntime) {
-    assert_eq!(rt;
-        refusal(rt.alloc(), b"rule E ::= a a a a a a a a a a a a a a a a "),
-        None
-    );
-    assert_eq!(rt;
-        refusal(rt.alloc(), b"rule E ::= a a a a a a a a a a a a a a a a a"),
-        Some(BadEdit::TooManySymbols { offset: 43 })
-    );
-    assert_eq!(rt;
-        refusal(rt.alloc(), b"rule E ::= a a a a a a a a a a a a a a a a \""),
-        Some(BadEdit::TooManySymbols { offset: 43 })
-    );
-    assert_eq!(rt;
-        refusal(
-            rt.alloc(),
-            b"\trule E ::= abcdefghijklmnopqrstuvwxyz_01234 abcdefghijklmnopqrstuvwxyz_01234 abcdefghijklmnopqrstuvwxyz_01234 abcdefghijklmnopqrstuvwxyz_01234 abcdefghijklmnopqrstuvwxyz_01234 abcdefghijklmnopqrstuvwxyz_01234 abcdefghijklmnopqrstuvwxyz_01234 abcdef "
+    let rows = [
+        ("rule abcdefghijklmnopqrstuvwxyz_01234 ::=", None),
+        (
+            "rule abcdefghijklmnopqrstuvwxyz_01234x ::=",
+            Some(BadEdit::BadName { offset: 5 }),
         ),
-        None
-    );
-    assert_eq!(rt;
-        refusal(
-            rt.alloc(),
-            b"rule E ::= abcdefghijklmnopqrstuvwxyz_01234 abcdefghijklmnopqrstuvwxyz_01234 abcdefghijklmnopqrstuvwxyz_01234 abcdefghijklmnopqrstuvwxyz_01234 abcdefghijklmnopqrstuvwxyz_01234 abcdefghijklmnopqrstuvwxyz_01234 abcdefghijklmnopqrstuvwxyz_01234 abcdefg"
+        ("rule E ::= a a a a a a a a a a a a a a a a ", None),
+        (
+            "rule E ::= a a a a a a a a a a a a a a a a a",
+            Some(BadEdit::TooManySymbols { offset: 43 }),
         ),
-        Some(BadEdit::TooLong { offset: 0 })
-    );
-    assert_eq!(rt;
-        refusal(
-            rt.alloc(),
-            b"rule E ::= abcdefghijklmnopqrstuvwxyz_01234 abcdefghijklmnopqrstuvwxyz_01234 abcdefghijklmnopqrstuvwxyz_01234 abcdefghijklmnopqrstuvwxyz_01234 abcdefghijklmnopqrstuvwxyz_01234 abcdefghijklmnopqrstuvwxyz_01234 abcdefghijklmnopqrstuvwxyz_01234 abcdefghijklmnopqrstuvwxyz_01234"
+        (
+            "rule E ::= a a a a a a a a a a a a a a a a \"",
+            Some(BadEdit::TooManySymbols { offset: 43 }),
         ),
-        Some(BadEdit::TooLong { offset: 0 })
-    );
+        (
+            "\trule E ::= abcdefghijklmnopqrstuvwxyz_01234 abcdefghijklmnopqrstuvwxyz_01234 abcdefghijklmnopqrstuvwxyz_01234 abcdefghijklmnopqrstuvwxyz_01234 abcdefghijklmnopqrstuvwxyz_01234 abcdefghijklmnopqrstuvwxyz_01234 abcdefghijklmnopqrstuvwxyz_01234 abcdef ",
+            None,
+        ),
+        (
+            "rule E ::= abcdefghijklmnopqrstuvwxyz_01234 abcdefghijklmnopqrstuvwxyz_01234 abcdefghijklmnopqrstuvwxyz_01234 abcdefghijklmnopqrstuvwxyz_01234 abcdefghijklmnopqrstuvwxyz_01234 abcdefghijklmnopqrstuvwxyz_01234 abcdefghijklmnopqrstuvwxyz_01234 abcdefg",
+            Some(BadEdit::TooLong { offset: 0 }),
+        ),
+        (
+            "rule E ::= abcdefghijklmnopqrstuvwxyz_01234 abcdefghijklmnopqrstuvwxyz_01234 abcdefghijklmnopqrstuvwxyz_01234 abcdefghijklmnopqrstuvwxyz_01234 abcdefghijklmnopqrstuvwxyz_01234 abcdefghijklmnopqrstuvwxyz_01234 abcdefghijklmnopqrstuvwxyz_01234 abcdefghijklmnopqrstuvwxyz_01234",
+            Some(BadEdit::TooLong { offset: 0 }),
+        ),
+    ];
+    for (line, expected) in rows {
+        assert_eq!(rt;
+            refusal(rt.alloc(), line.as_bytes()),
+            expected,
+            "in {line:?}"
+        );
+    }
 }

@@ -1,4 +1,4 @@
-use Rattle.std.proofs.Common.{◌≡◌, ◌≤◌, ℕ, ◌-◌, List, [], length, arith, length-append}
+use Rattle.std.proofs.Common.{◌≡◌, ℕ, ◌-◌, List, [], length, arith}
 use Rattle.std.specs.Option.{option_map}
 use Rattle.grammar_text.specs.declared.limits.TheConstants.{LITERAL_LIMIT}
 use Rattle.grammar_text.specs.Reading.{closed, literal_at}

@@ -1,5 +1,5 @@
 use Rattle.std.proofs.Common.{subst}
-use Rattle.grammar_text.specs.Reading.{Gives, edit_of}
+use Rattle.grammar_text.specs.Reading.{Gives}
 use Rattle.grammar_text.proofs.EditLaws.{is_found, edit_of_again}
 use Rattle.grammar_text.proofs.reading.read_edit.Goals as goal
 

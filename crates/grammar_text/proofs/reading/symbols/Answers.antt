@@ -1,8 +1,7 @@
-use Rattle.std.proofs.Common.{◌≡◌, ◌≤◌, ◌∙◌, true, false, length, sym, ap, arith}
+use Rattle.std.proofs.Common.{◌≡◌, true, false, arith}
 use Rattle.std.proofs.lemmas.Result.{err_from_is_err_and}
 use Rattle.grammar_text.specs.declared.limits.TheConstants.{SYMBOL_LIMIT}
 use Rattle.grammar_text.specs.Pieces.{is_empty}
-use Rattle.grammar_text.specs.Reading.{symbols_at}
 use Rattle.grammar_text.proofs.Gaps.{trimmed-trimmed}
 use Rattle.grammar_text.proofs.Rights.{symbols-begin, symbols-more, symbols-fail, symbols-full, symbols-done}
 use Rattle.grammar_text.proofs.reading.symbols.Goals as goal

@@ -1,4 +1,4 @@
-use Rattle.std.proofs.Common.{◌≡◌, ◌≤◌, ◌+◌, ◌-◌, length}
+use Rattle.std.proofs.Common.{◌≡◌, ◌≤◌, ◌-◌, length}
 use Rattle.grammar_text.specs.declared.limits.TheConstants.{SYMBOL_LIMIT}
 use Rattle.grammar_text.specs.Pieces.{trimmed}
 use Rattle.grammar_text.specs.Reading.{symbols_at}
