@@ -6,24 +6,28 @@ ghost use Rattle.grammar_text.specs.declared.bad_edit.BadEdit.TheVariants.{NoMem
 use std::alloc::{AllocError, AllocFailed};
 use thiserror::Error;
 
-/// Why a line is no edit: the first wrong piece from the left, by the offset of a byte in the line.
+/// Why a line is no edit: what is wrong with the leftmost piece that is wrong. An offset counts the bytes
+/// of the line before a place.
 #[derive(Clone, Copy, Debug, PartialEq, Eq, Error)]
 pub enum BadEdit {
-    /// A piece is missing, at the line's length; or another piece stands where a keyword, `::=` or
-    /// `=` must stand or after the end of the edit, at its first byte; or a byte that is no blank
-    /// follows a literal's closing quote, at that byte.
+    /// The line ends where a piece should come, and the offset is its length. Or a piece comes that is not
+    /// the word that should stand there, or that follows a whole edit, and the offset is where it begins.
+    /// Or a literal's second quote is not followed by a blank or the line's end, but by the byte at the
+    /// offset.
     #[error("the line has not the shape of an edit at byte {offset}")]
     Shape { offset: u32 },
-    /// A piece that must be a name is none, at its first byte.
+    /// What begins at the offset should be a name, and is none.
     #[error("no name at byte {offset}")]
     BadName { offset: u32 },
-    /// A literal is empty or too long, is not closed, or has an unknown escape, at its opening quote.
+    /// The quote at the offset begins no literal: it has no second quote, no bytes or too many between the
+    /// two, or a backslash before a byte that takes none.
     #[error("no literal at byte {offset}")]
     BadLiteral { offset: u32 },
-    /// A right side has one symbol more than it may have, at that symbol's first byte.
+    /// The right side has all the symbols that it may have, and something more begins at the offset.
     #[error("too many symbols at byte {offset}")]
     TooManySymbols { offset: u32 },
-    /// All else is right and the canonical text is too long, at 0.
+    /// Each piece is right, but the edit as it is written has more than [`EDIT_LIMIT`](crate::EDIT_LIMIT)
+    /// bytes. The offset is 0.
     #[error("the edit is too long")]
     TooLong { offset: u32 },
     /// Memory ran out.

@@ -8,7 +8,8 @@ use crate::limits::NAME_LIMIT;
 use std::alloc::{AllocError, Global};
 use std::marker::Model;
 
-/// A name: a letter, and then letters, digits and `_`, all ASCII, 1 to 32 bytes. It is seen as its bytes.
+/// The name of a nonterminal, a token or a skip: an ASCII letter, with up to 31 ASCII letters, digits and
+/// underscores behind it. A contract sees it as the list of its bytes.
 #[derive(Debug, Drop)]
 pub struct Name {
     bytes: Vec<u8>,

@@ -161,8 +161,9 @@ fn edit_of(alloc: Global, line: &[u8]) -> Result<Edit, BadEdit>
 
 /// Reads an edit from a line.
 ///
-/// Blanks, which are spaces and tabs, part the pieces of a line and may stand at both of its ends. The
-/// line is read from the left, and its first wrong piece decides which error comes.
+/// A line is `rule`, the left side, `::=` and the right side, with spaces or tabs between its pieces and, if
+/// you like, at its ends. A literal stands between quotes, and `\"`, `\\`, `\n` and `\t` in it for a quote,
+/// a backslash, a line's end and a tab. The error is that of the leftmost wrong piece.
 pub fn read_edit(alloc: Global, line: &[u8]) -> Result<Edit, BadEdit>
     requires short { length line.now ≤ LINE_LIMIT }
     requires one_line { IsLine line.now }

@@ -28,7 +28,7 @@ impl Symbol {
     }
 }
 
-/// Symbols in their order, seen as the list of them.
+/// Symbols in their order. A contract sees the list of them.
 #[derive(Debug, Drop)]
 pub struct Symbols {
     items: Vec<Symbol>,

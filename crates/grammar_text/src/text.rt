@@ -1,12 +1,10 @@
 //! Bytes of any kind: what a literal stands for, or the text of an expression.
 
 ghost use Rattle.std.specs.Prelude.{◌≡◌, ◌↔◌, IsTrue};
-ghost use Rattle.std.specs.Cmp.Lexicographic.{pointwise, lists_per};
-ghost use Rattle.std.specs.Prelude.{nat_eq};
 
 use std::marker::Model;
 
-/// Bytes of any kind, seen as the list of them.
+/// Bytes of any kind. A contract sees the list of them.
 #[derive(Debug, Drop)]
 pub struct Text {
     bytes: Vec<u8>,
