@@ -5,3 +5,5 @@ pub mod NameBytes
 pub mod Words
 pub mod SymbolLaws
 pub mod EditLaws
+pub mod EditReads
+pub mod Soundness

@@ -4,7 +4,7 @@ use Rattle.std.specs.List.{list_all}
 use Rattle.std.proofs.lemmas.Bool.{and_parts, and_from, or_cases, cases_Bool, eqb-true, leb-true, not_from_false}
 use Rattle.grammar_text.specs.declared.limits.TheConstants.{NAME_LIMIT}
 use Rattle.grammar_text.specs.Names.{is_letter, is_name_byte, begins_with_letter, IsName}
-use Rattle.grammar_text.specs.Pieces.{is_blank}
+use Rattle.grammar_text.specs.Pieces.{is_blank, IsLine}
 use Rattle.grammar_text.specs.Reading.{is_quoted}
 use Rattle.grammar_text.proofs.Gaps.{IsWord}
 
@@ -18,6 +18,23 @@ not-blank byte is =
       ]
       | inr plain ↦ plain
     ]
+
+-- a line's end is no byte of a name
+not-line-end : (byte : ℕ) → is_name_byte byte ≡ true → eqb byte 10 ≡ false
+not-line-end byte is =
+    elim (cases_Bool (eqb byte 10)) [
+      | inl end ↦ let at : is_name_byte 10 ≡ true = subst (λ (b : ℕ). is_name_byte b ≡ true) (eqb-true byte 10 end) is in absurd cc
+      | inr plain ↦ plain
+    ]
+
+line-go : (bytes : List ℕ) → list_all is_name_byte bytes ≡ true → IsLine bytes
+line-go [] is = refl
+line-go (byte ∷ bytes) is =
+    let both = and_parts (is_name_byte byte) (list_all is_name_byte bytes) is in
+    and_from (not (eqb byte 10)) (list_all (λ b. not (eqb b 10)) bytes) (not_from_false (eqb byte 10) (not-line-end byte both.0)) (line-go bytes both.1)
+
+pub name-line : (name : List ℕ) → IsName name → IsLine name
+name-line name is = line-go name (and_parts (leb (length name) NAME_LIMIT && begins_with_letter name) (list_all is_name_byte name) is).1
 
 -- a quote is no letter
 not-quote : (byte : ℕ) → is_letter byte ≡ true → eqb byte 34 ≡ false

@@ -2,7 +2,6 @@
 use Rattle.std.proofs.Common.{◌≡◌, ℕ, zero, suc, ◌+◌, ◌*◌, ◌<◌, ◌≤◌, Bool, true, false, cond, eqb, List, [], ◌∷◌, ◌++◌, length, drop, Option, Some, None, Ok, Err, refl, sym, ap, subst, ◌∙◌, append_assoc, length-append, arith}
 use Rattle.std.specs.List.{AllByRecursion, flat_map}
 use Rattle.std.proofs.lemmas.Bool.{eqb-true, and_parts, not-true}
-use Rattle.grammar_text.specs.declared.limits.TheConstants.{LITERAL_LIMIT}
 use Rattle.grammar_text.specs.declared.bad_edit.BadEdit.{BadEdit}
 use Rattle.grammar_text.specs.declared.bad_edit.BadEdit.TheVariants.{BadName}
 use Rattle.grammar_text.specs.declared.symbol.Symbol.{Symbol}
@@ -11,7 +10,7 @@ use Rattle.grammar_text.specs.Names.{is_name}
 use Rattle.grammar_text.specs.Pieces.{Place, offset_of, is_blank, trimmed, piece_of, behind_piece, blank_led, is_empty}
 use Rattle.grammar_text.specs.Spelling.{AreBlanks, SpellsSymbol, SpellsSymbols}
 use Rattle.grammar_text.specs.Canonical.{escaped, symbol_text, symbols_text}
-use Rattle.grammar_text.specs.Limits.{SymbolFits}
+use Rattle.grammar_text.specs.Limits.{Room, the_limits, SymbolFits}
 use Rattle.grammar_text.specs.Reading.{◌>>=◌, at, literal_at, literal_from, is_quoted, symbol_at, symbols_at}
 use Rattle.grammar_text.proofs.Gaps.{IsWord, gapped, blanks_from_empty, piece_splits, behind_led, trimmed-blanks, empty-blanks, led-blanks, led-gap, trimmed-word, piece-word, behind-word}
 use Rattle.grammar_text.proofs.Literals.{literal_at-takes, literal_at-len, literal_at-again}
@@ -19,17 +18,17 @@ use Rattle.grammar_text.proofs.NameBytes.{name_facts, not-quoted, not-empty}
 use Rattle.grammar_text.proofs.Words.{bind_ok, guard_ok, unless_ok, done, ok_is, not-empty-front}
 
 -- the text is a symbol and the rest, before which a piece may end
-pub record TakesSymbol (text : List ℕ) (symbol : Symbol) (rest : List ℕ) : Type 0 where
+pub record TakesSymbol (room : Room) (text : List ℕ) (symbol : Symbol) (rest : List ℕ) : Type 0 where
   pub piece : List ℕ
   pub spelled : SpellsSymbol piece symbol
-  pub fits : SymbolFits symbol
+  pub fits : SymbolFits room symbol
   pub parts : text ≡ piece ++ rest
   pub led : blank_led rest ≡ true
 
 abbrev read_symbol : Symbol → Place → Symbol × Place
 read_symbol symbol place = (symbol, place)
 
-some_bytes : (bytes : List ℕ) → is_empty bytes ≡ false → 0 < length bytes
+pub some_bytes : (bytes : List ℕ) → is_empty bytes ≡ false → 0 < length bytes
 some_bytes [] is = absurd cc
 some_bytes (byte ∷ bytes) is = omega arith
 
@@ -40,100 +39,100 @@ quote_first (first ∷ others) is = ap (λ (b : ℕ). b ∷ others) (eqb-true fi
 quoted_text : (inner rest : List ℕ) → 34 ∷ (inner ++ 34 ∷ rest) ≡ (34 ∷ inner ++ 34 ∷ []) ++ rest
 quoted_text inner rest = ap (λ (t : List ℕ). 34 ∷ t) (sym (append_assoc inner (34 ∷ []) rest))
 
-literal_takes : (place : Place) (symbol : Symbol) (behind : Place) (read : Option (List ℕ × List ℕ)) → is_quoted place.left ≡ true → literal_at LITERAL_LIMIT (drop 1 place.left) ≡ read
-    → literal_from place read ≡ Ok (symbol, behind) → TakesSymbol place.left symbol behind.left
-literal_takes place symbol behind None quoted is e = absurd cc
-literal_takes place symbol behind (Some found) quoted is e =
+literal_takes : (room : Room) (place : Place) (symbol : Symbol) (behind : Place) (read : Option (List ℕ × List ℕ)) → is_quoted place.left ≡ true → literal_at room.literal (drop 1 place.left) ≡ read
+    → literal_from place read ≡ Ok (symbol, behind) → TakesSymbol room place.left symbol behind.left
+literal_takes room place symbol behind None quoted is e = absurd cc
+literal_takes room place symbol behind (Some found) quoted is e =
     let more = unless_ok (is_empty found.0) _ _ (read_symbol symbol behind) e in
     let g = guard_ok (blank_led found.1) _ (read_symbol (Literal found.0) (at place found.1)) (read_symbol symbol behind) more.1 in
-    let took = literal_at-takes LITERAL_LIMIT (drop 1 place.left) found.0 found.1 is in
-    let whole : TakesSymbol place.left (Literal found.0) found.1 = record {
+    let took = literal_at-takes room.literal (drop 1 place.left) found.0 found.1 is in
+    let whole : TakesSymbol room place.left (Literal found.0) found.1 = record {
       piece = 34 ∷ took.inner ++ 34 ∷ [];
-      spelled = (took.inner, took.spelled, refl);
-      fits = (some_bytes found.0 more.0, literal_at-len LITERAL_LIMIT (drop 1 place.left) found.0 found.1 is);
+      spelled = (took.inner, took.spelled, refl, some_bytes found.0 more.0);
+      fits = literal_at-len room.literal (drop 1 place.left) found.0 found.1 is;
       parts = quote_first place.left quoted ∙ ap (λ (t : List ℕ). 34 ∷ t) took.parts ∙ quoted_text took.inner found.1;
       led = g.0;
     } in
-    subst (λ (x : Symbol × Place). TakesSymbol place.left x.0 x.1.left) g.1 whole
+    subst (λ (x : Symbol × Place). TakesSymbol room place.left x.0 x.1.left) g.1 whole
 
 abbrev bad_name : Place → BadEdit
 bad_name place = BadName (offset_of place)
 
-symbol_go : (place : Place) (symbol : Symbol) (behind : Place) (quoted : Bool) → is_quoted place.left ≡ quoted
-    → cond quoted (literal_from place (literal_at LITERAL_LIMIT (drop 1 place.left))) (cond (is_name (piece_of place.left)) (done (read_symbol (Named (piece_of place.left)) (at place (behind_piece place.left)))) (Err (bad_name place)))
-    ≡ Ok (symbol, behind) → TakesSymbol place.left symbol behind.left
-symbol_go place symbol behind true is e = literal_takes place symbol behind (literal_at LITERAL_LIMIT (drop 1 place.left)) is refl e
-symbol_go place symbol behind false is e =
+symbol_go : (room : Room) (place : Place) (symbol : Symbol) (behind : Place) (quoted : Bool) → is_quoted place.left ≡ quoted
+    → cond quoted (literal_from place (literal_at room.literal (drop 1 place.left))) (cond (is_name (piece_of place.left)) (done (read_symbol (Named (piece_of place.left)) (at place (behind_piece place.left)))) (Err (bad_name place)))
+    ≡ Ok (symbol, behind) → TakesSymbol room place.left symbol behind.left
+symbol_go room place symbol behind true is e = literal_takes room place symbol behind (literal_at room.literal (drop 1 place.left)) is refl e
+symbol_go room place symbol behind false is e =
     let g = guard_ok (is_name (piece_of place.left)) _ (read_symbol (Named (piece_of place.left)) (at place (behind_piece place.left))) (read_symbol symbol behind) e in
-    let whole : TakesSymbol place.left (Named (piece_of place.left)) (behind_piece place.left) = record {
+    let whole : TakesSymbol room place.left (Named (piece_of place.left)) (behind_piece place.left) = record {
       piece = piece_of place.left;
       spelled = (refl, g.0);
       fits = tt;
       parts = sym (piece_splits place.left);
       led = behind_led place.left;
     } in
-    subst (λ (x : Symbol × Place). TakesSymbol place.left x.0 x.1.left) g.1 whole
+    subst (λ (x : Symbol × Place). TakesSymbol room place.left x.0 x.1.left) g.1 whole
 
-pub symbol_takes : (place : Place) (symbol : Symbol) (behind : Place) → symbol_at place ≡ Ok (symbol, behind) → TakesSymbol place.left symbol behind.left
+pub symbol_takes : (room : Room) (place : Place) (symbol : Symbol) (behind : Place) → symbol_at room place ≡ Ok (symbol, behind) → TakesSymbol room place.left symbol behind.left
 unfolding symbol_at
-symbol_takes place symbol behind e = symbol_go place symbol behind (is_quoted place.left) refl e
+symbol_takes room place symbol behind e = symbol_go room place symbol behind (is_quoted place.left) refl e
 
 -- ---- all symbols of a right side
 
-pub record ReadsSymbols (room : ℕ) (text : List ℕ) (symbols : List Symbol) : Type 0 where
+pub record ReadsSymbols (room : Room) (count : ℕ) (text : List ℕ) (symbols : List Symbol) : Type 0 where
   pub spelled : SpellsSymbols text symbols
-  pub short : length symbols ≤ room
-  pub fits : AllByRecursion SymbolFits symbols
+  pub short : length symbols ≤ count
+  pub fits : AllByRecursion (SymbolFits room) symbols
 
-no_symbols : (room : ℕ) (text : List ℕ) (symbols : List Symbol) → is_empty (trimmed text) ≡ true → done [] ≡ done symbols → ReadsSymbols room text symbols
-no_symbols room text symbols none e =
-    let whole : ReadsSymbols room text [] = record { spelled = blanks_from_empty text none; short = omega arith; fits = tt } in
-    subst (λ (s : List Symbol). ReadsSymbols room text s) (ok_is [] symbols e) whole
+no_symbols : (room : Room) (count : ℕ) (text : List ℕ) (symbols : List Symbol) → is_empty (trimmed text) ≡ true → done [] ≡ done symbols → ReadsSymbols room count text symbols
+no_symbols room count text symbols none e =
+    let whole : ReadsSymbols room count text [] = record { spelled = blanks_from_empty text none; short = omega arith; fits = tt } in
+    subst (λ (s : List Symbol). ReadsSymbols room count text s) (ok_is [] symbols e) whole
 
-one_symbol : (room : ℕ) (text : List ℕ) (symbol : Symbol) (rest : List ℕ) (symbols : List Symbol) → blank_led text ≡ true → is_empty (trimmed text) ≡ false
-    → TakesSymbol (trimmed text) symbol rest → ReadsSymbols room rest symbols → ReadsSymbols (suc room) text (symbol ∷ symbols)
-one_symbol room text symbol rest symbols led more first others =
+one_symbol : (room : Room) (count : ℕ) (text : List ℕ) (symbol : Symbol) (rest : List ℕ) (symbols : List Symbol) → blank_led text ≡ true → is_empty (trimmed text) ≡ false
+    → TakesSymbol room (trimmed text) symbol rest → ReadsSymbols room count rest symbols → ReadsSymbols room (suc count) text (symbol ∷ symbols)
+one_symbol room count text symbol rest symbols led more first others =
     let before = gapped text led more in
     record {
       spelled = (before.gap, first.piece, rest, before.is_gap, first.spelled, others.spelled, before.parts ∙ ap (λ (t : List ℕ). before.gap ++ t) first.parts);
-      short = let short : length symbols ≤ room = others.short in omega arith;
+      short = let short : length symbols ≤ count = others.short in omega arith;
       fits = (first.fits, others.fits);
     }
 
-symbols_go : (room : ℕ) (place : Place) (symbols : List Symbol) (none : Bool) → is_empty (trimmed place.left) ≡ none → blank_led place.left ≡ true
-    → ((behind : Place) (others : List Symbol) → blank_led behind.left ≡ true → symbols_at room behind ≡ Ok others → ReadsSymbols room behind.left others)
-    → cond none (done []) (symbol_at (at place (trimmed place.left)) >>= λ first. symbols_at room first.1 >>= λ others. Ok (first.0 ∷ others)) ≡ Ok symbols → ReadsSymbols (suc room) place.left symbols
-symbols_go room place symbols true is led later e = no_symbols (suc room) place.left symbols is e
-symbols_go room place symbols false is led later e =
-    let a = bind_ok (symbol_at (at place (trimmed place.left))) (λ first. symbols_at room first.1 >>= λ others. Ok (first.0 ∷ others)) symbols e in
-    let b = bind_ok (symbols_at room a.0.1) (λ others. Ok (a.0.0 ∷ others)) symbols a.2 in
-    let first = symbol_takes (at place (trimmed place.left)) a.0.0 a.0.1 a.1 in
+symbols_go : (room : Room) (count : ℕ) (place : Place) (symbols : List Symbol) (none : Bool) → is_empty (trimmed place.left) ≡ none → blank_led place.left ≡ true
+    → ((behind : Place) (others : List Symbol) → blank_led behind.left ≡ true → symbols_at room count behind ≡ Ok others → ReadsSymbols room count behind.left others)
+    → cond none (done []) (symbol_at room (at place (trimmed place.left)) >>= λ first. symbols_at room count first.1 >>= λ others. Ok (first.0 ∷ others)) ≡ Ok symbols → ReadsSymbols room (suc count) place.left symbols
+symbols_go room count place symbols true is led later e = no_symbols room (suc count) place.left symbols is e
+symbols_go room count place symbols false is led later e =
+    let a = bind_ok (symbol_at room (at place (trimmed place.left))) (λ first. symbols_at room count first.1 >>= λ others. Ok (first.0 ∷ others)) symbols e in
+    let b = bind_ok (symbols_at room count a.0.1) (λ others. Ok (a.0.0 ∷ others)) symbols a.2 in
+    let first = symbol_takes room (at place (trimmed place.left)) a.0.0 a.0.1 a.1 in
     let others = later a.0.1 b.0 first.led b.1 in
-    subst (λ (s : List Symbol). ReadsSymbols (suc room) place.left s) (ok_is (a.0.0 ∷ b.0) symbols b.2) (one_symbol room place.left a.0.0 a.0.1.left b.0 led is first others)
+    subst (λ (s : List Symbol). ReadsSymbols room (suc count) place.left s) (ok_is (a.0.0 ∷ b.0) symbols b.2) (one_symbol room count place.left a.0.0 a.0.1.left b.0 led is first others)
 
-pub symbols_take : (room : ℕ) (place : Place) (symbols : List Symbol) → blank_led place.left ≡ true → symbols_at room place ≡ Ok symbols → ReadsSymbols room place.left symbols
+pub symbols_take : (room : Room) (count : ℕ) (place : Place) (symbols : List Symbol) → blank_led place.left ≡ true → symbols_at room count place ≡ Ok symbols → ReadsSymbols room count place.left symbols
 unfolding symbols_at
-symbols_take zero place symbols led e =
+symbols_take room zero place symbols led e =
     let g = guard_ok (is_empty (trimmed place.left)) _ [] symbols e in
-    no_symbols 0 place.left symbols g.0 (ap (λ (s : List Symbol). done s) g.1)
-symbols_take (suc room) place symbols led e =
-    symbols_go room place symbols (is_empty (trimmed place.left)) refl led (λ behind others l r. symbols_take room behind others l r) e
+    no_symbols room 0 place.left symbols g.0 (ap (λ (s : List Symbol). done s) g.1)
+symbols_take room (suc count) place symbols led e =
+    symbols_go room count place symbols (is_empty (trimmed place.left)) refl led (λ behind others l r. symbols_take room count behind others l r) e
 
 -- ---- what is spelled so is read
 
-not_empty : (bytes : List ℕ) → 0 < length bytes → is_empty bytes ≡ false
+pub not_empty : (bytes : List ℕ) → 0 < length bytes → is_empty bytes ≡ false
 not_empty [] some = absurd (omega (arith, some))
 not_empty (byte ∷ bytes) some = refl
 
-pub symbol_again : (len : ℕ) (piece : List ℕ) (symbol : Symbol) (rest : List ℕ) → SpellsSymbol piece symbol → SymbolFits symbol → blank_led rest ≡ true
-    → symbol_at (record { len = len; left = piece ++ rest }) ≡ Ok (symbol, record { len = len; left = rest })
+pub symbol_again : (room : Room) (len : ℕ) (piece : List ℕ) (symbol : Symbol) (rest : List ℕ) → SpellsSymbol piece symbol → SymbolFits room symbol → blank_led rest ≡ true
+    → symbol_at room (record { len = len; left = piece ++ rest }) ≡ Ok (symbol, record { len = len; left = rest })
 unfolding symbol_at
-symbol_again len piece (Named name) rest spelled fits led =
+symbol_again room len piece (Named name) rest spelled fits led =
     let plain = (name_facts name spelled.1).word in
     rw (spelled.0, not-quoted name rest spelled.1, piece-word name rest plain led, behind-word name rest plain led, spelled.1) refl
-symbol_again len piece (Literal bytes) rest spelled fits led =
+symbol_again room len piece (Literal bytes) rest spelled fits led =
     let regrouped : (spelled.0 ++ 34 ∷ []) ++ rest ≡ spelled.0 ++ 34 ∷ rest = append_assoc spelled.0 (34 ∷ []) rest in
-    rw (spelled.2, regrouped, literal_at-again LITERAL_LIMIT spelled.0 bytes rest spelled.1 fits.1, not_empty bytes fits.0, led) refl
+    rw (spelled.2, regrouped, literal_at-again room.literal spelled.0 bytes rest spelled.1 fits, not_empty bytes spelled.3, led) refl
 
 trimmed-name : (word rest : List ℕ) → 0 < length word → IsWord word → trimmed (word ++ rest) ≡ word ++ rest
 trimmed-name [] rest some plain = absurd (omega (arith, some))
@@ -154,21 +153,21 @@ pub symbols_led : (text : List ℕ) (symbols : List Symbol) → SpellsSymbols te
 symbols_led text [] spelled = led-blanks text spelled
 symbols_led text (symbol ∷ symbols) spelled = rw spelled.6 (led-gap spelled.0 (spelled.1 ++ spelled.2) spelled.3)
 
-none_again : (room len : ℕ) (text : List ℕ) → AreBlanks text → symbols_at room (record { len = len; left = text }) ≡ Ok []
+none_again : (room : Room) (count len : ℕ) (text : List ℕ) → AreBlanks text → symbols_at room count (record { len = len; left = text }) ≡ Ok []
 unfolding symbols_at
-none_again zero len text blank = rw (empty-blanks text blank) refl
-none_again (suc room) len text blank = rw (empty-blanks text blank) refl
+none_again room zero len text blank = rw (empty-blanks text blank) refl
+none_again room (suc count) len text blank = rw (empty-blanks text blank) refl
 
-pub symbols_again : (room len : ℕ) (text : List ℕ) (symbols : List Symbol) → SpellsSymbols text symbols → length symbols ≤ room → AllByRecursion SymbolFits symbols
-    → symbols_at room (record { len = len; left = text }) ≡ Ok symbols
+pub symbols_again : (room : Room) (count len : ℕ) (text : List ℕ) (symbols : List Symbol) → SpellsSymbols text symbols → length symbols ≤ count → AllByRecursion (SymbolFits room) symbols
+    → symbols_at room count (record { len = len; left = text }) ≡ Ok symbols
 unfolding symbols_at
-symbols_again room len text [] spelled short fits = none_again room len text spelled
-symbols_again zero len text (symbol ∷ symbols) spelled short fits = absurd (omega (arith, short))
-symbols_again (suc room) len text (symbol ∷ symbols) spelled short fits =
+symbols_again room count len text [] spelled short fits = none_again room count len text spelled
+symbols_again room zero len text (symbol ∷ symbols) spelled short fits = absurd (omega (arith, short))
+symbols_again room (suc count) len text (symbol ∷ symbols) spelled short fits =
     let front : trimmed text ≡ spelled.1 ++ spelled.2 = ap trimmed spelled.6 ∙ symbol_front spelled.1 symbol spelled.0 spelled.2 spelled.4 spelled.3.0 in
     let some : is_empty (spelled.1 ++ spelled.2) ≡ false = not-empty-front spelled.1 spelled.2 (symbol_some spelled.1 symbol spelled.4) in
-    let first = symbol_again len spelled.1 symbol spelled.2 spelled.4 fits.0 (symbols_led spelled.2 symbols spelled.5) in
-    let others = symbols_again room len spelled.2 symbols spelled.5 (omega (arith, short)) fits.1 in
+    let first = symbol_again room len spelled.1 symbol spelled.2 spelled.4 fits.0 (symbols_led spelled.2 symbols spelled.5) in
+    let others = symbols_again room count len spelled.2 symbols spelled.5 (omega (arith, short)) fits.1 in
     rw (front, some, first, others) refl
 
 -- ---- how long they are written
@@ -188,15 +187,15 @@ escaped_len (byte ∷ bytes) =
     let short : length (escaped byte) ≤ 2 = one_escaped (eqb byte 34) (eqb byte 92) (eqb byte 10) (eqb byte 9) byte in
     omega arith
 
-symbol_len : (piece : List ℕ) (symbol : Symbol) → SpellsSymbol piece symbol → SymbolFits symbol → length (symbol_text symbol) ≤ 66
+symbol_len : (piece : List ℕ) (symbol : Symbol) → SpellsSymbol piece symbol → SymbolFits the_limits symbol → length (symbol_text symbol) ≤ 66
 symbol_len piece (Named name) spelled fits = let short : length name ≤ 32 = (name_facts name spelled.1).short in omega arith
 symbol_len piece (Literal bytes) spelled fits =
-    let short : length bytes ≤ LITERAL_LIMIT = fits.1 in
+    let short : length bytes ≤ 32 = fits in
     let inside : length (flat_map escaped bytes) ≤ 2 * length bytes = escaped_len bytes in
     let joined : length (flat_map escaped bytes ++ 34 ∷ []) ≡ length (flat_map escaped bytes) + 1 = length-append (flat_map escaped bytes) (34 ∷ []) in
     omega arith
 
-pub symbols_len : (text : List ℕ) (symbols : List Symbol) → SpellsSymbols text symbols → AllByRecursion SymbolFits symbols → length (symbols_text symbols) ≤ 67 * length symbols
+pub symbols_len : (text : List ℕ) (symbols : List Symbol) → SpellsSymbols text symbols → AllByRecursion (SymbolFits the_limits) symbols → length (symbols_text symbols) ≤ 67 * length symbols
 symbols_len text [] spelled fits = omega arith
 symbols_len text (symbol ∷ symbols) spelled fits =
     let first : length (symbol_text symbol) ≤ 66 = symbol_len spelled.1 symbol spelled.4 fits.0 in

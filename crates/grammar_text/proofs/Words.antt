@@ -49,14 +49,18 @@ takes_piece text led more =
     let before = gapped text led more in
     record { gap = before.gap; is_gap = before.is_gap; parts = before.parts ∙ ap (λ (t : List ℕ). before.gap ++ t) (sym (piece_splits (trimmed text))); led = behind_led (trimmed text) }
 
+pub takes_word : (text word : List ℕ) → 0 < length word → blank_led text ≡ true → bytes_eq (piece_of (trimmed text)) word ≡ true → Takes text word (behind_piece (trimmed text))
+takes_word text word some led same =
+    let next = trimmed text in
+    let is : piece_of next ≡ word = (bytes_eq-Decides (piece_of next) word).0 same in
+    subst (λ (w : List ℕ). Takes text w (behind_piece next)) is (takes_piece text led (more-since next word is some))
+
 pub word_takes : (word : List ℕ) (place behind : Place) → 0 < length word → blank_led place.left ≡ true → word_at word place ≡ Ok behind → Takes place.left word behind.left
 unfolding word_at
 word_takes word place behind some led e =
     let next = trimmed place.left in
     let g = guard_ok (bytes_eq (piece_of next) word) _ (at place (behind_piece next)) behind e in
-    let is : piece_of next ≡ word = (bytes_eq-Decides (piece_of next) word).0 g.0 in
-    let took : Takes place.left (piece_of next) (behind_piece next) = takes_piece place.left led (more-since next word is some) in
-    subst (λ (p : Place). Takes place.left word p.left) g.1 (subst (λ (w : List ℕ). Takes place.left w (behind_piece next)) is took)
+    subst (λ (p : Place). Takes place.left word p.left) g.1 (takes_word place.left word some led g.0)
 
 abbrev named : List ℕ → Place → List ℕ × Place
 named name place = (name, place)

@@ -2,18 +2,20 @@
 use Rattle.std.specs.Prelude.{◌≡◌, ℕ, zero, suc, Bool, false, ◌==◌, nat_lt, List, [], ◌∷◌, length, drop, Option, Some, None, Result, Ok, Err, if◌then◌else◌, codes}
 use Rattle.std.specs.Option.{option_map, option_map_or}
 use Rattle.std.specs.Str.{bytes_eq}
-use Rattle.grammar_text.specs.declared.limits.TheConstants.{LITERAL_LIMIT, SYMBOL_LIMIT, EDIT_LIMIT}
+use Rattle.grammar_text.specs.declared.limits.TheConstants.{EDIT_LIMIT}
 use Rattle.grammar_text.specs.declared.bad_edit.BadEdit.{BadEdit}
 use Rattle.grammar_text.specs.declared.bad_edit.BadEdit.TheVariants.{Shape, BadName, BadLiteral, TooManySymbols, TooLong, NoMemory}
 use Rattle.grammar_text.specs.declared.symbol.Symbol.{Symbol}
 use Rattle.grammar_text.specs.declared.symbol.Symbol.TheVariants.{Named, Literal}
 use Rattle.grammar_text.specs.declared.edit.RuleText.{RuleText}
+use Rattle.grammar_text.specs.declared.edit.DefText.{DefText}
 use Rattle.grammar_text.specs.declared.edit.Edit.{Edit}
-use Rattle.grammar_text.specs.declared.edit.Edit.TheVariants.{AddRule}
+use Rattle.grammar_text.specs.declared.edit.Edit.TheVariants.{AddRule, DropRule, AddToken, DropToken, AddSkip, DropSkip}
 use Rattle.grammar_text.specs.Names.{is_name}
 use Rattle.grammar_text.specs.Pieces.{Place, start_of, offset_of, trimmed, piece_of, behind_piece, blank_led, is_empty}
 use Rattle.grammar_text.specs.Spelling.{unescaped}
 use Rattle.grammar_text.specs.Canonical.{canonical}
+use Rattle.grammar_text.specs.Limits.{Room, the_limits}
 
 infixl 10 ◌>>=◌
 abbrev pub ◌>>=◌ : {A B : Type 0} → Result A BadEdit → (A → Result B BadEdit) → Result B BadEdit
@@ -96,39 +98,72 @@ is_quoted [] = false
 is_quoted (first ∷ others) = first == 34
 
 -- the symbol that begins at this place, and the place behind it
-unfoldable pub symbol_at : Place → Result (Symbol × Place) BadEdit
-symbol_at place =
-    if is_quoted place.left then literal_from place (literal_at LITERAL_LIMIT (drop 1 place.left)) else
+unfoldable pub symbol_at : Room → Place → Result (Symbol × Place) BadEdit
+symbol_at room place =
+    if is_quoted place.left then literal_from place (literal_at room.literal (drop 1 place.left)) else
     if is_name (piece_of place.left) then Ok (Named (piece_of place.left), piece_end place) else Err (BadName (offset_of place))
 
--- the symbols up to the line's end, as many as there is room for
-unfoldable pub symbols_at : ℕ → Place → Result (List Symbol) BadEdit
-symbols_at zero place =
+-- the symbols up to the line's end, not more than this many
+unfoldable pub symbols_at : Room → ℕ → Place → Result (List Symbol) BadEdit
+symbols_at room zero place =
     let next = piece_at place in
     if is_empty next.left then Ok [] else Err (TooManySymbols (offset_of next))
-symbols_at (suc room) place =
+symbols_at room (suc count) place =
     let next = piece_at place in
     if is_empty next.left then Ok [] else
-    (symbol_at next >>= λ first. symbols_at room first.1 >>= λ others. Ok (first.0 ∷ others))
+    (symbol_at room next >>= λ first. symbols_at room count first.1 >>= λ others. Ok (first.0 ∷ others))
 
-unfoldable pub rule_at : Place → Result RuleText BadEdit
-rule_at place = do
+-- ---- what stands behind the keyword
+
+unfoldable pub rule_at : Room → Place → Result RuleText BadEdit
+rule_at room place = do
   left ← name_at place
   behind ← word_at (codes "::=") left.1
-  right ← symbols_at SYMBOL_LIMIT behind
+  right ← symbols_at room room.right behind
   Ok (record { left = left.0; right = right })
+
+-- all that is left of the line, from the first byte that is no blank
+unfoldable pub expression_at : Place → Result (List ℕ) BadEdit
+expression_at place =
+    let next = piece_at place in
+    if is_empty next.left then Err (Shape (offset_of next)) else Ok next.left
+
+unfoldable pub definition_at : Place → Result DefText BadEdit
+definition_at place = do
+  name ← name_at place
+  behind ← word_at (codes "=") name.1
+  expression ← expression_at behind
+  Ok (record { name = name.0; expression = expression })
+
+-- a name, and nothing else
+unfoldable pub last_name_at : Place → Result (List ℕ) BadEdit
+last_name_at place = do
+  name ← name_at place
+  if is_empty (piece_at name.1).left then Ok name.0 else Err (Shape (offset_of (piece_at name.1)))
 
 -- ---- the line
 
--- an edit, by its first piece
-unfoldable pub edit_at : Place → Result Edit BadEdit
-edit_at place =
+-- an edit that drops something, behind its first piece
+unfoldable pub dropped_at : Room → Place → Result Edit BadEdit
+dropped_at room place =
     let next = piece_at place in
-    if is_empty next.left then Err (Shape (offset_of next)) else
-    if bytes_eq (piece_of next.left) (codes "rule") then (rule_at (piece_end next) >>= λ rule. Ok (AddRule rule)) else Err (Shape 0)
+    if bytes_eq (piece_of next.left) (codes "rule") then (rule_at room (piece_end next) >>= λ rule. Ok (DropRule rule)) else
+    if bytes_eq (piece_of next.left) (codes "token") then (last_name_at (piece_end next) >>= λ name. Ok (DropToken name)) else
+    if bytes_eq (piece_of next.left) (codes "skip") then (last_name_at (piece_end next) >>= λ name. Ok (DropSkip name)) else
+    Err (Shape (offset_of next))
+
+-- an edit, by its first piece
+unfoldable pub edit_at : Room → Place → Result Edit BadEdit
+edit_at room place =
+    let next = piece_at place in
+    if bytes_eq (piece_of next.left) (codes "rule") then (rule_at room (piece_end next) >>= λ rule. Ok (AddRule rule)) else
+    if bytes_eq (piece_of next.left) (codes "token") then (definition_at (piece_end next) >>= λ definition. Ok (AddToken definition)) else
+    if bytes_eq (piece_of next.left) (codes "skip") then (definition_at (piece_end next) >>= λ definition. Ok (AddSkip definition)) else
+    if bytes_eq (piece_of next.left) (codes "drop") then dropped_at room (piece_end next) else
+    Err (Shape (offset_of next))
 
 -- the edit that the line is, or its first wrong piece
 unfoldable pub edit_of : List ℕ → Result Edit BadEdit
 edit_of line = do
-  edit ← edit_at (start_of line)
+  edit ← edit_at the_limits (start_of line)
   if nat_lt EDIT_LIMIT (length (canonical edit)) then Err (TooLong 0) else Ok edit

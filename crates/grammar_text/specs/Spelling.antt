@@ -42,10 +42,10 @@ abbrev pub SpellsBytes : List ℕ → List ℕ → Type 0
 SpellsBytes text [] = text ≡ []
 SpellsBytes text (byte ∷ bytes) = (front rest : List ℕ) × SpellsByte front byte × SpellsBytes rest bytes × (text ≡ front ++ rest)
 
--- the piece is this symbol: a name as it is, or a literal between quotes
+-- the piece is this symbol: a name as it is, or the bytes of a literal, one at least, between quotes
 abbrev pub SpellsSymbol : List ℕ → Symbol → Type 0
 SpellsSymbol piece (Named name) = (piece ≡ name) × IsName name
-SpellsSymbol piece (Literal bytes) = (inner : List ℕ) × SpellsBytes inner bytes × (piece ≡ 34 ∷ inner ++ 34 ∷ [])
+SpellsSymbol piece (Literal bytes) = (inner : List ℕ) × SpellsBytes inner bytes × (piece ≡ 34 ∷ inner ++ 34 ∷ []) × (0 < length bytes)
 
 -- the text is these symbols, blanks before each of them and maybe at the end
 abbrev pub SpellsSymbols : List ℕ → List Symbol → Type 0

@@ -4,7 +4,7 @@
 pub const NAME_LIMIT: usize = 32;
 
 /// The most bytes of a literal.
-pub const LITERAL_LIMIT: usize = 1;
+pub const LITERAL_LIMIT: usize = 32;
 
 /// The most symbols of a right side.
 pub const SYMBOL_LIMIT: usize = 16;

@@ -5,17 +5,18 @@ ghost use Rattle.grammar_text.specs.declared.limits.TheConstants.{LINE_LIMIT, SY
 ghost use Rattle.grammar_text.specs.declared.edit.Edit.{Edit as AnEdit};
 ghost use Rattle.grammar_text.specs.Pieces.{IsLine};
 ghost use Rattle.grammar_text.specs.Spelling.{Spells};
-ghost use Rattle.grammar_text.specs.Limits.{IsWithinLimits};
-ghost use Rattle.grammar_text.specs.Reading.{Gives, word_at, name_at, literal_from, literal_at, symbol_at, symbols_at, rule_at, edit_at, edit_of};
+ghost use Rattle.grammar_text.specs.Limits.{IsWithinLimits, IsSound, the_limits};
+ghost use Rattle.grammar_text.specs.Reading.{Gives, word_at, name_at, literal_from, literal_at, symbol_at, symbols_at, rule_at, expression_at, definition_at, last_name_at, dropped_at, edit_at, edit_of};
 
 use crate::bad_edit::BadEdit;
 use crate::canonical::written_len;
 use crate::cursor::{Cursor, is_blank_led};
-use crate::edit::{Edit, RuleText};
+use crate::edit::{DefText, Edit, RuleText};
 use crate::limits::{EDIT_LIMIT, SYMBOL_LIMIT};
 use crate::literal::literal_of;
 use crate::name::{Name, is_name};
 use crate::symbol::{Symbol, Symbols};
+use crate::text::Text;
 use std::alloc::Global;
 
 /// The place behind a word that must come next.
@@ -84,7 +85,7 @@ fn literal<'a>(
 /// The symbol that begins at this place, and the place behind it.
 #[tactic(auto, unfolding(crate::specs::Reading::symbol_at))]
 fn symbol<'a>(alloc: Global, place: &Cursor<'a>) -> Result<(Symbol, Cursor<'a>), BadEdit>
-    ensures { Gives result (symbol_at place.now) }
+    ensures { Gives result (symbol_at the_limits place.now) }
 {
     if let [b'"', text @ ..] = place.left() {
         return literal(alloc, place, text);
@@ -100,7 +101,7 @@ fn symbol<'a>(alloc: Global, place: &Cursor<'a>) -> Result<(Symbol, Cursor<'a>),
 
 /// The symbols up to the line's end.
 fn symbols(alloc: Global, place: &Cursor<'_>) -> Result<Symbols, BadEdit>
-    ensures { Gives result (symbols_at SYMBOL_LIMIT place.now) }
+    ensures { Gives result (symbols_at the_limits SYMBOL_LIMIT place.now) }
 {
     let mut symbols = Vec::new(alloc);
     let mut next = place.trimmed();
@@ -120,7 +121,7 @@ fn symbols(alloc: Global, place: &Cursor<'_>) -> Result<Symbols, BadEdit>
 /// A name, `::=` and the symbols up to the line's end.
 #[tactic(auto, unfolding(crate::specs::Reading::rule_at))]
 fn rule(alloc: Global, place: &Cursor<'_>) -> Result<RuleText, BadEdit>
-    ensures { Gives result (rule_at place.now) }
+    ensures { Gives result (rule_at the_limits place.now) }
 {
     let (left, behind) = name(alloc, place)?;
     let behind = word(&behind, b"::=")?;
@@ -128,10 +129,10 @@ fn rule(alloc: Global, place: &Cursor<'_>) -> Result<RuleText, BadEdit>
     Ok(RuleText { left, right })
 }
 
-/// An edit of any length, by its first piece.
-#[tactic(auto, unfolding(crate::specs::Reading::edit_at))]
-fn edit(alloc: Global, place: &Cursor<'_>) -> Result<Edit, BadEdit>
-    ensures { Gives result (edit_at place.now) }
+/// The rest of the line from its first byte that is no blank.
+#[tactic(auto, unfolding(crate::specs::Reading::expression_at))]
+fn expression(alloc: Global, place: &Cursor<'_>) -> Result<Text, BadEdit>
+    ensures { Gives result (expression_at place.now) }
 {
     let next = place.trimmed();
     if next.is_at_end() {
@@ -139,11 +140,75 @@ fn edit(alloc: Global, place: &Cursor<'_>) -> Result<Edit, BadEdit>
             offset: next.offset(),
         });
     }
-    let (keyword, behind) = next.split_piece();
-    if keyword != b"rule".as_slice() {
-        return Err(BadEdit::Shape { offset: 0 });
+    Ok(Text::from_vec(Vec::from_slice(alloc, next.left())?))
+}
+
+/// A name, `=` and an expression.
+#[tactic(auto, unfolding(crate::specs::Reading::definition_at))]
+fn definition(alloc: Global, place: &Cursor<'_>) -> Result<DefText, BadEdit>
+    ensures { Gives result (definition_at place.now) }
+{
+    let (name, behind) = name(alloc, place)?;
+    let behind = word(&behind, b"=")?;
+    let expression = expression(alloc, &behind)?;
+    Ok(DefText { name, expression })
+}
+
+/// A name, and nothing else.
+#[tactic(auto, unfolding(crate::specs::Reading::last_name_at))]
+fn last_name(alloc: Global, place: &Cursor<'_>) -> Result<Name, BadEdit>
+    ensures { Gives result (last_name_at place.now) }
+{
+    let (name, behind) = name(alloc, place)?;
+    let next = behind.trimmed();
+    if !next.is_at_end() {
+        return Err(BadEdit::Shape {
+            offset: next.offset(),
+        });
     }
-    Ok(Edit::AddRule(rule(alloc, &behind)?))
+    Ok(name)
+}
+
+/// An edit that drops something, behind its first piece.
+#[tactic(auto, unfolding(crate::specs::Reading::dropped_at))]
+fn dropped(alloc: Global, place: &Cursor<'_>) -> Result<Edit, BadEdit>
+    ensures { Gives result (dropped_at the_limits place.now) }
+{
+    let next = place.trimmed();
+    let (word, behind) = next.split_piece();
+    if word == b"rule".as_slice() {
+        Ok(Edit::DropRule(rule(alloc, &behind)?))
+    } else if word == b"token".as_slice() {
+        Ok(Edit::DropToken(last_name(alloc, &behind)?))
+    } else if word == b"skip".as_slice() {
+        Ok(Edit::DropSkip(last_name(alloc, &behind)?))
+    } else {
+        Err(BadEdit::Shape {
+            offset: next.offset(),
+        })
+    }
+}
+
+/// An edit of any length, by its first piece.
+#[tactic(auto, unfolding(crate::specs::Reading::edit_at))]
+fn edit(alloc: Global, place: &Cursor<'_>) -> Result<Edit, BadEdit>
+    ensures { Gives result (edit_at the_limits place.now) }
+{
+    let next = place.trimmed();
+    let (word, behind) = next.split_piece();
+    if word == b"rule".as_slice() {
+        Ok(Edit::AddRule(rule(alloc, &behind)?))
+    } else if word == b"token".as_slice() {
+        Ok(Edit::AddToken(definition(alloc, &behind)?))
+    } else if word == b"skip".as_slice() {
+        Ok(Edit::AddSkip(definition(alloc, &behind)?))
+    } else if word == b"drop".as_slice() {
+        dropped(alloc, &behind)
+    } else {
+        Err(BadEdit::Shape {
+            offset: next.offset(),
+        })
+    }
 }
 
 /// The edit that the line is, or its first wrong piece from the left.
@@ -170,6 +235,7 @@ pub fn read_edit(alloc: Global, line: &[u8]) -> Result<Edit, BadEdit>
 
     // What is read is spelled so, within the limits.
     ensures found { IfOk result (λ edit. Spells line.now edit × IsWithinLimits edit) }
+    ensures sound { IfOk result IsSound }
     // What is spelled so within the limits is read, unless memory runs out.
     ensures only { (edit : AnEdit) → Spells line.now edit → IsWithinLimits edit → Gives result (Ok edit) }
     // Which error it is.
