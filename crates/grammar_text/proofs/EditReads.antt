@@ -1,5 +1,5 @@
 -- Reading an edit: what is spelled so is read, and a line spells one edit.
-use Rattle.std.proofs.Common.{◌≡◌, ℕ, ◌+◌, ◌<◌, ◌≤◌, true, false, List, [], ◌∷◌, ◌++◌, length, Result, Ok, Err, refl, sym, ap, subst, ◌∙◌, arith}
+use Rattle.std.proofs.Common.{◌≡◌, ℕ, ◌+◌, ◌≤◌, true, List, [], ◌∷◌, ◌++◌, length, Result, Ok, Err, refl, sym, ap, ◌∙◌, arith}
 use Rattle.std.specs.Prelude.{IfOk, codes}
 use Rattle.std.specs.List.{AllByRecursion}
 use Rattle.std.proofs.lemmas.Bool.{le-ltb}
@@ -12,15 +12,15 @@ use Rattle.grammar_text.specs.declared.edit.DefText.{DefText}
 use Rattle.grammar_text.specs.declared.edit.Edit.{Edit}
 use Rattle.grammar_text.specs.declared.edit.Edit.TheVariants.{AddRule, DropRule, AddToken, DropToken, AddSkip, DropSkip}
 use Rattle.grammar_text.specs.Names.{IsName}
-use Rattle.grammar_text.specs.Pieces.{IsLine, Place, trimmed, piece_of, behind_piece, blank_led, is_empty}
-use Rattle.grammar_text.specs.Spelling.{AreBlanks, IsGap, keyword_of, SpellsSymbols, SpellsExpression, BeginsWith, Spells}
+use Rattle.grammar_text.specs.Pieces.{IsLine, Place, trimmed, piece_of, behind_piece, blank_led}
+use Rattle.grammar_text.specs.Spelling.{AreBlanks, keyword_of, SpellsSymbols, SpellsExpression, BeginsWith, Spells}
 use Rattle.grammar_text.specs.Canonical.{canonical}
 use Rattle.grammar_text.specs.Limits.{Room, the_limits, SymbolFits, RightFits, PartsFit, IsWithinLimits, IsSound}
-use Rattle.grammar_text.specs.Reading.{◌>>=◌, Gives, word_at, name_at, rule_at, expression_at, definition_at, last_name_at, dropped_at, edit_at, edit_of}
-use Rattle.grammar_text.proofs.Gaps.{IsWord, led-gap, led-blanks, empty-blanks, trimmed-blanks, piece-word, behind-word}
+use Rattle.grammar_text.specs.Reading.{Gives, word_at, name_at, rule_at, expression_at, definition_at, last_name_at, dropped_at, edit_at, edit_of}
+use Rattle.grammar_text.proofs.Gaps.{led-gap, led-blanks, empty-blanks, trimmed-blanks, piece-word, behind-word}
 use Rattle.grammar_text.proofs.EditLaws.{edit_of_takes}
 use Rattle.grammar_text.proofs.Soundness.{is_sound}
-use Rattle.grammar_text.proofs.Words.{done, ok_is, word_again, name_again}
+use Rattle.grammar_text.proofs.Words.{ok_is, word_again, name_again}
 use Rattle.grammar_text.proofs.SymbolLaws.{not_empty, symbols_again, symbols_led}
 
 -- ---- what stands behind the keyword

@@ -1,8 +1,8 @@
 -- The canonical text of an edit that a line spells is a line that spells it.
-use Rattle.std.proofs.Common.{◌≡◌, ℕ, suc, ◌+◌, ◌*◌, ◌<◌, ◌≤◌, ◌^◌, Bool, true, false, cond, eqb, not, List, [], ◌∷◌, ◌++◌, length, Result, Ok, Err, refl, sym, ap, subst, ◌∙◌, append_assoc, length-append, arith}
-use Rattle.std.specs.Prelude.{IfOk, codes, Some}
-use Rattle.std.specs.List.{flat_map, list_all, AllByRecursion}
-use Rattle.std.proofs.lemmas.Bool.{and_parts, and_from, eqb-true, not_from_false}
+use Rattle.std.proofs.Common.{◌≡◌, ℕ, suc, ◌+◌, ◌*◌, ◌<◌, ◌≤◌, ◌^◌, Bool, true, false, cond, eqb, not, List, [], ◌∷◌, ◌++◌, length, refl, sym, ap, subst, ◌∙◌, append_assoc, length-append, arith}
+use Rattle.std.specs.Prelude.{codes, Some}
+use Rattle.std.specs.List.{flat_map, list_all}
+use Rattle.std.proofs.lemmas.Bool.{and_parts, and_from, eqb-true}
 use Rattle.std.proofs.lemmas.List.{append-nil}
 use Rattle.std.proofs.lemmas.List.Folds.{list_all-append}
 use Rattle.grammar_text.specs.declared.symbol.Symbol.{Symbol}
@@ -14,7 +14,7 @@ use Rattle.grammar_text.specs.declared.edit.Edit.TheVariants.{AddRule, DropRule,
 use Rattle.grammar_text.specs.declared.limits.TheConstants.{LINE_LIMIT}
 use Rattle.grammar_text.specs.Names.{IsName}
 use Rattle.grammar_text.specs.Pieces.{IsLine}
-use Rattle.grammar_text.specs.Spelling.{keyword_of, words_of, unescaped, is_plain, SpellsByte, SpellsBytes, SpellsSymbol, SpellsSymbols, SpellsExpression, BeginsWith, Spells}
+use Rattle.grammar_text.specs.Spelling.{keyword_of, words_of, SpellsByte, SpellsBytes, SpellsSymbol, SpellsSymbols, SpellsExpression, BeginsWith, Spells}
 use Rattle.grammar_text.specs.Canonical.{escaped, symbol_text, spaced, symbols_text, rule_text, definition_text, canonical}
 use Rattle.grammar_text.specs.Limits.{the_limits, RightFits, PartsFit, IsWithinLimits, IsSound}
 use Rattle.grammar_text.proofs.NameBytes.{name_facts, name-line}

@@ -11,102 +11,164 @@ fn is_line(bytes: &[u8]) -> bool
     bytes.iter().all(|byte| *byte != b'\n')
 }
 
-/// Why the line is no edit.
-fn refusal(alloc: Global, line: &[u8]) -> Option<BadEdit> {
-    if line.len() > LINE_LIMIT || !is_line(line) {
-        return None;
+fn read(alloc: Global, line: &str) -> Result<Edit, BadEdit> {
+    let bytes = line.as_bytes();
+    if bytes.len() > LINE_LIMIT || !is_line(bytes) {
+        return Err(BadEdit::NoMemory);
     }
-    read_edit(alloc, line).err()
+    read_edit(alloc, bytes)
 }
 
 #[test]
-fn reads_a_rule(rt: HostRuntime) -> Result<(), Fail> {
-    let edit = read_edit(rt.alloc(), b"  rule  E\t::= E \"+\" E_1 ")?;
-    let Edit::AddRule(rule) = &edit else {
-        return Err(Fail::from("another form"));
-    };
-    assert_eq!(rt; rule.left.bytes(), b"E".as_slice());
-    let mut texts = String::new(rt.alloc());
-    for symbol in rule.right.as_slice() {
-        match symbol {
-            Symbol::Named(name) => write!(texts, "<{:?}>", name.bytes())?,
-            Symbol::Literal(text) => write!(texts, "'{:?}'", text.bytes())?,
-        }
+fn reads_and_writes(rt: HostRuntime) -> Result<(), Fail> {
+    let rows = [
+        ("  rule  E ::= \"a\\\"\" E", "rule E ::= \"a\\\"\" E"),
+        ("rule START ::=", "rule START ::="),
+        ("\trule\tE\t::=\tE \"+\" E\t ", "rule E ::= E \"+\" E"),
+        (" drop \t rule E ::=  a ", "drop rule E ::= a"),
+        ("token  ID =  [a-z] + ", "token ID = [a-z] + "),
+        ("skip WS = \t[ ]\t", "skip WS = [ ]\t"),
+        ("drop token ID\t", "drop token ID"),
+        ("  drop  skip  WS", "drop skip WS"),
+        (
+            "rule E ::= \"\\\"\\\\\\n\\t\"",
+            "rule E ::= \"\\\"\\\\\\n\\t\"",
+        ),
+        (
+            "rule E ::= \"a \t b\" \"é\"",
+            "rule E ::= \"a \\t b\" \"é\"",
+        ),
+        (
+            "rule E ::= \"abababababababababababababababab\"",
+            "rule E ::= \"abababababababababababababababab\"",
+        ),
+        (
+            "rule E ::= \"\\n\\n\\n\\n\\n\\n\\n\\n\\n\\n\\n\\n\\n\\n\\n\\n\\n\\n\\n\\n\\n\\n\\n\\n\\n\\n\\n\\n\\n\\n\\n\\n\"",
+            "rule E ::= \"\\n\\n\\n\\n\\n\\n\\n\\n\\n\\n\\n\\n\\n\\n\\n\\n\\n\\n\\n\\n\\n\\n\\n\\n\\n\\n\\n\\n\\n\\n\\n\\n\"",
+        ),
+        (
+            "rule abcdefghijklmnopqrstuvwxyz_01234 ::=",
+            "rule abcdefghijklmnopqrstuvwxyz_01234 ::=",
+        ),
+        (
+            "rule E ::= a a a a a a a a a a a a a a a a ",
+            "rule E ::= a a a a a a a a a a a a a a a a",
+        ),
+        (
+            "\trule  E  ::=  abcdefghijklmnopqrstuvwxyz_01234  abcdefghijklmnopqrstuvwxyz_01234  abcdefghijklmnopqrstuvwxyz_01234  abcdefghijklmnopqrstuvwxyz_01234  abcdefghijklmnopqrstuvwxyz_01234  abcdefghijklmnopqrstuvwxyz_01234  abcdefghijklmnopqrstuvwxyz_01234  abcdef ",
+            "rule E ::= abcdefghijklmnopqrstuvwxyz_01234 abcdefghijklmnopqrstuvwxyz_01234 abcdefghijklmnopqrstuvwxyz_01234 abcdefghijklmnopqrstuvwxyz_01234 abcdefghijklmnopqrstuvwxyz_01234 abcdefghijklmnopqrstuvwxyz_01234 abcdefghijklmnopqrstuvwxyz_01234 abcdef",
+        ),
+        (
+            " token E = aaaaaaaaaaaaaaaaaaaaaaaaaaaaaaaaaaaaaaaaaaaaaaaaaaaaaaaaaaaaaaaaaaaaaaaaaaaaaaaaaaaaaaaaaaaaaaaaaaaaaaaaaaaaaaaaaaaaaaaaaaaaaaaaaaaaaaaaaaaaaaaaaaaaaaaaaaaaaaaaaaaaaaaaaaaaaaaaaaaaaaaaaaaaaaaaaaaaaaaaaaaaaaaaaaaaaaaaaaaaaaaaaaaaaaaaaaaaaa",
+            "token E = aaaaaaaaaaaaaaaaaaaaaaaaaaaaaaaaaaaaaaaaaaaaaaaaaaaaaaaaaaaaaaaaaaaaaaaaaaaaaaaaaaaaaaaaaaaaaaaaaaaaaaaaaaaaaaaaaaaaaaaaaaaaaaaaaaaaaaaaaaaaaaaaaaaaaaaaaaaaaaaaaaaaaaaaaaaaaaaaaaaaaaaaaaaaaaaaaaaaaaaaaaaaaaaaaaaaaaaaaaaaaaaaaaaaaaaaaaaaaa",
+        ),
+    ];
+    for (line, text) in rows {
+        let edit = read(rt.alloc(), line)?;
+        let written = write_edit(rt.alloc(), &edit)?;
+        assert_eq!(rt; written.as_slice(), text.as_bytes(), "of {line:?}");
     }
-    assert_eq!(rt; texts.as_str(), "<[69]>'[43]'<[69, 95, 49]>");
-    assert_eq!(rt; written_len(&edit), 20);
     Ok(())
 }
 
 #[test]
 fn refuses_the_first_wrong_piece(rt: HostRuntime) {
     let rows = [
-        ("", Some(BadEdit::Shape { offset: 0 })),
-        (" \t ", Some(BadEdit::Shape { offset: 3 })),
-        ("rul E ::= a", Some(BadEdit::Shape { offset: 0 })),
-        ("rule", Some(BadEdit::Shape { offset: 4 })),
-        ("rule E", Some(BadEdit::Shape { offset: 6 })),
-        ("rule E = a", Some(BadEdit::Shape { offset: 7 })),
-        ("rule 1E ::=", Some(BadEdit::BadName { offset: 5 })),
-        ("rule E ::= a-b", Some(BadEdit::BadName { offset: 11 })),
-        ("rule E ::= ab\"", Some(BadEdit::BadName { offset: 11 })),
-        ("rule E ::= \"\"", Some(BadEdit::BadLiteral { offset: 11 })),
-        ("rule E ::= \"a", Some(BadEdit::BadLiteral { offset: 11 })),
-        (
-            "rule E ::= \"ab\"",
-            Some(BadEdit::BadLiteral { offset: 11 }),
-        ),
-        (
-            "rule E ::= \"\\q\"",
-            Some(BadEdit::BadLiteral { offset: 11 }),
-        ),
-        ("rule E ::= \"\\t\" \"\\\"\" \"\t\" \" \"", None),
-        ("rule E ::= \"a\"b", Some(BadEdit::Shape { offset: 14 })),
+        ("", BadEdit::Shape { offset: 0 }),
+        (" \t ", BadEdit::Shape { offset: 3 }),
+        ("rul E ::= a", BadEdit::Shape { offset: 0 }),
+        ("  rules E ::= a", BadEdit::Shape { offset: 2 }),
+        ("\"rule\" E ::= a", BadEdit::Shape { offset: 0 }),
+        ("rule", BadEdit::Shape { offset: 4 }),
+        ("rule ", BadEdit::Shape { offset: 5 }),
+        ("rule E", BadEdit::Shape { offset: 6 }),
+        ("rule E = a", BadEdit::Shape { offset: 7 }),
+        ("rule E ::=a", BadEdit::Shape { offset: 7 }),
+        ("drop", BadEdit::Shape { offset: 4 }),
+        ("drop it E", BadEdit::Shape { offset: 5 }),
+        ("drop rule E", BadEdit::Shape { offset: 11 }),
+        ("drop rule E = a", BadEdit::Shape { offset: 12 }),
+        ("token", BadEdit::Shape { offset: 5 }),
+        ("token A", BadEdit::Shape { offset: 7 }),
+        ("token A ::= a", BadEdit::Shape { offset: 8 }),
+        ("token A =a", BadEdit::Shape { offset: 8 }),
+        ("token A =", BadEdit::Shape { offset: 9 }),
+        ("skip A = \t", BadEdit::Shape { offset: 10 }),
+        ("drop token", BadEdit::Shape { offset: 10 }),
+        ("drop token A B", BadEdit::Shape { offset: 13 }),
+        ("drop skip A = a", BadEdit::Shape { offset: 12 }),
+        ("rule E ::= \"a\"b", BadEdit::Shape { offset: 14 }),
+        ("rule E ::= \"a\"\"b\"", BadEdit::Shape { offset: 14 }),
     ];
-    for (line, expected) in rows {
-        assert_eq!(rt;
-            refusal(rt.alloc(), line.as_bytes()),
-            expected,
-            "in {line:?}"
-        );
+    for (line, error) in rows {
+        assert_eq!(rt; read(rt.alloc(), line).err(), Some(error), "of {line:?}");
     }
 }
 
 #[test]
-fn keeps_the_limits(rt: HostRuntime) {
+fn refuses_names_and_literals(rt: HostRuntime) {
     let rows = [
-        ("rule abcdefghijklmnopqrstuvwxyz_01234 ::=", None),
+        ("rule 1E ::=", BadEdit::BadName { offset: 5 }),
         (
             "rule abcdefghijklmnopqrstuvwxyz_01234x ::=",
-            Some(BadEdit::BadName { offset: 5 }),
+            BadEdit::BadName { offset: 5 },
         ),
-        ("rule E ::= a a a a a a a a a a a a a a a a ", None),
+        ("rule \"a\" ::=", BadEdit::BadName { offset: 5 }),
+        ("rule E ::= a-b", BadEdit::BadName { offset: 11 }),
+        ("rule E ::= ab\"", BadEdit::BadName { offset: 11 }),
+        ("rule E ::= é", BadEdit::BadName { offset: 11 }),
+        ("token _ = a", BadEdit::BadName { offset: 6 }),
+        ("drop skip E?", BadEdit::BadName { offset: 10 }),
+        ("rule E ::= \"\"", BadEdit::BadLiteral { offset: 11 }),
+        ("rule E ::= \"\"b", BadEdit::BadLiteral { offset: 11 }),
+        ("rule E ::= \"a", BadEdit::BadLiteral { offset: 11 }),
+        ("rule E ::= \"", BadEdit::BadLiteral { offset: 11 }),
+        ("rule E ::= \"a\\\"", BadEdit::BadLiteral { offset: 11 }),
+        ("rule E ::= \"\\q\"", BadEdit::BadLiteral { offset: 11 }),
+        ("rule E ::= \"\\", BadEdit::BadLiteral { offset: 11 }),
+        (
+            "rule E ::= \"aaaaaaaaaaaaaaaaaaaaaaaaaaaaaaaaa\"",
+            BadEdit::BadLiteral { offset: 11 },
+        ),
+        (
+            "rule E ::= \"\\n\\n\\n\\n\\n\\n\\n\\n\\n\\n\\n\\n\\n\\n\\n\\n\\n\\n\\n\\n\\n\\n\\n\\n\\n\\n\\n\\n\\n\\n\\n\\n\\n\"",
+            BadEdit::BadLiteral { offset: 11 },
+        ),
+    ];
+    for (line, error) in rows {
+        assert_eq!(rt; read(rt.alloc(), line).err(), Some(error), "of {line:?}");
+    }
+}
+
+#[test]
+fn refuses_what_is_too_much(rt: HostRuntime) {
+    let rows = [
         (
             "rule E ::= a a a a a a a a a a a a a a a a a",
-            Some(BadEdit::TooManySymbols { offset: 43 }),
+            BadEdit::TooManySymbols { offset: 43 },
         ),
         (
             "rule E ::= a a a a a a a a a a a a a a a a \"",
-            Some(BadEdit::TooManySymbols { offset: 43 }),
+            BadEdit::TooManySymbols { offset: 43 },
         ),
         (
-            "\trule E ::= abcdefghijklmnopqrstuvwxyz_01234 abcdefghijklmnopqrstuvwxyz_01234 abcdefghijklmnopqrstuvwxyz_01234 abcdefghijklmnopqrstuvwxyz_01234 abcdefghijklmnopqrstuvwxyz_01234 abcdefghijklmnopqrstuvwxyz_01234 abcdefghijklmnopqrstuvwxyz_01234 abcdef ",
-            None,
+            "drop rule E ::= a a a a a a a a a a a a a a a a\t1",
+            BadEdit::TooManySymbols { offset: 48 },
         ),
         (
             "rule E ::= abcdefghijklmnopqrstuvwxyz_01234 abcdefghijklmnopqrstuvwxyz_01234 abcdefghijklmnopqrstuvwxyz_01234 abcdefghijklmnopqrstuvwxyz_01234 abcdefghijklmnopqrstuvwxyz_01234 abcdefghijklmnopqrstuvwxyz_01234 abcdefghijklmnopqrstuvwxyz_01234 abcdefg",
-            Some(BadEdit::TooLong { offset: 0 }),
+            BadEdit::TooLong { offset: 0 },
         ),
         (
             "rule E ::= abcdefghijklmnopqrstuvwxyz_01234 abcdefghijklmnopqrstuvwxyz_01234 abcdefghijklmnopqrstuvwxyz_01234 abcdefghijklmnopqrstuvwxyz_01234 abcdefghijklmnopqrstuvwxyz_01234 abcdefghijklmnopqrstuvwxyz_01234 abcdefghijklmnopqrstuvwxyz_01234 abcdefghijklmnopqrstuvwxyz_01234",
-            Some(BadEdit::TooLong { offset: 0 }),
+            BadEdit::TooLong { offset: 0 },
+        ),
+        (
+            "token E = aaaaaaaaaaaaaaaaaaaaaaaaaaaaaaaaaaaaaaaaaaaaaaaaaaaaaaaaaaaaaaaaaaaaaaaaaaaaaaaaaaaaaaaaaaaaaaaaaaaaaaaaaaaaaaaaaaaaaaaaaaaaaaaaaaaaaaaaaaaaaaaaaaaaaaaaaaaaaaaaaaaaaaaaaaaaaaaaaaaaaaaaaaaaaaaaaaaaaaaaaaaaaaaaaaaaaaaaaaaaaaaaaaaaaaaaaaaaaa ",
+            BadEdit::TooLong { offset: 0 },
         ),
     ];
-    for (line, expected) in rows {
-        assert_eq!(rt;
-            refusal(rt.alloc(), line.as_bytes()),
-            expected,
-            "in {line:?}"
-        );
+    for (line, error) in rows {
+        assert_eq!(rt; read(rt.alloc(), line).err(), Some(error), "of {line:?}");
     }
 }

@@ -1,5 +1,5 @@
 use Rattle.std.proofs.Common.{subst}
-use Rattle.grammar_text.specs.Reading.{Gives, edit_of}
+use Rattle.grammar_text.specs.Reading.{Gives}
 use Rattle.grammar_text.proofs.EditReads.{edit_of_again, is_found, all_sound}
 use Rattle.grammar_text.proofs.reading.read_edit.Goals as goal
 
