@@ -226,9 +226,11 @@ fn edit_of(alloc: Global, line: &[u8]) -> Result<Edit, BadEdit>
 
 /// Reads an edit from a line.
 ///
-/// A line is `rule`, the left side, `::=` and the right side, with spaces or tabs between its pieces and, if
-/// you like, at its ends. A literal stands between quotes, and `\"`, `\\`, `\n` and `\t` in it for a quote,
-/// a backslash, a line's end and a tab. The error is that of the leftmost wrong piece.
+/// The forms are `rule E ::= E "+" E`, `token NUM = [0-9]+` and `skip WS = [ ]+`, and to take such a thing away
+/// `drop rule E ::= E "+" E`, `drop token NUM` and `drop skip WS`. Spaces or tabs stand between the pieces
+/// and, if you like, at the line's ends; but what comes at the end of an expression is part of it. A literal
+/// stands between quotes, and `\"`, `\\`, `\n` and `\t` in it for a quote, a backslash, a line's end and a
+/// tab. The error is that of the leftmost wrong piece. An expression is not read here.
 pub fn read_edit(alloc: Global, line: &[u8]) -> Result<Edit, BadEdit>
     requires short { length line.now ≤ LINE_LIMIT }
     requires one_line { IsLine line.now }
