@@ -4,3 +4,4 @@ pub mod Spelling
 pub mod Canonical
 pub mod Limits
 pub mod Reading
+pub mod Sameness

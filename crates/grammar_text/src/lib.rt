@@ -12,6 +12,7 @@ mod limits;
 mod literal;
 mod name;
 mod reading;
+mod sameness;
 mod symbol;
 mod text;
 mod writing;
