@@ -60,3 +60,6 @@ definition_eq-decides a b =
 abbrev pub symbol_fed : Symbol → fed.HashWrites
 symbol_fed (Named name) = fed.u8 0 ++ fed.slice fed.u8 name
 symbol_fed (Literal bytes) = fed.u8 1 ++ fed.slice fed.u8 bytes
+
+-- each test says exactly whether the two are equal
+pub ruleset sameness = (bytes_eq-Decides, symbol_eq-decides, symbols_eq-decides, rule_eq-decides, definition_eq-decides)

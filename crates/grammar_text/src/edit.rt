@@ -15,10 +15,11 @@ pub struct RuleText {
 
 impl RuleText {
     /// Whether both are the same rule: the same left side and the same right side.
+    #[tactic(auto, using(crate::specs::Sameness::sameness))]
     pub fn is_same(&self, other: &RuleText) -> bool
         ensures { IsTrue result ↔ (self.now ≡ other.now) }
     {
-        self.left.is_same(&other.left) && self.right.is_same(&other.right)
+        self == other
     }
 }
 
@@ -32,10 +33,11 @@ pub struct DefText {
 
 impl DefText {
     /// Whether both are the same definition: the same name and the same text.
+    #[tactic(auto, using(crate::specs::Sameness::sameness))]
     pub fn is_same(&self, other: &DefText) -> bool
         ensures { IsTrue result ↔ (self.now ≡ other.now) }
     {
-        self.name.is_same(&other.name) && self.expression.is_same(&other.expression)
+        self == other
     }
 }
 

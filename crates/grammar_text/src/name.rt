@@ -45,10 +45,11 @@ impl Name {
     }
 
     /// Whether both are the same name.
+    #[tactic(auto, using(crate::specs::Sameness::sameness))]
     pub fn is_same(&self, other: &Name) -> bool
         ensures { IsTrue result ↔ (self.now ≡ other.now) }
     {
-        self.bytes() == other.bytes()
+        self == other
     }
 }
 

@@ -17,14 +17,11 @@ pub enum Symbol {
 
 impl Symbol {
     /// Whether both are the same symbol. A name and a literal never are.
+    #[tactic(auto, using(crate::specs::Sameness::sameness))]
     pub fn is_same(&self, other: &Symbol) -> bool
         ensures { IsTrue result ↔ (self.now ≡ other.now) }
     {
-        match (self, other) {
-            (Symbol::Named(name), Symbol::Named(other)) => name.is_same(other),
-            (Symbol::Literal(text), Symbol::Literal(other)) => text.is_same(other),
-            _ => false,
-        }
+        self == other
     }
 }
 
@@ -58,24 +55,10 @@ impl Symbols {
     }
 
     /// Whether both have the same symbols in the same order.
+    #[tactic(auto, using(crate::specs::Sameness::sameness))]
     pub fn is_same(&self, other: &Symbols) -> bool
         ensures { IsTrue result ↔ (self.now ≡ other.now) }
     {
-        are_same(self.as_slice(), other.as_slice())
+        self == other
     }
-}
-
-fn are_same(symbols: &[Symbol], others: &[Symbol]) -> bool
-    ensures { IsTrue result ↔ (symbols.now ≡ others.now) }
-{
-    let mut left = symbols;
-    let mut right = others;
-    while let ([a, after_a @ ..], [b, after_b @ ..]) = (left, right) {
-        if !a.is_same(b) {
-            return false;
-        }
-        left = after_a;
-        right = after_b;
-    }
-    left.is_empty() && right.is_empty()
 }

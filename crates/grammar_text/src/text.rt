@@ -33,9 +33,10 @@ impl Text {
     }
 
     /// Whether both are the same bytes.
+    #[tactic(auto, using(crate::specs::Sameness::sameness))]
     pub fn is_same(&self, other: &Text) -> bool
         ensures { IsTrue result ↔ (self.now ≡ other.now) }
     {
-        self.bytes() == other.bytes()
+        self == other
     }
 }
