@@ -5,6 +5,7 @@ ghost use Rattle.std.specs.Prelude.{◌≡◌, ◌↔◌, IsTrue};
 use crate::name::Name;
 use crate::symbol::Symbols;
 use crate::text::Text;
+use std::alloc::AllocError;
 
 /// A rule of a grammar, as in `E ::= E "+" E`.
 #[derive(Debug, Drop)]
@@ -20,6 +21,17 @@ impl RuleText {
         ensures { IsTrue result ↔ (self.now ≡ other.now) }
     {
         self == other
+    }
+}
+
+impl Clone for RuleText {
+    ghost is_clone = { λ rule copy. copy ≡ rule };
+
+    fn clone(&self) -> Result<RuleText, AllocError> {
+        Ok(RuleText {
+            left: self.left.clone()?,
+            right: self.right.clone()?,
+        })
     }
 }
 
@@ -41,8 +53,19 @@ impl DefText {
     }
 }
 
+impl Clone for DefText {
+    ghost is_clone = { λ definition copy. copy ≡ definition };
+
+    fn clone(&self) -> Result<DefText, AllocError> {
+        Ok(DefText {
+            name: self.name.clone()?,
+            expression: self.expression.clone()?,
+        })
+    }
+}
+
 /// A change of a grammar.
-#[derive(Debug, Drop)]
+#[derive(Debug, Drop, PartialEq, Eq)]
 pub enum Edit {
     AddRule(RuleText),
     DropRule(RuleText),
@@ -50,4 +73,19 @@ pub enum Edit {
     DropToken(Name),
     AddSkip(DefText),
     DropSkip(Name),
+}
+
+impl Clone for Edit {
+    ghost is_clone = { λ edit copy. copy ≡ edit };
+
+    fn clone(&self) -> Result<Edit, AllocError> {
+        match self {
+            Edit::AddRule(rule) => Ok(Edit::AddRule(rule.clone()?)),
+            Edit::DropRule(rule) => Ok(Edit::DropRule(rule.clone()?)),
+            Edit::AddToken(definition) => Ok(Edit::AddToken(definition.clone()?)),
+            Edit::DropToken(name) => Ok(Edit::DropToken(name.clone()?)),
+            Edit::AddSkip(definition) => Ok(Edit::AddSkip(definition.clone()?)),
+            Edit::DropSkip(name) => Ok(Edit::DropSkip(name.clone()?)),
+        }
+    }
 }

@@ -53,6 +53,16 @@ impl Name {
     }
 }
 
+impl Clone for Name {
+    ghost is_clone = { λ name copy. copy ≡ name };
+
+    fn clone(&self) -> Result<Name, AllocError> {
+        Ok(Name {
+            bytes: self.bytes.clone()?,
+        })
+    }
+}
+
 fn is_letter(byte: u8) -> bool
     ensures { result ≡ is_letter byte }
 {

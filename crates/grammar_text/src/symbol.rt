@@ -4,6 +4,7 @@ ghost use Rattle.std.specs.Prelude.{◌≡◌, ◌↔◌, IsTrue, List, length};
 
 use crate::name::Name;
 use crate::text::Text;
+use std::alloc::AllocError;
 use std::marker::Model;
 
 /// A symbol of a rule's right side.
@@ -22,6 +23,17 @@ impl Symbol {
         ensures { IsTrue result ↔ (self.now ≡ other.now) }
     {
         self == other
+    }
+}
+
+impl Clone for Symbol {
+    ghost is_clone = { λ symbol copy. copy ≡ symbol };
+
+    fn clone(&self) -> Result<Symbol, AllocError> {
+        match self {
+            Symbol::Named(name) => Ok(Symbol::Named(name.clone()?)),
+            Symbol::Literal(text) => Ok(Symbol::Literal(text.clone()?)),
+        }
     }
 }
 
@@ -60,5 +72,15 @@ impl Symbols {
         ensures { IsTrue result ↔ (self.now ≡ other.now) }
     {
         self == other
+    }
+}
+
+impl Clone for Symbols {
+    ghost is_clone = { λ symbols copy. copy ≡ symbols };
+
+    fn clone(&self) -> Result<Symbols, AllocError> {
+        Ok(Symbols {
+            items: self.items.clone()?,
+        })
     }
 }

@@ -65,6 +65,7 @@ fn reads_and_writes(rt: HostRuntime) -> Result<(), Fail> {
     ];
     for (line, text) in rows {
         let edit = read(rt.alloc(), line)?;
+        assert_eq!(rt; edit.clone()?, edit);
         let written = write_edit(rt.alloc(), &edit)?;
         assert_eq!(rt; written.as_slice(), text.as_bytes(), "of {line:?}");
     }

@@ -2,6 +2,7 @@
 
 ghost use Rattle.std.specs.Prelude.{◌≡◌, ◌↔◌, IsTrue};
 
+use std::alloc::AllocError;
 use std::marker::Model;
 
 /// Bytes of any kind. A contract sees the list of them.
@@ -38,5 +39,15 @@ impl Text {
         ensures { IsTrue result ↔ (self.now ≡ other.now) }
     {
         self == other
+    }
+}
+
+impl Clone for Text {
+    ghost is_clone = { λ text copy. copy ≡ text };
+
+    fn clone(&self) -> Result<Text, AllocError> {
+        Ok(Text {
+            bytes: self.bytes.clone()?,
+        })
     }
 }
