@@ -1,0 +1,9 @@
+pub mod Gaps
+pub mod Literals
+pub mod Rights
+pub mod NameBytes
+pub mod Words
+pub mod SymbolLaws
+pub mod EditLaws
+pub mod EditReads
+pub mod Soundness

@@ -1,0 +1,13 @@
+use Rattle.std.proofs.Common.{subst}
+use Rattle.grammar_text.specs.Reading.{Gives}
+use Rattle.grammar_text.proofs.EditReads.{edit_of_again, is_found, all_sound}
+use Rattle.grammar_text.proofs.reading.read_edit.Goals as goal
+
+pub returns-clause-found : goal.returns-clause-found
+returns-clause-found c = is_found c.args.line.now c.edit_of.result c.edit_of.ensures
+
+pub returns-clause-sound : goal.returns-clause-sound
+returns-clause-sound c = all_sound c.args.line.now c.edit_of.result c.requires.one_line c.edit_of.ensures
+
+pub returns-clause-only : goal.returns-clause-only
+returns-clause-only c = λ edit spelled within. subst (λ read. Gives c.edit_of.result read) (edit_of_again c.args.line.now edit spelled within) c.edit_of.ensures

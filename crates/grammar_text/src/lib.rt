@@ -1,0 +1,35 @@
+//! Edits of a grammar and their text: one edit a line, as a person writes it.
+#![tactic(auto)]
+
+use std::alloc::AllocError;
+
+mod bad_edit;
+mod canonical;
+mod cursor;
+mod edit;
+mod laws;
+mod limits;
+mod literal;
+mod name;
+mod reading;
+mod sameness;
+mod symbol;
+mod text;
+mod writing;
+
+pub use bad_edit::BadEdit;
+pub use canonical::written_len;
+pub use edit::{DefText, Edit, RuleText};
+pub use laws::{canonical_is_spelled, one_edit, reads_back};
+pub use limits::{EDIT_LIMIT, LINE_LIMIT, LITERAL_LIMIT, NAME_LIMIT, SYMBOL_LIMIT};
+pub use name::Name;
+pub use reading::read_edit;
+pub use symbol::{Symbol, Symbols};
+pub use text::Text;
+pub use writing::write_edit;
+
+/// Memory ran out.
+pub type NoMemory = AllocError;
+
+#[cfg(test)]
+mod tests;

@@ -1,0 +1,16 @@
+//! How large the parts of an edit may be.
+
+/// The most bytes of a name.
+pub const NAME_LIMIT: usize = 32;
+
+/// The most bytes of a literal.
+pub const LITERAL_LIMIT: usize = 32;
+
+/// The most symbols of a right side.
+pub const SYMBOL_LIMIT: usize = 16;
+
+/// The most bytes of an edit's canonical text.
+pub const EDIT_LIMIT: usize = 248;
+
+/// The most bytes of a line that is read.
+pub const LINE_LIMIT: usize = 16_777_216;
