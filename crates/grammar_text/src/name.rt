@@ -28,7 +28,7 @@ impl Model for Name {
 
 impl Name {
     /// The name with these bytes.
-    pub(crate) fn from_bytes(alloc: Global, bytes: &[u8]) -> Result<Name, AllocError>
+    pub fn from_bytes(alloc: Global, bytes: &[u8]) -> Result<Name, AllocError>
         requires { IsName bytes.now }
         ensures { IfOk result (λ name. name ≡ bytes.now) }
     {
