@@ -3,3 +3,4 @@ pub mod Derivations
 pub mod Orderings
 pub mod Searches
 pub mod Counting
+pub mod OneForest

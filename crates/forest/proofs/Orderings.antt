@@ -1,4 +1,4 @@
--- The orders of rules and nodes.
+-- The orders of rules, splits and nodes.
 use Rattle.std.proofs.Common.{◌≡◌, ℕ, ◌+◌, ◌-◌, ◌<◌, ◌≤◌, List, [], length, get_or, refl, sym, ◌∙◌, arith}
 use Rattle.std.proofs.lemmas.Cmp.{ranked}
 use Rattle.std.proofs.lemmas.List.{get_or_default}
@@ -8,9 +8,11 @@ use Rattle.std.specs.Ordering.{nat_cmp, ordering_then, on}
 use Rattle.std.specs.declared.cmp.Ordering.{Ordering}
 use Rattle.std.specs.declared.cmp.Ordering.TheVariants.{Less, Equal, Greater}
 use Rattle.std.specs.Cmp.{IsTotalOrder, nat_cmp_total, then_total, on_total}
+use Rattle.std.specs.Cmp.Lexicographic.{slice_cmp, nat_list_cmp_total}
 use Rattle.forest.specs.declared.nodes.Node.{Node}
+use Rattle.forest.specs.declared.nodes.Split.{Split}
 use Rattle.forest.specs.declared.rules.Rule.{Rule}
-use Rattle.forest.specs.Orders.{rule_cmp, node_cmp}
+use Rattle.forest.specs.Orders.{rule_cmp, split_cmp, node_cmp}
 
 pub rule_cmp_total : IsTotalOrder rule_cmp
 rule_cmp_total = on_total (λ (r : Rule). r.number.0) nat_cmp_total
@@ -19,6 +21,9 @@ pub node_cmp_total : IsTotalOrder node_cmp
 node_cmp_total =
     let ends = then_total {R = on (λ (n : Node). n.to) nat_cmp} {S = on (λ (n : Node). n.symbol.0) nat_cmp} (on_total (λ (n : Node). n.to) nat_cmp_total) (on_total (λ (n : Node). n.symbol.0) nat_cmp_total) in
     then_total {R = on (λ (n : Node). n.from) nat_cmp} (on_total (λ (n : Node). n.from) nat_cmp_total) ends
+
+pub split_cmp_total : IsTotalOrder split_cmp
+split_cmp_total = then_total {R = on (λ (s : Split). s.rule.0) nat_cmp} {S = on (λ (s : Split). s.cuts) (slice_cmp nat_cmp)} (on_total (λ (s : Split). s.rule.0) nat_cmp_total) (on_total (λ (s : Split). s.cuts) nat_list_cmp_total)
 
 -- neither part tells them apart
 pub then_equal : (a b : Ordering) → ordering_then a b ≡ Equal → (a ≡ Equal) × (b ≡ Equal)
