@@ -45,7 +45,9 @@ impl ByteSet {
     pub(crate) fn is_empty(&self) -> bool
         ensures { IsTrue result ↔ (self.now ≡ []) }
     {
-        self.words == [0; 4]
+        let (a, b) = (self.words[0], self.words[1]);
+        let (c, d) = (self.words[2], self.words[3]);
+        [a, b, c, d] == [0; 4]
     }
 
     /// Adds the bytes from `low` to `high`, none where `low` is the greater one.
@@ -61,9 +63,9 @@ impl ByteSet {
     pub(crate) fn union(&mut self, other: &ByteSet)
         ensures { (b : ℕ) → has self.new b ≡ (has self.old b || has other.now b) }
     {
-        for (word, more) in self.words.iter_mut().zip(&other.words) {
-            *word |= *more;
-        }
+        let [a, b, c, d] = self.words;
+        let [e, f, g, h] = other.words;
+        self.words = [a | e, b | f, c | g, d | h];
     }
 
     /// The bytes that are not in the set.
