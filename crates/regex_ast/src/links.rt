@@ -70,9 +70,9 @@ fn connect(rows: &mut [ByteSet], before: &ByteSet, next: &ByteSet)
     requires { length rows.old ≤ 200 }
     ensures { (q p : ℕ) → q < length rows.old → has (row rows.new q) p ≡ (has (row rows.old q) p || (has before.now q && has next.now p)) }
 {
-    for (position, row) in rows.iter_mut().enumerate() {
+    for position in 0..rows.len() {
         if before.has(position as u8) {
-            row.union(next);
+            rows[position].union(next);
         }
     }
 }

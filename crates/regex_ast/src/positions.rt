@@ -1,5 +1,5 @@
-ghost use Rattle.std.specs.Prelude.{◌≡◌, ℕ, ◌+◌, ◌≤◌, ◌<◌, length, IfOk, Some, slice_get};
-ghost use Rattle.regex_ast.specs.Bytes.{has};
+ghost use Rattle.std.specs.Prelude.{◌≡◌, ℕ, ◌+◌, ◌≤◌, ◌<◌, ◌++◌, length, filter, IfOk, OnOk, Some, slice_get};
+ghost use Rattle.regex_ast.specs.Bytes.{has, numbers_from};
 ghost use Rattle.regex_ast.specs.Expressions.{tree_of, class_count, classes_of};
 ghost use Rattle.regex_ast.specs.Positions.{ArePositionsOf, ArePositionsOfLiteral};
 
@@ -136,6 +136,7 @@ impl Positions {
 
 /// Adds the classes of the expression at the end, from left to right.
 fn collect(regex: &Regex, classes: &mut Vec<ByteSet>) -> Result<(), NoMemory>
+    ensures { OnOk result (classes.new.items ≡ classes.old.items ++ classes_of (tree_of regex.now)) }
 {
     match regex {
         Regex::Class(set) => {
@@ -153,6 +154,7 @@ fn collect(regex: &Regex, classes: &mut Vec<ByteSet>) -> Result<(), NoMemory>
 /// The numbers below `count` that are in the set.
 fn ascending(alloc: Global, set: &ByteSet, count: usize) -> Result<Items<u32>, NoMemory>
     requires { count ≤ 200 }
+    ensures { IfOk result (λ numbers. numbers ≡ filter (has set.now) (numbers_from 0 count)) }
 {
     let mut numbers = Vec::new(alloc);
     for number in 0..count {
