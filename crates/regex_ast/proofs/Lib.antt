@@ -1,3 +1,4 @@
 pub mod LinkLemmas
 pub mod MarkLemmas
 pub mod SetLemmas
+pub mod TableLemmas

@@ -1,5 +1,5 @@
 -- The positions of an expression, part by part.
-use Rattle.std.specs.Prelude.{ℕ, ◌+◌, Bool, true, false, ◌||◌, ◌&&◌, ◌==◌, List, [], slice_index_or}
+use Rattle.std.specs.Prelude.{ℕ, ◌+◌, Bool, true, false, ◌||◌, ◌&&◌, ◌==◌, nat_lt, if◌then◌else◌, List, [], ◌∷◌, slice_index_or}
 use Rattle.regex_ast.specs.Expressions.{Expression, class, sequence, choice, star, plus, maybe, class_count}
 
 abbrev pub nullable : Expression → Bool
@@ -39,3 +39,7 @@ follows n (maybe a) q p = follows n a q p
 -- a row of the table, empty past its end
 abbrev pub row : List (List ℕ) → ℕ → List ℕ
 row rows q = slice_index_or rows q []
+
+-- the number after k, if it is below n
+abbrev pub next_below : ℕ → ℕ → List ℕ
+next_below n k = if nat_lt (k + 1) n then (k + 1) ∷ [] else []

@@ -79,6 +79,7 @@ pub(crate) fn lex(mode: Mode, byte: u8) -> Step
     }
 }
 
+#[tactic(auto, unfolding(crate::specs::Lexing::after_piece))]
 fn begin_piece(byte: u8) -> Step
     ensures { result ≡ after_piece byte }
 {
@@ -97,6 +98,7 @@ fn begin_piece(byte: u8) -> Step
     }
 }
 
+#[tactic(auto, unfolding(crate::specs::Lexing::after_bracket))]
 fn begin_class(byte: u8) -> Step
     ensures { result ≡ after_bracket byte }
 {
@@ -140,6 +142,7 @@ fn inside(negated: bool, mut set: ByteSet, place: Place, byte: u8) -> Step
     }
 }
 
+#[tactic(auto, unfolding(crate::specs::Lexing::at_start))]
 fn begin_member(negated: bool, set: ByteSet, byte: u8) -> Step
     ensures { result ≡ at_start negated set byte }
 {
@@ -163,6 +166,7 @@ fn begin_member(negated: bool, set: ByteSet, byte: u8) -> Step
     }
 }
 
+#[tactic(auto, unfolding(crate::specs::Lexing::at_byte))]
 fn after_low(negated: bool, mut set: ByteSet, low: u8, byte: u8) -> Step
     ensures { result ≡ at_byte negated set low byte }
 {
@@ -178,6 +182,7 @@ fn after_low(negated: bool, mut set: ByteSet, low: u8, byte: u8) -> Step
     }
 }
 
+#[tactic(auto, unfolding(crate::specs::Lexing::at_dash))]
 fn after_dash(negated: bool, mut set: ByteSet, low: u8, byte: u8) -> Step
     ensures { result ≡ at_dash negated set low byte }
 {
@@ -206,6 +211,7 @@ fn is_special_in_class(byte: u8) -> bool
 }
 
 /// What the byte stands for after a backslash.
+#[tactic(auto, unfolding(crate::specs::Spelling::escape_of))]
 fn escaped(byte: u8) -> Option<u8>
     ensures { result ≡ escape_of byte }
 {

@@ -26,7 +26,7 @@ pub(crate) fn link(regex: &Regex, base: usize, rows: &mut [ByteSet]) -> Part
     ensures nullable { result.nullable ≡ nullable (tree_of regex.now) }
     ensures first { (p : ℕ) → has result.first p ≡ firsts base (tree_of regex.now) p }
     ensures last { (p : ℕ) → has result.last p ≡ lasts base (tree_of regex.now) p }
-    ensures rows { (q p : ℕ) → has (row rows.new q) p ≡ (has (row rows.old q) p || follows base (tree_of regex.now) q p) }
+    ensures rows { (q p : ℕ) → q < length rows.old → has (row rows.new q) p ≡ (has (row rows.old q) p || follows base (tree_of regex.now) q p) }
 {
     match regex {
         Regex::Class(_) => Part {

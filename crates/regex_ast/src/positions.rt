@@ -1,6 +1,7 @@
-ghost use Rattle.std.specs.Prelude.{◌≡◌, ℕ, ◌+◌, ◌≤◌, ◌<◌, ◌++◌, length, filter, IfOk, OnOk, Some, slice_get};
-ghost use Rattle.regex_ast.specs.Bytes.{has, numbers_from};
+ghost use Rattle.std.specs.Prelude.{◌≡◌, ℕ, ◌+◌, ◌≤◌, ◌<◌, ◌++◌, [], length, filter, map, replicate, IfOk, OnOk, Some, slice_get};
+ghost use Rattle.regex_ast.specs.Bytes.{has, numbers_from, only};
 ghost use Rattle.regex_ast.specs.Expressions.{tree_of, class_count, classes_of};
+ghost use Rattle.regex_ast.specs.Links.{next_below};
 ghost use Rattle.regex_ast.specs.Positions.{ArePositionsOf, ArePositionsOfLiteral};
 
 use std::alloc::Global;
@@ -27,7 +28,8 @@ pub struct Positions {
 
 impl Model for Positions {
     ghost use Rattle.std.specs.Prelude.{◌≡◌, length, ◌≤◌};
-    ghost use Rattle.regex_ast.specs.Positions.{Table};
+    ghost use Rattle.regex_ast.specs.Links.{next_below};
+ghost use Rattle.regex_ast.specs.Positions.{Table};
 
     ghost Value = { Table };
 
@@ -42,23 +44,17 @@ impl Positions {
         requires { class_count (tree_of regex.now) ≤ 200 }
         ensures { IfOk result (λ positions. ArePositionsOf (tree_of regex.now) positions) }
     {
-        let mut classes = Vec::new(alloc);
-        collect(regex, &mut classes)?;
-        let mut rows = Vec::with_capacity(alloc, classes.len())?;
-        for _ in &classes {
-            rows.push(ByteSet::new())?;
-        }
-        let part = link(regex, 0, &mut rows);
-        let mut follow = Vec::with_capacity(alloc, rows.len())?;
-        for row in &rows {
-            follow.push(ascending(alloc, row, classes.len())?)?;
-        }
+        let classes = classes_of(alloc, regex)?;
+        let count = classes.len();
+        let mut rows = no_links(alloc, count)?;
+        let links = rows.as_mut_slice();
+        let part = link(regex, 0, links);
         Ok(Positions {
             nullable: part.nullable,
-            first: ascending(alloc, &part.first, classes.len())?,
-            last: ascending(alloc, &part.last, classes.len())?,
-            follow: Items::from_vec(follow),
-            classes: Items::from_vec(classes),
+            first: ascending(alloc, &part.first, count)?,
+            last: ascending(alloc, &part.last, count)?,
+            follow: ascending_rows(alloc, links)?,
+            classes,
         })
     }
 
@@ -69,23 +65,12 @@ impl Positions {
         ensures { IfOk result (λ positions. ArePositionsOfLiteral bytes.now positions) }
     {
         let count = bytes.len() as u32;
-        let mut classes = Vec::with_capacity(alloc, bytes.len())?;
-        let mut follow = Vec::with_capacity(alloc, bytes.len())?;
-        for (position, byte) in (1..).zip(bytes) {
-            classes.push(ByteSet::of(*byte))?;
-            let next = if position < count {
-                Items::from_slice(alloc, &[position])?
-            } else {
-                Items::new(alloc)
-            };
-            follow.push(next)?;
-        }
         Ok(Positions {
             nullable: false,
             first: Items::from_slice(alloc, &[0])?,
             last: Items::from_slice(alloc, &[count - 1])?,
-            follow: Items::from_vec(follow),
-            classes: Items::from_vec(classes),
+            follow: in_line(alloc, count)?,
+            classes: one_each(alloc, bytes)?,
         })
     }
 
@@ -134,6 +119,16 @@ impl Positions {
     }
 }
 
+/// The classes of the expression, from left to right.
+fn classes_of(alloc: Global, regex: &Regex) -> Result<Items<ByteSet>, NoMemory>
+    ensures classes { IfOk result (λ classes. classes ≡ classes_of (tree_of regex.now)) }
+    ensures count { IfOk result (λ classes. length classes ≡ class_count (tree_of regex.now)) }
+{
+    let mut classes = Vec::new(alloc);
+    collect(regex, &mut classes)?;
+    Ok(Items::from_vec(classes))
+}
+
 /// Adds the classes of the expression at the end, from left to right.
 fn collect(regex: &Regex, classes: &mut Vec<ByteSet>) -> Result<(), NoMemory>
     ensures { OnOk result (classes.new.items ≡ classes.old.items ++ classes_of (tree_of regex.now)) }
@@ -151,6 +146,30 @@ fn collect(regex: &Regex, classes: &mut Vec<ByteSet>) -> Result<(), NoMemory>
     }
 }
 
+/// So many empty rows.
+fn no_links(alloc: Global, count: usize) -> Result<Vec<ByteSet>, NoMemory>
+    ensures rows { IfOk result (λ rows. rows.items ≡ replicate count []) }
+    ensures count { IfOk result (λ rows. length rows.items ≡ count) }
+{
+    let mut rows = Vec::with_capacity(alloc, count)?;
+    for _ in 0..count {
+        rows.push(ByteSet::new())?;
+    }
+    Ok(rows)
+}
+
+/// Each row as a list.
+fn ascending_rows(alloc: Global, rows: &[ByteSet]) -> Result<Items<Items<u32>>, NoMemory>
+    requires { length rows.now ≤ 200 }
+    ensures { IfOk result (λ lists. lists ≡ map (λ row. filter (has row) (numbers_from 0 (length rows.now))) rows.now) }
+{
+    let mut lists = Vec::with_capacity(alloc, rows.len())?;
+    for row in rows {
+        lists.push(ascending(alloc, row, rows.len())?)?;
+    }
+    Ok(Items::from_vec(lists))
+}
+
 /// The numbers below `count` that are in the set.
 fn ascending(alloc: Global, set: &ByteSet, count: usize) -> Result<Items<u32>, NoMemory>
     requires { count ≤ 200 }
@@ -163,4 +182,39 @@ fn ascending(alloc: Global, set: &ByteSet, count: usize) -> Result<Items<u32>, N
         }
     }
     Ok(Items::from_vec(numbers))
+}
+
+/// For each number below `count` the next one, where that is below `count` too.
+fn in_line(alloc: Global, count: u32) -> Result<Items<Items<u32>>, NoMemory>
+    requires { count ≤ 32 }
+    ensures { IfOk result (λ rows. rows ≡ map (next_below count) (numbers_from 0 count)) }
+{
+    let mut rows = Vec::with_capacity(alloc, count as usize)?;
+    for number in 0..count {
+        rows.push(next(alloc, number, count)?)?;
+    }
+    Ok(Items::from_vec(rows))
+}
+
+/// The next number, if it is below `count`.
+fn next(alloc: Global, number: u32, count: u32) -> Result<Items<u32>, NoMemory>
+    requires { number < count }
+    ensures { IfOk result (λ numbers. numbers ≡ next_below count number) }
+{
+    if number + 1 < count {
+        Items::from_slice(alloc, &[number + 1])
+    } else {
+        Ok(Items::new(alloc))
+    }
+}
+
+/// The sets of one byte each.
+fn one_each(alloc: Global, bytes: &[u8]) -> Result<Items<ByteSet>, NoMemory>
+    ensures { IfOk result (λ sets. sets ≡ map only bytes.now) }
+{
+    let mut sets = Vec::with_capacity(alloc, bytes.len())?;
+    for byte in bytes {
+        sets.push(ByteSet::of(*byte))?;
+    }
+    Ok(Items::from_vec(sets))
 }
