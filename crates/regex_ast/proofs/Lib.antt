@@ -1,4 +1,6 @@
 pub mod LinkLemmas
 pub mod MarkLemmas
+pub mod PieceLemmas
+pub mod RowLemmas
 pub mod SetLemmas
 pub mod TableLemmas

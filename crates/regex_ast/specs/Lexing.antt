@@ -1,6 +1,6 @@
 -- One byte of a text after another, as the reader cuts it into pieces.
-use Rattle.std.specs.Prelude.{ℕ, Bool, true, false, ◌==◌, if◌then◌else◌, not, Option, Some, None, List, []}
-use Rattle.regex_ast.specs.Bytes.{bytes_where, only, with_range, complement}
+use Rattle.std.specs.Prelude.{ℕ, Bool, true, false, ◌==◌, if◌then◌else◌, Option, Some, None, List, []}
+use Rattle.regex_ast.specs.Bytes.{only, with_range, complement}
 use Rattle.regex_ast.specs.Spelling.{is_special_in_class, escape_of}
 use Rattle.regex_ast.specs.declared.lexer.Piece.{Piece}
 use Rattle.regex_ast.specs.declared.lexer.Piece.TheVariants.{OneOf, Open, Close, Bar, StarSign, PlusSign, MaybeSign}
@@ -14,16 +14,16 @@ use Rattle.regex_ast.specs.declared.lexer.Step.TheVariants.{Refuse, Go, Done}
 -- between two pieces
 unfoldable pub after_piece : ℕ → Step
 after_piece b =
-    if b == 92 then Go Escaped
-    else if b == 91 then Go Opened
-    else if b == 93 then Refuse
-    else if b == 40 then Done Open
-    else if b == 41 then Done Close
-    else if b == 124 then Done Bar
-    else if b == 42 then Done StarSign
-    else if b == 43 then Done PlusSign
-    else if b == 63 then Done MaybeSign
-    else if b == 46 then Done (OneOf (bytes_where (λ c. not (c == 10))))
+    if 92 == b then Go Escaped
+    else if 91 == b then Go Opened
+    else if 93 == b then Refuse
+    else if 40 == b then Done Open
+    else if 41 == b then Done Close
+    else if 124 == b then Done Bar
+    else if 42 == b then Done StarSign
+    else if 43 == b then Done PlusSign
+    else if 63 == b then Done MaybeSign
+    else if 46 == b then Done (OneOf (complement (only 10)))
     else Done (OneOf (only b))
 
 -- after a backslash outside a class
@@ -39,8 +39,8 @@ closed true set = complement set
 -- where a member may begin
 unfoldable pub at_start : Bool → List ℕ → ℕ → Step
 at_start negated set b =
-    if b == 93 then Done (OneOf (closed negated set))
-    else if b == 92 then Go (Inside negated set Backslash)
+    if 93 == b then Done (OneOf (closed negated set))
+    else if 92 == b then Go (Inside negated set Backslash)
     else if is_special_in_class b then Refuse
     else Go (Inside negated set (Byte b))
 
@@ -51,12 +51,12 @@ at_backslash negated set (Some b) = Go (Inside negated set (Byte b))
 
 -- after one byte of a class, which may begin a range
 unfoldable pub at_byte : Bool → List ℕ → ℕ → ℕ → Step
-at_byte negated set low b = if b == 45 then Go (Inside negated set (Dash low)) else at_start negated (with_range set low low) b
+at_byte negated set low b = if 45 == b then Go (Inside negated set (Dash low)) else at_start negated (with_range set low low) b
 
 -- after the dash of a range
 unfoldable pub at_dash : Bool → List ℕ → ℕ → ℕ → Step
 at_dash negated set low b =
-    if b == 92 then Go (Inside negated set (DashBackslash low))
+    if 92 == b then Go (Inside negated set (DashBackslash low))
     else if is_special_in_class b then Refuse
     else Go (Inside negated (with_range set low b) Start)
 
@@ -75,7 +75,7 @@ in_class negated set (DashBackslash low) b = at_dash_backslash negated set low (
 
 -- after the bracket that opens a class
 unfoldable pub after_bracket : ℕ → Step
-after_bracket b = if b == 94 then Go (Inside true [] Start) else at_start false [] b
+after_bracket b = if 94 == b then Go (Inside true [] Start) else at_start false [] b
 
 -- what the reader does at one byte
 abbrev pub lexed : Mode → ℕ → Step

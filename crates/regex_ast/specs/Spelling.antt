@@ -1,7 +1,7 @@
 -- Which text spells which expression.
 use Rattle.std.specs.Prelude.{ℕ, ◌≡◌, Bool, true, false, ◌||◌, ◌&&◌, ◌==◌, nat_le, not, if◌then◌else◌, Option, Some, None, List, [], ◌∷◌, ◌++◌, map}
 use Rattle.std.specs.List.{concat, AllByRecursion}
-use Rattle.regex_ast.specs.Bytes.{has, bytes_where, only, with_range, complement}
+use Rattle.regex_ast.specs.Bytes.{has, only, with_range, complement}
 use Rattle.regex_ast.specs.Expressions.{Expression, class, sequence, choice, star, plus, maybe}
 use Rattle.regex_ast.specs.declared.lexer.Piece.{Piece}
 use Rattle.regex_ast.specs.declared.lexer.Piece.TheVariants.{OneOf, Open, Close, Bar, StarSign, PlusSign, MaybeSign}
@@ -44,7 +44,7 @@ pub data AreMembers : List ℕ → List ℕ → Type 0 where
 pub data IsPiece : List ℕ → Piece → Type 0 where
   atom : {b : ℕ} → is_special b ≡ false → IsPiece (b ∷ []) (OneOf (only b))
   escape : {e b : ℕ} → escape_of e ≡ Some b → IsPiece (92 ∷ e ∷ []) (OneOf (only b))
-  dot : IsPiece (46 ∷ []) (OneOf (bytes_where (λ b. not (b == 10))))
+  dot : IsPiece (46 ∷ []) (OneOf (complement (only 10)))
   members : {t set : List ℕ} → AreMembers t set → IsPiece (91 ∷ t ++ 93 ∷ []) (OneOf set)
   others : {t set : List ℕ} → AreMembers t set → IsPiece (91 ∷ 94 ∷ t ++ 93 ∷ []) (OneOf (complement set))
   opening : IsPiece (40 ∷ []) Open
