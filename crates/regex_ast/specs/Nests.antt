@@ -1,13 +1,15 @@
 -- The reader's state, and how one byte changes it.
-use Rattle.std.specs.Prelude.{ℕ, suc, ◌+◌, Bool, true, false, nat_le, Option, Some, None, option_and_then, List, [], ◌∷◌, length, map, reverse}
+use Rattle.std.specs.Prelude.{ℕ, suc, ◌+◌, Bool, true, false, nat_le, Option, Some, None, option_and_then, List, [], ◌∷◌, length, take, ◌≡◌, ◌<◌, Result, Ok, Err}
 use Rattle.std.specs.Option.{option_map}
-use Rattle.regex_ast.specs.Expressions.{Expression, class, sequence, choice, star, plus, maybe, tree_of}
+use Rattle.regex_ast.specs.Expressions.{Expression, class, sequence, choice, star, plus, maybe}
 use Rattle.regex_ast.specs.Lexing.{lexed}
+use Rattle.regex_ast.specs.declared.bad_regex.BadRegex.{BadRegex}
+use Rattle.regex_ast.specs.declared.bad_regex.BadRegex.TheVariants.{Shape, EmptyClass, TooDeep, TooManyPositions, NoMemory}
 use Rattle.regex_ast.specs.declared.findings.Findings.{Findings}
 use Rattle.regex_ast.specs.declared.lexer.Piece.{Piece}
 use Rattle.regex_ast.specs.declared.lexer.Piece.TheVariants.{OneOf, Open, Close, Bar, StarSign, PlusSign, MaybeSign}
 use Rattle.regex_ast.specs.declared.lexer.Mode.{Mode}
-use Rattle.regex_ast.specs.declared.lexer.Mode.TheVariants.{Between}
+use Rattle.regex_ast.specs.declared.lexer.Mode.TheVariants.{Between, Escaped, Opened, Inside}
 use Rattle.regex_ast.specs.declared.lexer.Step.{Step}
 use Rattle.regex_ast.specs.declared.lexer.Step.TheVariants.{Refuse, Go, Done}
 
@@ -109,3 +111,45 @@ after_byte (reading m s f start) at b = stepped (lexed m b) s f start (suc at)
 abbrev pub after_bytes : State → ℕ → List ℕ → Option State
 after_bytes s at [] = Some s
 after_bytes s at (b ∷ bs) = option_and_then (λ t. after_bytes t (suc at) bs) (after_byte s at b)
+
+-- before the first byte
+abbrev pub nothing_found : Findings
+nothing_found = record { classes = 0; empty = None; deep = None; many = None }
+
+abbrev pub first_state : State
+first_state = reading Between (levels [] None None None) nothing_found 0
+
+-- the expression, or the first limit that it breaks
+abbrev pub judged : Option ℕ → Option ℕ → Option ℕ → Expression → Result Expression BadRegex
+judged (Some at) deep many e = Err (EmptyClass at)
+judged None (Some at) many e = Err (TooDeep at)
+judged None None (Some at) e = Err (TooManyPositions at)
+judged None None None e = Ok e
+
+abbrev pub judged_if_whole : Option Expression → Findings → ℕ → Result Expression BadRegex
+judged_if_whole None f end = Err (Shape end)
+judged_if_whole (Some e) f end = judged f.empty f.deep f.many e
+
+-- the answer where the text ends in this state
+abbrev pub answer_of : State → (end : ℕ) → Result Expression BadRegex
+answer_of (reading Between s f start) end = judged_if_whole (finished s) f end
+answer_of (reading Escaped s f start) end = Err (Shape end)
+answer_of (reading Opened s f start) end = Err (Shape end)
+answer_of (reading (Inside negated set place) s f start) end = Err (Shape end)
+
+-- the byte at this offset may not stand there, or memory ran out
+abbrev pub StopsAt : Option State → ℕ → BadRegex → Type 0
+StopsAt after at (Shape offset) = (offset ≡ at) × (after ≡ None)
+StopsAt after at (EmptyClass offset) = ⊥
+StopsAt after at (TooDeep offset) = ⊥
+StopsAt after at (TooManyPositions offset) = ⊥
+StopsAt after at NoMemory = Unit {0}
+
+-- some byte of the text may not stand there, or memory ran out
+abbrev pub Stops : List ℕ → BadRegex → Type 0
+Stops text (Shape at) =
+    (at < length text) × ((s : State) × (after_bytes first_state 0 (take at text) ≡ Some s)) × (after_bytes first_state 0 (take (at + 1) text) ≡ None)
+Stops text (EmptyClass at) = ⊥
+Stops text (TooDeep at) = ⊥
+Stops text (TooManyPositions at) = ⊥
+Stops text NoMemory = Unit {0}

@@ -1,4 +1,4 @@
-ghost use Rattle.std.specs.Prelude.{◌≡◌, ◌<◌, ◌+◌, ◌^◌, None};
+ghost use Rattle.std.specs.Prelude.{◌≡◌, ◌<◌, ◌+◌, ◌^◌, ◌≤◌, None};
 ghost use Rattle.regex_ast.specs.Nests.{noted};
 
 use crate::lexer::Piece;
@@ -37,7 +37,8 @@ impl Findings {
     /// Takes note of a piece that begins at the offset `at`, inside `depth` parentheses.
     pub(crate) fn note(&mut self, piece: &Piece, depth: usize, at: u32)
         requires { self.old.classes + 1 < 2 ^ 32 }
-        ensures { self.new ≡ noted piece.now depth at self.old }
+        ensures noted { self.new ≡ noted piece.now depth at self.old }
+        ensures few { self.new.classes ≤ self.old.classes + 1 }
     {
         match piece {
             Piece::OneOf(set) => {

@@ -1,7 +1,7 @@
-ghost use Rattle.std.specs.Prelude.{◌≡◌, ◌<◌, ◌≤◌, ◌+◌, ◌^◌, ◌⊎◌, None, Some, length, IfOk, IfErr, MatchResult, [], ◌∷◌};
+ghost use Rattle.std.specs.Prelude.{◌≡◌, ◌<◌, ◌≤◌, ◌+◌, ◌^◌, ◌⊎◌, Some, Ok, Err, length, IfOk, IfErr, MatchResult};
 ghost use Rattle.regex_ast.specs.Expressions.{Expression, tree_of};
-ghost use Rattle.regex_ast.specs.Nests.{reading, levels, after_byte, after_bytes, finished};
-ghost use Rattle.regex_ast.specs.Held.{state_of, nest_of};
+ghost use Rattle.regex_ast.specs.Nests.{first_state, after_byte, after_bytes, answer_of, judged, StopsAt, Stops};
+ghost use Rattle.regex_ast.specs.Held.{state_of};
 ghost use Rattle.regex_ast.specs.Refusals.{SpellsWithinLimits, IsCause};
 
 use std::alloc::Global;
@@ -24,6 +24,8 @@ pub(crate) struct Reader {
 
 impl Reader {
     fn new(alloc: Global) -> Self
+        ensures state { state_of result ≡ first_state }
+        ensures few { result.findings.classes ≡ 0 }
     {
         Reader {
             mode: Mode::Between,
@@ -35,7 +37,11 @@ impl Reader {
 
     /// Reads the byte at the offset `at`.
     fn read(self, alloc: Global, at: u32, byte: u8) -> Result<Reader, BadRegex>
-        requires { self.findings.classes + 1 < 2 ^ 32 }
+        requires few { self.findings.classes + 1 < 2 ^ 32 }
+        requires before { at + 1 < 2 ^ 32 }
+        ensures stands { IfOk result (λ next. after_byte (state_of self) at byte ≡ Some (state_of next)) }
+        ensures few { IfOk result (λ next. next.findings.classes ≤ self.findings.classes + 1) }
+        ensures stops { IfErr result (λ refusal. StopsAt (after_byte (state_of self) at byte) at refusal) }
     {
         let Reader {
             mode,
@@ -70,7 +76,10 @@ impl Reader {
     }
 
     /// The expression, where the text ends at the offset `end`.
-    fn finish(self, alloc: Global, end: u32) -> Result<Regex, BadRegex> {
+    fn finish(self, alloc: Global, end: u32) -> Result<Regex, BadRegex>
+        ensures read { IfOk result (λ regex. answer_of (state_of self) end ≡ Ok (tree_of regex)) }
+        ensures refused { IfErr result (λ refusal. (refusal ≡ BadRegex.NoMemory) ⊎ (answer_of (state_of self) end ≡ Err refusal)) }
+    {
         let Reader {
             mode,
             stack,
@@ -88,7 +97,10 @@ impl Reader {
     }
 }
 
-fn within_limits(regex: Regex, findings: Findings) -> Result<Regex, BadRegex> {
+fn within_limits(regex: Regex, findings: Findings) -> Result<Regex, BadRegex>
+    ensures read { IfOk result (λ kept. judged findings.empty findings.deep findings.many (tree_of regex) ≡ Ok (tree_of kept)) }
+    ensures refused { IfErr result (λ refusal. judged findings.empty findings.deep findings.many (tree_of regex) ≡ Err refusal) }
+{
     if let Some(offset) = findings.empty {
         return Err(BadRegex::EmptyClass { offset });
     }
@@ -114,9 +126,19 @@ pub fn read_regex(alloc: Global, text: &[u8]) -> Result<Regex, BadRegex>
     }
     ensures exact { IfErr result (λ refusal. IsCause text.now refusal) }
 {
+    let reader = read_bytes(alloc, text)?;
+    reader.finish(alloc, text.len() as u32)
+}
+
+/// Reads each byte of the text.
+fn read_bytes(alloc: Global, text: &[u8]) -> Result<Reader, BadRegex>
+    requires { length text.now ≤ 248 }
+    ensures stands { IfOk result (λ reader. after_bytes first_state 0 text.now ≡ Some (state_of reader)) }
+    ensures stops { IfErr result (λ refusal. Stops text.now refusal) }
+{
     let mut reader = Reader::new(alloc);
     for (at, byte) in text.iter().enumerate() {
         reader = reader.read(alloc, at as u32, *byte)?;
     }
-    reader.finish(alloc, text.len() as u32)
+    Ok(reader)
 }
