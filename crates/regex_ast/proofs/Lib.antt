@@ -1,6 +1,7 @@
 pub mod LinkLemmas
 pub mod MarkLemmas
 pub mod PieceLemmas
+pub mod ReadLemmas
 pub mod RowLemmas
 pub mod SetLemmas
 pub mod TableLemmas
