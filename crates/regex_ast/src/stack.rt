@@ -81,6 +81,7 @@ impl Stack {
         }
     }
 
+    /// One more factor.
     fn push(self, alloc: Global, next: Regex) -> Result<Option<Stack>, AllocError>
         ensures { IfOk result (λ s. option_map nest_of s ≡ pushed (tree_of next) (nest_of self)) }
     {
@@ -99,6 +100,7 @@ impl Stack {
         }))
     }
 
+    /// A level inside this one.
     fn open(self, alloc: Global) -> Result<Option<Stack>, AllocError>
         ensures { IfOk result (λ s. option_map nest_of s ≡ put Piece.Open (nest_of self)) }
     {
@@ -118,6 +120,7 @@ impl Stack {
         }))
     }
 
+    /// The level around this one, with this one as its last factor.
     fn close(self, alloc: Global) -> Result<Option<Stack>, AllocError>
         ensures { IfOk result (λ s. option_map nest_of s ≡ put Piece.Close (nest_of self)) }
     {
@@ -142,6 +145,7 @@ impl Stack {
         }
     }
 
+    /// One more branch.
     fn bar(self, alloc: Global) -> Result<Option<Stack>, AllocError>
         ensures { IfOk result (λ s. option_map nest_of s ≡ put Piece.Bar (nest_of self)) }
     {
@@ -151,17 +155,18 @@ impl Stack {
             branch,
             factor,
         } = self;
-        match factor {
-            None => Ok(None),
-            Some(factor) => Ok(Some(Stack {
-                outer,
-                choice: Some(close_level(alloc, choice, branch, factor)?),
-                branch: None,
-                factor: None,
-            })),
-        }
+        let Some(factor) = factor else {
+            return Ok(None);
+        };
+        Ok(Some(Stack {
+            outer,
+            choice: Some(close_level(alloc, choice, branch, factor)?),
+            branch: None,
+            factor: None,
+        }))
     }
 
+    /// A sign after the last factor.
     fn star(self, alloc: Global) -> Result<Option<Stack>, AllocError>
         ensures { IfOk result (λ s. option_map nest_of s ≡ put Piece.StarSign (nest_of self)) }
     {
@@ -171,17 +176,19 @@ impl Stack {
             branch,
             factor,
         } = self;
-        match factor {
-            None => Ok(None),
-            Some(factor) => Ok(Some(Stack {
-                outer,
-                choice,
-                branch,
-                factor: Some(Regex::Star(Box::new(alloc, factor)?)),
-            })),
-        }
+        let Some(factor) = factor else {
+            return Ok(None);
+        };
+        let factor = Some(Regex::Star(Box::new(alloc, factor)?));
+        Ok(Some(Stack {
+            outer,
+            choice,
+            branch,
+            factor,
+        }))
     }
 
+    /// A sign after the last factor.
     fn plus(self, alloc: Global) -> Result<Option<Stack>, AllocError>
         ensures { IfOk result (λ s. option_map nest_of s ≡ put Piece.PlusSign (nest_of self)) }
     {
@@ -191,17 +198,19 @@ impl Stack {
             branch,
             factor,
         } = self;
-        match factor {
-            None => Ok(None),
-            Some(factor) => Ok(Some(Stack {
-                outer,
-                choice,
-                branch,
-                factor: Some(Regex::Plus(Box::new(alloc, factor)?)),
-            })),
-        }
+        let Some(factor) = factor else {
+            return Ok(None);
+        };
+        let factor = Some(Regex::Plus(Box::new(alloc, factor)?));
+        Ok(Some(Stack {
+            outer,
+            choice,
+            branch,
+            factor,
+        }))
     }
 
+    /// A sign after the last factor.
     fn maybe(self, alloc: Global) -> Result<Option<Stack>, AllocError>
         ensures { IfOk result (λ s. option_map nest_of s ≡ put Piece.MaybeSign (nest_of self)) }
     {
@@ -211,15 +220,16 @@ impl Stack {
             branch,
             factor,
         } = self;
-        match factor {
-            None => Ok(None),
-            Some(factor) => Ok(Some(Stack {
-                outer,
-                choice,
-                branch,
-                factor: Some(Regex::Maybe(Box::new(alloc, factor)?)),
-            })),
-        }
+        let Some(factor) = factor else {
+            return Ok(None);
+        };
+        let factor = Some(Regex::Maybe(Box::new(alloc, factor)?));
+        Ok(Some(Stack {
+            outer,
+            choice,
+            branch,
+            factor,
+        }))
     }
 }
 
