@@ -41,7 +41,7 @@ AreCuts-append : (cuts more : List Cut) → AreCuts cuts → AreCuts more → Ar
 AreCuts-append [] more h k = k
 AreCuts-append (d ∷ cuts) more h k = (h.0, AreCuts-append cuts more h.1 k)
 
-count-snoc : (f : Cut → Bool) (cuts : List Cut) (c : Cut) → count_by f (cuts ++ c ∷ []) ≡ count_by f cuts + (if f c then 1 else 0)
+pub count-snoc : (f : Cut → Bool) (cuts : List Cut) (c : Cut) → count_by f (cuts ++ c ∷ []) ≡ count_by f cuts + (if f c then 1 else 0)
 count-snoc f cuts c = sum_by-append (λ x. cond (f x) 1 0) cuts (c ∷ []) ∙ ap (λ n. count_by f cuts + n) (zero-add (cond (f c) 1 0))
 
 none_some : {A : Type 0} {x : A} → None ≡ Some x → ⊥

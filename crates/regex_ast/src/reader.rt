@@ -1,5 +1,5 @@
 ghost use Rattle.std.specs.Prelude.{◌≡◌, ◌<◌, ◌≤◌, ◌+◌, ◌^◌, ◌⊎◌, Some, Ok, Err, length, IfOk, IfErr, MatchResult};
-ghost use Rattle.regex_ast.specs.Expressions.{Expression, tree_of};
+ghost use Rattle.regex_ast.specs.Expressions.{Expression, tree_of, class_count};
 ghost use Rattle.regex_ast.specs.Nests.{first_state, after_byte, after_bytes, answer_of, judged, StopsAt, Stops};
 ghost use Rattle.regex_ast.specs.Held.{state_of};
 ghost use Rattle.regex_ast.specs.Refusals.{SpellsWithinLimits, IsCause};
@@ -125,6 +125,7 @@ pub fn read_regex(alloc: Global, text: &[u8]) -> Result<Regex, BadRegex>
         MatchResult result (λ regex. tree_of regex ≡ e) (λ refusal. refusal ≡ BadRegex.NoMemory)
     }
     ensures exact { IfErr result (λ refusal. IsCause text.now refusal) }
+    ensures few { IfOk result (λ regex. class_count (tree_of regex) ≤ 200) }
 {
     let reader = read_bytes(alloc, text)?;
     reader.finish(alloc, text.len() as u32)

@@ -1,6 +1,5 @@
 -- Both directions go by the cases of the expression.
 use Rattle.regex_ast.specs.Expressions.{classes_of}
-use Rattle.regex_ast.proofs.ReadLemmas.{stop_is_cause}
 use Rattle.regex_ast.proofs.MarkLemmas.{marked, matched, AreAt-own}
 use Rattle.regex_ast.proofs.laws.words_and_marked_words.Goals as goal
 

@@ -2,6 +2,7 @@
 use Rattle.std.proofs.lemmas.Result.{err_from_is_err_and, IfOk-weaker}
 use Rattle.regex_ast.specs.Expressions.{tree_of}
 use Rattle.regex_ast.specs.Held.{state_of}
+use Rattle.regex_ast.proofs.CountLemmas.{within_few}
 use Rattle.regex_ast.proofs.ReadLemmas.{not_stopped, stop_is_cause, found_answer, only_answer, only_match, cause_match}
 use Rattle.regex_ast.proofs.reader.read_regex.Goals as goal
 
@@ -25,3 +26,7 @@ returns-clause-only c = λ e h.
 
 pub returns-clause-exact : goal.returns-clause-exact
 returns-clause-exact c = cause_match c.finish.result c.args.text.now (state_of c.in_ok-reader.reader) c.in_ok-reader.ensures.stands c.finish.ensures.refused
+
+pub returns-clause-few : goal.returns-clause-few
+returns-clause-few c =
+    IfOk-weaker c.finish.result _ _ (λ r k. within_few c.args.text.now (tree_of r) (found_answer c.args.text.now (state_of c.in_ok-reader.reader) _ (tree_of r) c.in_ok-reader.ensures.stands k)) c.finish.ensures.read
