@@ -1,6 +1,6 @@
 -- The classes of an expression are those of its text.
-use Rattle.std.proofs.Common.{◌≡◌, ℕ, ◌+◌, ◌<◌, ◌≤◌, Bool, true, false, cond, if◌then◌else◌, List, [], ◌∷◌, ◌++◌, refl, sym, ap, ◌∙◌, subst, append_assoc, append-nil, arith, ◌⊎◌, inl, inr, count_by}
-use Rattle.std.proofs.lemmas.Bool.{cases_lt, cases_Bool}
+use Rattle.std.proofs.Common.{◌≡◌, ℕ, ◌+◌, ◌<◌, ◌≤◌, false, if◌then◌else◌, List, [], ◌∷◌, ◌++◌, refl, sym, ap, ◌∙◌, subst, append_assoc, arith, inl, inr, count_by}
+use Rattle.std.proofs.lemmas.Bool.{cases_lt}
 use Rattle.regex_ast.specs.Expressions.{Expression, class_count}
 use Rattle.regex_ast.specs.Spelling.{Cut, pieces_of, SpellsChoice, SpellsBranch, SpellsFactor, one_branch, more_branches, one_factor, more_factors, one_class, group, starred, repeated, optional}
 use Rattle.regex_ast.specs.Refusals.{is_class, IsOneTooMany, NoPlace, SpellsWithinLimits}
@@ -58,7 +58,7 @@ few_classes [] done few none = omega arith
 few_classes ((t, OneOf set) ∷ cuts) done few none =
     let here : count_by is_class (done ++ (t, OneOf set) ∷ []) ≡ count_by is_class done + 1 = count-snoc is_class done (t, OneOf set) in
     let below : count_by is_class done < 200 =
-      elim (cases_lt (count_by is_class done) 200) [ inl h ↦ h | inr h ↦ absurd (none done (t, OneOf set) cuts refl (refl, h)) ] in
+    elim (cases_lt (count_by is_class done) 200) [ inl h ↦ h | inr h ↦ absurd (none done (t, OneOf set) cuts refl (refl, h)) ] in
     omega (arith, few_classes cuts (done ++ (t, OneOf set) ∷ []) (omega arith) (subst (NoPlace IsOneTooMany) (sym (append_assoc done ((t, OneOf set) ∷ []) cuts)) none))
 few_classes ((t, Open) ∷ cuts) done few none = others_few cuts done (t, Open) refl few none (few_classes cuts (done ++ (t, Open) ∷ []))
 few_classes ((t, Close) ∷ cuts) done few none = others_few cuts done (t, Close) refl few none (few_classes cuts (done ++ (t, Close) ∷ []))

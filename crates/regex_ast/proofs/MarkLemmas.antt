@@ -1,5 +1,5 @@
 -- Words and marked words.
-use Rattle.std.proofs.Common.{◌≡◌, ℕ, suc, zero, ◌+◌, List, [], ◌∷◌, ◌++◌, length, IsTrue, slice_index_or, refl, sym, ap, ◌∙◌, subst, ◌⊎◌, inl, inr, arith, append_assoc, append-nil, length-append}
+use Rattle.std.proofs.Common.{◌≡◌, ℕ, ◌+◌, List, [], ◌∷◌, ◌++◌, length, IsTrue, slice_index_or, refl, sym, ap, ◌∙◌, subst, inl, inr, append_assoc, append-nil, length-append}
 use Rattle.std.specs.List.{concat, AllByRecursion, AllZip}
 use Rattle.regex_ast.specs.Bytes.{has}
 use Rattle.regex_ast.specs.Expressions.{Expression, class, sequence, choice, star, plus, maybe, class_count, classes_of}
@@ -48,11 +48,12 @@ at_length (f ∷ front) set back = at_length front set back
 two_at : (a b : Expression) → ((front back : List (List ℕ)) → AreAt (front ++ (classes_of a ++ back)) (length front) a)
     → ((front back : List (List ℕ)) → AreAt (front ++ (classes_of b ++ back)) (length front) b)
     → (front back : List (List ℕ)) → AreAt (front ++ ((classes_of a ++ classes_of b) ++ back)) (length front) a × AreAt (front ++ ((classes_of a ++ classes_of b) ++ back)) (length front + class_count a) b
-two_at a b one two front back =
-    (subst (λ cs. AreAt cs (length front) a) (ap (λ t. front ++ t) (sym (append_assoc (classes_of a) (classes_of b) back))) (one front (classes_of b ++ back)),
-     subst (λ n. AreAt (front ++ ((classes_of a ++ classes_of b) ++ back)) n b) (length-append front (classes_of a) ∙ ap (λ n. length front + n) (length-classes_of a))
-     (subst (λ cs. AreAt cs (length (front ++ classes_of a)) b) (append_assoc front (classes_of a) (classes_of b ++ back) ∙ ap (λ t. front ++ t) (sym (append_assoc (classes_of a) (classes_of b) back)))
-      (two (front ++ classes_of a) back)))
+two_at a b one two front back = (
+  subst (λ cs. AreAt cs (length front) a) (ap (λ t. front ++ t) (sym (append_assoc (classes_of a) (classes_of b) back))) (one front (classes_of b ++ back)),
+  subst (λ n. AreAt (front ++ ((classes_of a ++ classes_of b) ++ back)) n b) (length-append front (classes_of a) ∙ ap (λ n. length front + n) (length-classes_of a))
+      (subst (λ cs. AreAt cs (length (front ++ classes_of a)) b) (append_assoc front (classes_of a) (classes_of b ++ back) ∙ ap (λ t. front ++ t) (sym (append_assoc (classes_of a) (classes_of b) back)))
+      (two (front ++ classes_of a) back)),
+)
 
 classes_at : (e : Expression) (front back : List (List ℕ)) → AreAt (front ++ (classes_of e ++ back)) (length front) e
 classes_at (class set) front back = at_length front set back
@@ -105,9 +106,11 @@ marked cs n (star a) at w h =
     (concat x.0, (x.0, x.1, refl), subst (λ t. AllZip (Holds cs) (concat x.0) t) (sym h.2) x.2)
 marked cs n (plus a) at w h =
     let one = marked cs n a at h.0 h.2.0 in
-    let rest = pieces_marked cs (Matches a) (MarksFrom n a) (λ u k. marked cs n a at u k) h.1 h.2.1 in
-    (one.0 ++ concat rest.0, (one.0, rest.0, (one.1, rest.1), refl),
-     subst (λ t. AllZip (Holds cs) (one.0 ++ concat rest.0) t) (sym h.3) (AllZip-join cs one.0 (concat rest.0) h.0 (concat h.1) one.2 rest.2))
+    let rest = pieces_marked cs (Matches a) (MarksFrom n a) (λ u k. marked cs n a at u k) h.1 h.2.1 in (
+      one.0 ++ concat rest.0,
+      (one.0, rest.0, (one.1, rest.1), refl),
+      subst (λ t. AllZip (Holds cs) (one.0 ++ concat rest.0) t) (sym h.3) (AllZip-join cs one.0 (concat rest.0) h.0 (concat h.1) one.2 rest.2),
+    )
 marked cs n (maybe a) at w (inl h) = ([], inl refl, subst (λ t. AllZip (Holds cs) [] t) (sym h) tt)
 marked cs n (maybe a) at w (inr h) = let x = marked cs n a at w h in (x.0, inr x.1, x.2)
 

@@ -1,7 +1,7 @@
 -- The bytes of a text are cut into its pieces.
-use Rattle.std.proofs.Common.{◌≡◌, ℕ, ◌+◌, suc, Bool, true, false, ◌||◌, ◌==◌, if◌then◌else◌, cond, Option, Some, None, List, [], ◌∷◌, ◌++◌, refl, sym, ap, ◌∙◌, subst, append_assoc, append-nil, arith, length}
-use Rattle.std.proofs.lemmas.Bool.{eqb-true, eqb-false, eq-eqb, ne_eqb, true≢false}
-use Rattle.regex_ast.specs.Bytes.{has, only, with_range, complement}
+use Rattle.std.proofs.Common.{◌≡◌, ℕ, Bool, true, false, ◌||◌, ◌==◌, if◌then◌else◌, Option, Some, None, List, [], ◌∷◌, ◌++◌, refl, sym, ap, ◌∙◌, subst, append_assoc, append-nil}
+use Rattle.std.proofs.lemmas.Bool.{eqb-true, true≢false}
+use Rattle.regex_ast.specs.Bytes.{only, with_range, complement}
 use Rattle.regex_ast.specs.Spelling.{is_special, is_special_in_class, escape_of, IsClassByte, plain, escaped, IsMember, single, range, AreMembers, no_member, one_more, IsPiece, atom, escape, dot, members, others, opening, closing, bar, star_sign, plus_sign, maybe_sign}
 use Rattle.regex_ast.specs.Lexing.{after_piece, after_backslash, after_bracket, closed, at_start, at_backslash, at_byte, at_dash, at_dash_backslash, in_class, lexed}
 use Rattle.regex_ast.specs.declared.lexer.Piece.{Piece}
@@ -106,10 +106,11 @@ start_ready negated set b e f = refl
 
 member_moves : (negated : Bool) (set t : List ℕ) (low high : ℕ) (m : Mode) → Ready negated set m → IsMember t low high → (n : Mode) × Moves m t n × Ready negated (with_range set low high) n
 member_moves negated set t low high m ready (single {t = x} {b = y} h) = (Inside negated set (Byte y), low_moves negated set x y m ready h, at_byte-else negated set y)
-member_moves negated set t low high m ready (range {t = x} {u = y} {low = l} {high = g} h k) =
-    (Inside negated (with_range set l g) Start,
-     Moves-join x (45 ∷ y) m (Inside negated set (Byte l)) _ (low_moves negated set x l m ready h) (Inside negated set (Dash l), at_byte-dash negated set l, high_moves negated set y l g k),
-     start_ready negated (with_range set l g))
+member_moves negated set t low high m ready (range {t = x} {u = y} {low = l} {high = g} h k) = (
+  Inside negated (with_range set l g) Start,
+  Moves-join x (45 ∷ y) m (Inside negated set (Byte l)) _ (low_moves negated set x l m ready h) (Inside negated set (Dash l), at_byte-dash negated set l, high_moves negated set y l g k),
+  start_ready negated (with_range set l g),
+)
 
 members_move : (negated : Bool) (m : Mode) → Ready negated [] m → {t set : List ℕ} → AreMembers t set → (n : Mode) × Moves m t n × Ready negated set n
 members_move negated m ready no_member = (m, refl, ready)
@@ -190,10 +191,10 @@ start_result negated set u t b h e =
     pick (Result (t ++ b ∷ [])) (93 == b) _ _
     (λ k. subst (λ x. IsPiece x (OneOf (closed negated set))) (sym (moved ∙ ap (λ y. bracket negated ++ (u ++ y ∷ [])) (sym (byte_is 93 b k)))) (closed_piece negated u set h))
     (λ k. pick (Result (t ++ b ∷ [])) (92 == b) _ _
-      (λ l. (u, b ∷ [], h, ap (λ y. y ∷ []) (sym (byte_is 92 b l)), moved))
-      (λ l. pick (Result (t ++ b ∷ [])) (is_special_in_class b) _ _
-        (λ s. tt)
-        (λ s. (u, b ∷ [], h, plain s, moved))))
+    (λ l. (u, b ∷ [], h, ap (λ y. y ∷ []) (sym (byte_is 92 b l)), moved))
+    (λ l. pick (Result (t ++ b ∷ [])) (is_special_in_class b) _ _
+    (λ s. tt)
+    (λ s. (u, b ∷ [], h, plain s, moved))))
 
 -- one more member, and the text so far
 with_member : (negated : Bool) (u v t : List ℕ) → t ≡ bracket negated ++ (u ++ v) → (x : List ℕ) → t ++ x ≡ bracket negated ++ (u ++ (v ++ x))
@@ -218,17 +219,26 @@ dash_result negated set u v t low b h k at =
     pick (Result (t ++ b ∷ [])) (92 == b) _ _
     (λ e. (u, v ++ b ∷ [], h, (k.0, k.1, ended ∙ ap (λ y. k.0 ++ 45 ∷ y ∷ []) (sym (byte_is 92 b e))), with_member negated u v t at (b ∷ [])))
     (λ e. pick (Result (t ++ b ∷ [])) (is_special_in_class b) _ _
-      (λ s. tt)
-      (λ s. (u ++ (k.0 ++ 45 ∷ b ∷ []), [], one_more h (range k.1 (plain s)), refl,
-        with_member negated u v t at (b ∷ []) ∙ ap (λ y. bracket negated ++ (u ++ y)) ended ∙ ap (λ y. bracket negated ++ y) (sym (append-nil (u ++ (k.0 ++ 45 ∷ b ∷ [])))))))
+    (λ s. tt)
+    (λ s. (
+      u ++ (k.0 ++ 45 ∷ b ∷ []),
+      [],
+      one_more h (range k.1 (plain s)),
+      refl,
+      with_member negated u v t at (b ∷ []) ∙ ap (λ y. bracket negated ++ (u ++ y)) ended ∙ ap (λ y. bracket negated ++ y) (sym (append-nil (u ++ (k.0 ++ 45 ∷ b ∷ [])))),
+    )))
 
 dash_backslash_result : (negated : Bool) (set u v t : List ℕ) (low e : ℕ) → AreMembers u set → ((w : List ℕ) × IsClassByte w low × (v ≡ w ++ 45 ∷ 92 ∷ [])) → t ≡ bracket negated ++ (u ++ v)
     → (o : Option ℕ) → escape_of e ≡ o → Result (t ++ e ∷ []) (at_dash_backslash negated set low o)
 dash_backslash_result negated set u v t low e h k at None s = tt
 dash_backslash_result negated set u v t low e h k at (Some b) s =
-    let ended : v ++ e ∷ [] ≡ k.0 ++ 45 ∷ 92 ∷ e ∷ [] = ap (λ y. y ++ e ∷ []) k.2 ∙ append_assoc k.0 (45 ∷ 92 ∷ []) (e ∷ []) in
-    (u ++ (k.0 ++ 45 ∷ 92 ∷ e ∷ []), [], one_more h (range k.1 (escaped s)), refl,
-     with_member negated u v t at (e ∷ []) ∙ ap (λ y. bracket negated ++ (u ++ y)) ended ∙ ap (λ y. bracket negated ++ y) (sym (append-nil (u ++ (k.0 ++ 45 ∷ 92 ∷ e ∷ [])))))
+    let ended : v ++ e ∷ [] ≡ k.0 ++ 45 ∷ 92 ∷ e ∷ [] = ap (λ y. y ++ e ∷ []) k.2 ∙ append_assoc k.0 (45 ∷ 92 ∷ []) (e ∷ []) in (
+      u ++ (k.0 ++ 45 ∷ 92 ∷ e ∷ []),
+      [],
+      one_more h (range k.1 (escaped s)),
+      refl,
+      with_member negated u v t at (e ∷ []) ∙ ap (λ y. bracket negated ++ (u ++ y)) ended ∙ ap (λ y. bracket negated ++ y) (sym (append-nil (u ++ (k.0 ++ 45 ∷ 92 ∷ e ∷ [])))),
+    )
 
 place_result : (negated : Bool) (set u v t : List ℕ) (place : Place) (b : ℕ) → AreMembers u set → At v place → t ≡ bracket negated ++ (u ++ v) → Result (t ++ b ∷ []) (in_class negated set place b)
 place_result negated set u v t Start b h k at = start_result negated set u t b h (at ∙ ap (λ y. bracket negated ++ (u ++ y)) k ∙ ap (λ y. bracket negated ++ y) (append-nil u))
@@ -264,7 +274,7 @@ first_result b =
     pick (Result (b ∷ [])) (43 == b) _ _ (λ e. is_piece 43 b PlusSign e plus_sign) (λ e7.
     pick (Result (b ∷ [])) (63 == b) _ _ (λ e. is_piece 63 b MaybeSign e maybe_sign) (λ e8.
     pick (Result (b ∷ [])) (46 == b) _ _ (λ e. is_piece 46 b (OneOf (complement (only 10))) e dot) (λ e9.
-      atom (or_none (92 == b) _ e0 (or_none (91 == b) _ e1 (or_none (93 == b) _ e2 (or_none (40 == b) _ e3 (or_none (41 == b) _ e4 (or_none (124 == b) _ e5 (or_none (42 == b) _ e6 (or_none (43 == b) _ e7 (or_none (63 == b) _ e8 (or_none (46 == b) _ e9 refl))))))))))))))))))))
+    atom (or_none (92 == b) _ e0 (or_none (91 == b) _ e1 (or_none (93 == b) _ e2 (or_none (40 == b) _ e3 (or_none (41 == b) _ e4 (or_none (124 == b) _ e5 (or_none (42 == b) _ e6 (or_none (43 == b) _ e7 (or_none (63 == b) _ e8 (or_none (46 == b) _ e9 refl))))))))))))))))))))
 
 -- one more byte
 pub byte_read : (t : List ℕ) (m : Mode) (b : ℕ) → Partial t m → Result (t ++ b ∷ []) (lexed m b)
@@ -281,11 +291,13 @@ escape_n = refl
 -- a class is completed after a whole member, and whatever comes before
 close_class : (negated : Bool) (u v t more set : List ℕ) (low high : ℕ) → AreMembers u set → t ≡ bracket negated ++ (u ++ v) → IsMember (v ++ more) low high
     → (rest : List ℕ) × (s : List ℕ) × IsPiece (t ++ rest) (OneOf s)
-close_class negated u v t more set low high h at k =
-    (more ++ 93 ∷ [], closed negated (with_range set low high),
-     subst (λ x. IsPiece x (OneOf (closed negated (with_range set low high))))
-     (ap (λ y. bracket negated ++ y) (append_assoc u (v ++ more) (93 ∷ []) ∙ ap (λ y. u ++ y) (append_assoc v more (93 ∷ []))) ∙ sym (with_member negated u v t at (more ++ 93 ∷ [])))
-     (closed_piece negated (u ++ (v ++ more)) (with_range set low high) (one_more h k)))
+close_class negated u v t more set low high h at k = (
+  more ++ 93 ∷ [],
+  closed negated (with_range set low high),
+  subst (λ x. IsPiece x (OneOf (closed negated (with_range set low high))))
+      (ap (λ y. bracket negated ++ y) (append_assoc u (v ++ more) (93 ∷ []) ∙ ap (λ y. u ++ y) (append_assoc v more (93 ∷ []))) ∙ sym (with_member negated u v t at (more ++ 93 ∷ [])))
+      (closed_piece negated (u ++ (v ++ more)) (with_range set low high) (one_more h k)),
+)
 
 place_completes : (negated : Bool) (u v t set : List ℕ) (place : Place) → AreMembers u set → At v place → t ≡ bracket negated ++ (u ++ v) → (rest : List ℕ) × (s : List ℕ) × IsPiece (t ++ rest) (OneOf s)
 place_completes negated u v t set Start h k at =

@@ -1,16 +1,15 @@
 -- What the reader does is what the text spells.
-use Rattle.std.proofs.Common.{◌≡◌, ℕ, ◌+◌, ◌-◌, ◌<◌, ◌≤◌, suc, Bool, true, false, ◌==◌, nat_le, if◌then◌else◌, cond, Option, Some, None, Result, Ok, Err, MatchResult, IfOk, IfErr, option_and_then, List, [], ◌∷◌, ◌++◌, refl, sym, ap, ◌∙◌, subst, append_assoc, append-nil, arith, length, length-append, length-take, take, drop, map, ◌⊎◌, inl, inr, get_or, count_by, take-append-drop, zero-add}
+use Rattle.std.proofs.Common.{◌≡◌, ℕ, ◌+◌, ◌-◌, ◌<◌, ◌≤◌, suc, Bool, true, false, nat_le, if◌then◌else◌, cond, Option, Some, None, Result, Ok, Err, MatchResult, IfOk, IfErr, option_and_then, List, [], ◌∷◌, ◌++◌, refl, sym, ap, ◌∙◌, subst, append_assoc, append-nil, arith, length, length-append, length-take, take, drop, ◌⊎◌, inl, inr, get_or, count_by, take-append-drop, zero-add}
 use Rattle.std.proofs.lemmas.List.Sums.{sum_by-append}
-use Rattle.std.specs.List.{concat, AllByRecursion}
 use Rattle.std.specs.Option.{option_map}
-use Rattle.std.proofs.lemmas.Bool.{true≢false, false≢true, leb-true, le-leb}
+use Rattle.std.proofs.lemmas.Bool.{false≢true, leb-true, le-leb}
 use Rattle.std.proofs.lemmas.List.{take_more}
-use Rattle.regex_ast.specs.Expressions.{Expression, class, sequence, choice, star, plus, maybe, tree_of}
+use Rattle.regex_ast.specs.Expressions.{Expression, star, plus, maybe, tree_of}
 use Rattle.regex_ast.specs.declared.regex.Regex.{Regex}
-use Rattle.regex_ast.specs.Spelling.{Cut, text_of, pieces_of, AreCuts, IsPiece, SpellsChoice, SpellsInCuts, SpellsExpression}
-use Rattle.regex_ast.specs.Refusals.{HasContinuation, IsBrokenAt, is_class, is_opening, is_closing, depth_after, IsEmptyClass, IsTooDeep, IsOneTooMany, NoPlace, IsFirstPlace, IsWithinLimits, SpellsWithinLimits, SpellsWith, IsCause}
+use Rattle.regex_ast.specs.Spelling.{Cut, text_of, pieces_of, AreCuts, IsPiece, SpellsInCuts}
+use Rattle.regex_ast.specs.Refusals.{HasContinuation, IsBrokenAt, is_class, is_opening, is_closing, IsEmptyClass, IsTooDeep, IsOneTooMany, NoPlace, IsFirstPlace, IsWithinLimits, SpellsWithinLimits, IsCause}
 use Rattle.regex_ast.specs.Lexing.{lexed}
-use Rattle.regex_ast.specs.Nests.{Layer, Nest, levels, put, signed, finished, depth_of, first_of, is_nil, noted, State, reading, accepted, stepped, after_byte, after_bytes, nothing_found, first_state, judged, judged_if_whole, answer_of, Stops, StopsAt}
+use Rattle.regex_ast.specs.Nests.{Nest, levels, put, signed, finished, depth_of, first_of, is_nil, noted, State, reading, accepted, stepped, after_byte, after_bytes, nothing_found, first_state, judged, judged_if_whole, answer_of, Stops, StopsAt}
 use Rattle.regex_ast.specs.declared.bad_regex.BadRegex.{BadRegex}
 use Rattle.regex_ast.specs.declared.bad_regex.BadRegex.TheVariants.{Shape, EmptyClass, TooDeep, TooManyPositions, NoMemory}
 use Rattle.regex_ast.specs.declared.findings.Findings.{Findings}
@@ -21,7 +20,7 @@ use Rattle.regex_ast.specs.declared.lexer.Mode.TheVariants.{Between, Escaped, Op
 use Rattle.regex_ast.specs.declared.lexer.Place.{Place}
 use Rattle.regex_ast.specs.declared.lexer.Step.{Step}
 use Rattle.regex_ast.specs.declared.lexer.Step.TheVariants.{Refuse, Go, Done}
-use Rattle.regex_ast.proofs.PieceLemmas.{Moves, Completes, piece_completes, Partial, Result as Becomes, byte_read, partial_completes}
+use Rattle.regex_ast.proofs.PieceLemmas.{Moves, piece_completes, Partial, Result as Becomes, byte_read, partial_completes}
 use Rattle.regex_ast.proofs.RowLemmas.{puts, bottom, puts_then, spelled_put, finished_spelled, can_finish}
 
 -- ---- lists of cuts
@@ -78,14 +77,16 @@ snoc_place (d ∷ cuts) [] after cut c e = let k : c ≡ d = cc in inr (cuts, ap
 snoc_place (d ∷ cuts) (x ∷ before) after cut c e =
     let k : x ≡ d = cc in let l : cuts ++ cut ∷ [] ≡ before ++ c ∷ after = cc in
     elim (snoc_place cuts before after cut c l) [
-      inl r ↦ inl (ap (λ y. y ∷ before) k ∙ ap (λ y. d ∷ y) r.0, r.1)
-    | inr r ↦ inr (r.0, ap (λ y. y ∷ cuts) (sym k) ∙ ap (λ y. x ∷ y) r.1) ]
+      | inl r ↦ inl (ap (λ y. y ∷ before) k ∙ ap (λ y. d ∷ y) r.0, r.1)
+      | inr r ↦ inr (r.0, ap (λ y. y ∷ cuts) (sym k) ∙ ap (λ y. x ∷ y) r.1)
+    ]
 
 no_more_place : (Bad : List Cut → Cut → Type 0) (cuts : List Cut) (cut : Cut) → NoPlace Bad cuts → (Bad cuts cut → ⊥) → NoPlace Bad (cuts ++ cut ∷ [])
 no_more_place Bad cuts cut none fine before c after e bad =
     elim (snoc_place cuts before after cut c e) [
-      inl r ↦ fine (subst (λ x. Bad x cut) r.0 (subst (λ x. Bad before x) r.1 bad))
-    | inr r ↦ none before c r.0 r.1 bad ]
+      | inl r ↦ fine (subst (λ x. Bad x cut) r.0 (subst (λ x. Bad before x) r.1 bad))
+      | inr r ↦ none before c r.0 r.1 bad
+    ]
 
 found_more : (Bad : List Cut → Cut → Type 0) (cuts : List Cut) (cut : Cut) (o : Option ℕ) (test : Bool) → FoundAt Bad cuts o → (test ≡ true → Bad cuts cut) → (Bad cuts cut → test ≡ true)
     → FoundAt Bad (cuts ++ cut ∷ []) (first_of o test (length (text_of cuts)))
@@ -123,7 +124,8 @@ same_found cuts t p f h other full level = record {
   counted = h.counted ∙ sym (count-snoc is_class cuts (t, p) ∙ ap (λ x. count_by is_class cuts + (if x then 1 else 0)) other ∙ plus_none (count_by is_class cuts));
   empties = found_same IsEmptyClass cuts (t, p) f.empty h.empties full;
   deeps = found_same IsTooDeep cuts (t, p) f.deep h.deeps (λ b. level b.0);
-  manies = found_same IsOneTooMany cuts (t, p) f.many h.manies (λ b. false≢true (sym other ∙ b.0)) }
+  manies = found_same IsOneTooMany cuts (t, p) f.many h.manies (λ b. false≢true (sym other ∙ b.0));
+}
 
 noted_found : (cuts : List Cut) (t : List ℕ) (p : Piece) (s : Nest) (f : Findings) → FoundIn cuts f → AsDeep cuts s → FoundIn (cuts ++ (t, p) ∷ []) (noted p (depth_of s) (length (text_of cuts)) f)
 unfolding AsDeep
@@ -132,14 +134,16 @@ noted_found cuts t (OneOf set) s f h d = record {
   empties = found_more IsEmptyClass cuts (t, OneOf set) f.empty (is_nil set) h.empties (nil_true set) (true_nil set);
   deeps = found_same IsTooDeep cuts (t, OneOf set) f.deep h.deeps (λ b. let k : OneOf set ≡ Open = b.0 in cc);
   manies = found_more IsOneTooMany cuts (t, OneOf set) f.many (nat_le 200 f.classes) h.manies
-    (λ e. (refl, subst (λ n. 200 ≤ n) h.counted (leb-true 200 f.classes e))) (λ b. le-leb 200 f.classes (subst (λ n. 200 ≤ n) (sym h.counted) b.1)) }
+      (λ e. (refl, subst (λ n. 200 ≤ n) h.counted (leb-true 200 f.classes e))) (λ b. le-leb 200 f.classes (subst (λ n. 200 ≤ n) (sym h.counted) b.1));
+}
 noted_found cuts t Open s f h d = record {
   counted = h.counted ∙ sym (count-snoc is_class cuts (t, Open) ∙ plus_none (count_by is_class cuts));
   empties = found_same IsEmptyClass cuts (t, Open) f.empty h.empties (λ b. let k : Open ≡ OneOf [] = b in cc);
   deeps = found_more IsTooDeep cuts (t, Open) f.deep (nat_le 64 (depth_of s)) h.deeps
-    (λ e. (refl, subst (λ n. 64 ≤ n) (sym (depth_is (count_by is_opening cuts) (count_by is_closing cuts) (depth_of s) d)) (leb-true 64 (depth_of s) e)))
-    (λ b. le-leb 64 (depth_of s) (subst (λ n. 64 ≤ n) (depth_is (count_by is_opening cuts) (count_by is_closing cuts) (depth_of s) d) b.1));
-  manies = found_same IsOneTooMany cuts (t, Open) f.many h.manies (λ b. false≢true b.0) }
+      (λ e. (refl, subst (λ n. 64 ≤ n) (sym (depth_is (count_by is_opening cuts) (count_by is_closing cuts) (depth_of s) d)) (leb-true 64 (depth_of s) e)))
+      (λ b. le-leb 64 (depth_of s) (subst (λ n. 64 ≤ n) (depth_is (count_by is_opening cuts) (count_by is_closing cuts) (depth_of s) d) b.1));
+  manies = found_same IsOneTooMany cuts (t, Open) f.many h.manies (λ b. false≢true b.0);
+}
 noted_found cuts t Close s f h d = same_found cuts t Close f h refl (λ k. let k' : Close ≡ OneOf [] = k in cc) (λ k. let k' : Close ≡ Open = k in cc)
 noted_found cuts t Bar s f h d = same_found cuts t Bar f h refl (λ k. let k' : Bar ≡ OneOf [] = k in cc) (λ k. let k' : Bar ≡ Open = k in cc)
 noted_found cuts t StarSign s f h d = same_found cuts t StarSign f h refl (λ k. let k' : StarSign ≡ OneOf [] = k in cc) (λ k. let k' : StarSign ≡ Open = k in cc)
@@ -198,13 +202,17 @@ piece_reads : (text : List ℕ) (s : Nest) (f : Findings) (start : ℕ) (cuts : 
 unfolding Reads
 piece_reads text s f start cuts t p None u are is piece at found deep begins e g = absurd (none_some g)
 piece_reads text s f start cuts t p (Some x) u are is piece at found deep begins e g =
-    subst (Reads text) (some_same g)
-    (cuts ++ (t, p) ∷ [], [], AreCuts-append cuts ((t, p) ∷ []) are (piece, tt),
-     ap (puts bottom) (pieces_of-append cuts ((t, p) ∷ [])) ∙ puts_then (pieces_of cuts) (p ∷ []) bottom s is ∙ ap (λ y. option_and_then (λ z. Some z) y) e,
-     refl, at ∙ sym (text_of-snoc cuts (t, p)) ∙ sym (append-nil (text_of (cuts ++ (t, p) ∷ []))),
-     subst (λ n. FoundIn (cuts ++ (t, p) ∷ []) (noted p (depth_of s) n f)) (sym begins) (noted_found cuts t p s f found deep),
-     put_deep cuts t p s x e deep,
-     ap length (at ∙ sym (text_of-snoc cuts (t, p))))
+    subst (Reads text) (some_same g) (
+      cuts ++ (t, p) ∷ [],
+      [],
+      AreCuts-append cuts ((t, p) ∷ []) are (piece, tt),
+      ap (puts bottom) (pieces_of-append cuts ((t, p) ∷ [])) ∙ puts_then (pieces_of cuts) (p ∷ []) bottom s is ∙ ap (λ y. option_and_then (λ z. Some z) y) e,
+      refl,
+      at ∙ sym (text_of-snoc cuts (t, p)) ∙ sym (append-nil (text_of (cuts ++ (t, p) ∷ []))),
+      subst (λ n. FoundIn (cuts ++ (t, p) ∷ []) (noted p (depth_of s) n f)) (sym begins) (noted_found cuts t p s f found deep),
+      put_deep cuts t p s x e deep,
+      ap length (at ∙ sym (text_of-snoc cuts (t, p))),
+    )
 
 -- one more byte
 step_reads : (text : List ℕ) (b : ℕ) (s : Nest) (f : Findings) (start : ℕ) (cuts : List Cut) (rest : List ℕ) (step : Step) (u : State)
@@ -274,18 +282,21 @@ cut_put done cuts c s t f (Some u) is e found deep h rest =
     let g = noted c.1 (depth_of s) n f in
     let r = rest u g (noted_found done c.0 c.1 s f found deep) (put_deep done c.0 c.1 s u e deep) h in
     let long : length (text_of (done ++ c ∷ [])) ≡ n + length c.0 = ap length (text_of-snoc done c) ∙ length-append (text_of done) c.0 in
-    let ends : length (text_of (done ++ c ∷ [])) + length (text_of cuts) ≡ n + length (c.0 ++ text_of cuts) = omega (arith, long, length-append c.0 (text_of cuts)) in
-    (r.0,
-     cut_run c.0 (text_of cuts) c.1 s f n is
-     ∙ ap (λ o. option_and_then (λ x. after_bytes x (n + length c.0) (text_of cuts)) (option_map (λ x. reading Between x g (n + length c.0)) o)) e
-     ∙ ap (λ k. after_bytes (reading Between u g k) k (text_of cuts)) (sym long) ∙ r.1 ∙ ap (λ k. Some (reading Between t r.0 k)) ends,
-     subst (λ x. FoundIn x r.0) (append_assoc done (c ∷ []) cuts) r.2)
+    let ends : length (text_of (done ++ c ∷ [])) + length (text_of cuts) ≡ n + length (c.0 ++ text_of cuts) = omega (arith, long, length-append c.0 (text_of cuts)) in (
+      r.0,
+      cut_run c.0 (text_of cuts) c.1 s f n is
+          ∙ ap (λ o. option_and_then (λ x. after_bytes x (n + length c.0) (text_of cuts)) (option_map (λ x. reading Between x g (n + length c.0)) o)) e
+          ∙ ap (λ k. after_bytes (reading Between u g k) k (text_of cuts)) (sym long) ∙ r.1 ∙ ap (λ k. Some (reading Between t r.0 k)) ends,
+      subst (λ x. FoundIn x r.0) (append_assoc done (c ∷ []) cuts) r.2,
+    )
 
 cuts_run : (cuts done : List Cut) (s t : Nest) (f : Findings) → AreCuts cuts → FoundIn done f → AsDeep done s → puts s (pieces_of cuts) ≡ Some t → After done cuts s f t
 unfolding After
-cuts_run [] done s t f are found deep h =
-    (f, ap (λ x. Some (reading Between x f (length (text_of done)))) (some_same h) ∙ ap (λ k. Some (reading Between t f k)) (sym (plus_none (length (text_of done)))),
-     subst (λ x. FoundIn x f) (sym (append-nil done)) found)
+cuts_run [] done s t f are found deep h = (
+  f,
+  ap (λ x. Some (reading Between x f (length (text_of done)))) (some_same h) ∙ ap (λ k. Some (reading Between t f k)) (sym (plus_none (length (text_of done)))),
+  subst (λ x. FoundIn x f) (sym (append-nil done)) found,
+)
 cuts_run (c ∷ cuts) done s t f are found deep h =
     cut_put done cuts c s t f (put c.1 s) are.0 refl found deep h (λ u g k l m. cuts_run cuts (done ++ c ∷ []) u t g are.1 k l m)
 
@@ -322,13 +333,20 @@ unfolding Reads
 continued front (reading m s f start) h =
     let piece = partial_completes h.1 m h.4 in
     let end = can_finish s piece.1 in
-    let cuts = h.0 ++ (h.1 ++ piece.0, OneOf piece.1) ∷ end.0 in
-    (piece.0 ++ text_of end.0, end.2, (cuts,
-      (ap (λ x. x ++ (piece.0 ++ text_of end.0)) h.5 ∙ append_assoc (text_of h.0) h.1 (piece.0 ++ text_of end.0)
-        ∙ ap (λ x. text_of h.0 ++ x) (sym (append_assoc h.1 piece.0 (text_of end.0))) ∙ sym (text_of-append h.0 ((h.1 ++ piece.0, OneOf piece.1) ∷ end.0)),
-       AreCuts-append h.0 ((h.1 ++ piece.0, OneOf piece.1) ∷ end.0) h.2 (piece.2, end.3),
-       finished_spelled (pieces_of cuts) end.1 end.2
-         (ap (puts bottom) (pieces_of-append h.0 ((h.1 ++ piece.0, OneOf piece.1) ∷ end.0)) ∙ puts_then (pieces_of h.0) (OneOf piece.1 ∷ pieces_of end.0) bottom s h.3 ∙ end.4) end.5)))
+    let cuts = h.0 ++ (h.1 ++ piece.0, OneOf piece.1) ∷ end.0 in (
+      piece.0 ++ text_of end.0,
+      end.2,
+      (
+        cuts,
+        (
+          ap (λ x. x ++ (piece.0 ++ text_of end.0)) h.5 ∙ append_assoc (text_of h.0) h.1 (piece.0 ++ text_of end.0)
+              ∙ ap (λ x. text_of h.0 ++ x) (sym (append_assoc h.1 piece.0 (text_of end.0))) ∙ sym (text_of-append h.0 ((h.1 ++ piece.0, OneOf piece.1) ∷ end.0)),
+          AreCuts-append h.0 ((h.1 ++ piece.0, OneOf piece.1) ∷ end.0) h.2 (piece.2, end.3),
+          finished_spelled (pieces_of cuts) end.1 end.2
+              (ap (puts bottom) (pieces_of-append h.0 ((h.1 ++ piece.0, OneOf piece.1) ∷ end.0)) ∙ puts_then (pieces_of h.0) (OneOf piece.1 ∷ pieces_of end.0) bottom s h.3 ∙ end.4) end.5,
+        ),
+      ),
+    )
 
 -- ---- the answers
 no_place_found : (Bad : List Cut → Cut → Type 0) (cuts : List Cut) (o : Option ℕ) → FoundAt Bad cuts o → NoPlace Bad cuts → o ≡ None
@@ -360,9 +378,12 @@ not_stopped text e NoMemory h k = refl
 
 -- where a byte may not stand
 pub stop_is_cause : (text : List ℕ) (refusal : BadRegex) → Stops text refusal → IsCause text refusal
-stop_is_cause text (Shape at) k =
-    (omega (arith, k.0), continued (take at text) k.1.0 (all_read (take at text) k.1.0 k.1.1), (λ l. stopped (take (at + 1) text) k.2),
-     λ e h. stopped (take (at + 1) text) k.2 (drop (at + 1) text, e, (h.0, subst (λ x. SpellsInCuts x h.0 e) (sym (take-append-drop (at + 1) text)) h.1)))
+stop_is_cause text (Shape at) k = (
+  omega (arith, k.0),
+  continued (take at text) k.1.0 (all_read (take at text) k.1.0 k.1.1),
+  (λ l. stopped (take (at + 1) text) k.2),
+  λ e h. stopped (take (at + 1) text) k.2 (drop (at + 1) text, e, (h.0, subst (λ x. SpellsInCuts x h.0 e) (sym (take-append-drop (at + 1) text)) h.1)),
+)
 stop_is_cause text (EmptyClass at) k = absurd k
 stop_is_cause text (TooDeep at) k = absurd k
 stop_is_cause text (TooManyPositions at) k = absurd k
@@ -417,9 +438,12 @@ take_whole [] = refl
 take_whole (x ∷ xs) = ap (λ t. x ∷ t) (take_whole xs)
 
 broken_end : (text : List ℕ) (s : State) → after_bytes first_state 0 text ≡ Some s → NotWhole s → IsBrokenAt text (length text)
-broken_end text s e not_whole =
-    (omega arith, subst HasContinuation (sym (take_whole text)) (continued text s (all_read text s e)), (λ h. absurd (omega arith)),
-     λ x h. let r = spelled_read text h.0 x h.1 in not_whole r.0 r.1 r.2 x (some_same (sym e ∙ r.3)) r.4)
+broken_end text s e not_whole = (
+  omega arith,
+  subst HasContinuation (sym (take_whole text)) (continued text s (all_read text s e)),
+  (λ h. absurd (omega arith)),
+  λ x h. let r = spelled_read text h.0 x h.1 in not_whole r.0 r.1 r.2 x (some_same (sym e ∙ r.3)) r.4,
+)
 
 ok_err : {A B : Type 0} {x : A} {y : B} → ◌≡◌ {A = Result A B} (Ok x) (Err y) → ⊥
 ok_err e = cc

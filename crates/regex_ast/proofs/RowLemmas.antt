@@ -1,9 +1,8 @@
 -- The stack of the reader holds what the pieces spell.
 use Rattle.std.proofs.Common.{◌≡◌, ℕ, Option, Some, None, option_and_then, List, [], ◌∷◌, ◌++◌, refl, sym, ap, ◌∙◌, subst, append_assoc, append-nil}
-use Rattle.regex_ast.specs.Bytes.{only}
 use Rattle.regex_ast.specs.Expressions.{Expression, class, sequence, choice, star, plus, maybe}
-use Rattle.regex_ast.specs.Spelling.{Cut, pieces_of, text_of, AreCuts, IsPiece, atom, closing, SpellsChoice, SpellsBranch, SpellsFactor, one_branch, more_branches, one_factor, more_factors, one_class, group, starred, repeated, optional}
-use Rattle.regex_ast.specs.Nests.{Layer, Nest, levels, joined, settled, chosen, whole, pushed, signed, put, finished}
+use Rattle.regex_ast.specs.Spelling.{Cut, pieces_of, AreCuts, closing, SpellsChoice, SpellsBranch, SpellsFactor, one_branch, more_branches, one_factor, more_factors, one_class, group, starred, repeated, optional}
+use Rattle.regex_ast.specs.Nests.{Layer, Nest, levels, joined, settled, chosen, whole, signed, put, finished}
 use Rattle.regex_ast.specs.declared.lexer.Piece.{Piece}
 use Rattle.regex_ast.specs.declared.lexer.Piece.TheVariants.{OneOf, Open, Close, Bar, StarSign, PlusSign, MaybeSign}
 
@@ -127,13 +126,25 @@ piece_holds ps Open (levels o c b f) h =
     (ps ++ Open ∷ [], [], [], (h.0, h.1 ++ h.2, h.3, layer_settled h.1 h.2 c b f h.4 h.5, ap (λ t. t ++ Open ∷ []) h.6 ∙ last_moved h.0 h.1 h.2 Open), no_layer, refl, sym (append-nil (ps ++ Open ∷ [])))
 piece_holds ps Close (levels [] c b f) h = tt
 piece_holds ps Close (levels (l ∷ o) c b None) h = tt
-piece_holds ps Close (levels (l ∷ o) c b (Some e)) h =
-    (h.3.0, h.3.1, Open ∷ ((h.1 ++ h.2) ++ Close ∷ []), h.3.2, h.3.3, group (layer_whole h.1 h.2 c b e h.4 h.5),
-     ap (λ t. t ++ Close ∷ []) (h.6 ∙ ap (λ t. t ++ (h.1 ++ h.2)) h.3.4) ∙ grouped h.3.0 h.3.1 (h.1 ++ h.2))
+piece_holds ps Close (levels (l ∷ o) c b (Some e)) h = (
+  h.3.0,
+  h.3.1,
+  Open ∷ ((h.1 ++ h.2) ++ Close ∷ []),
+  h.3.2,
+  h.3.3,
+  group (layer_whole h.1 h.2 c b e h.4 h.5),
+  ap (λ t. t ++ Close ∷ []) (h.6 ∙ ap (λ t. t ++ (h.1 ++ h.2)) h.3.4) ∙ grouped h.3.0 h.3.1 (h.1 ++ h.2),
+)
 piece_holds ps Bar (levels o c b None) h = tt
-piece_holds ps Bar (levels o c b (Some e)) h =
-    (h.0, (h.1 ++ h.2) ++ Bar ∷ [], [], h.3, ((h.1 ++ h.2) ++ Bar ∷ [], [], (h.1 ++ h.2, layer_whole h.1 h.2 c b e h.4 h.5, refl), refl, sym (append-nil ((h.1 ++ h.2) ++ Bar ∷ []))), refl,
-     ap (λ t. t ++ Bar ∷ []) h.6 ∙ last_moved h.0 h.1 h.2 Bar ∙ ap (λ t. h.0 ++ t) (sym (append-nil ((h.1 ++ h.2) ++ Bar ∷ []))))
+piece_holds ps Bar (levels o c b (Some e)) h = (
+  h.0,
+  (h.1 ++ h.2) ++ Bar ∷ [],
+  [],
+  h.3,
+  ((h.1 ++ h.2) ++ Bar ∷ [], [], (h.1 ++ h.2, layer_whole h.1 h.2 c b e h.4 h.5, refl), refl, sym (append-nil ((h.1 ++ h.2) ++ Bar ∷ []))),
+  refl,
+  ap (λ t. t ++ Bar ∷ []) h.6 ∙ last_moved h.0 h.1 h.2 Bar ∙ ap (λ t. h.0 ++ t) (sym (append-nil ((h.1 ++ h.2) ++ Bar ∷ []))),
+)
 piece_holds ps StarSign s h = signed_holds star StarSign (λ zs e k. starred k) ps s h
 piece_holds ps PlusSign s h = signed_holds plus PlusSign (λ zs e k. repeated k) ps s h
 piece_holds ps MaybeSign s h = signed_holds maybe MaybeSign (λ zs e k. optional k) ps s h

@@ -1,12 +1,10 @@
 -- What is in a set of bytes.
-use Rattle.std.proofs.Common.{◌≡◌, ◌≢◌, ℕ, suc, zero, ◌+◌, ◌-◌, ◌*◌, ◌^◌, ◌<◌, ◌≤◌, ◌/◌, ◌%◌, max, Bool, true, false, ◌||◌, ◌&&◌, ◌==◌, not, nat_le, nat_lt, nat_eq, List, [], ◌∷◌, filter, length, get_or, slice_index, refl, sym, ap, ◌∙◌, arith, rules, bit_or, w64, ◌⊎◌, inl, inr, subst, slice_set as set}
-use Rattle.std.specs.Int.{bit_at, bit_not}
-use Rattle.std.proofs.lemmas.Grind.{common_steps}
+use Rattle.std.proofs.Common.{◌≡◌, ℕ, suc, zero, ◌+◌, ◌-◌, ◌*◌, ◌^◌, ◌<◌, ◌≤◌, ◌/◌, ◌%◌, max, Bool, true, false, ◌||◌, ◌&&◌, ◌==◌, not, nat_le, nat_lt, List, [], ◌∷◌, filter, length, get_or, slice_index, refl, sym, ap, ◌∙◌, arith, bit_or, w64, inl, inr, subst, slice_set as set}
+use Rattle.std.specs.Int.{bit_at}
 use Rattle.std.proofs.lemmas.Bool.Decides.{nat_tests}
 use Rattle.std.proofs.lemmas.Bool.{cases_lt, cases_eq, eq-eqb, ne_eqb, le-ltb, eqb-false, eqb-true, and_parts}
 use Rattle.std.proofs.lemmas.List.{get_or-set_same, get_or-set_other}
-use Rattle.std.proofs.lemmas.Grind.{same_number_lists}
-use Rattle.std.proofs.lemmas.Nat.Bits.{same_from_bits_below, bit_at_or, bit_at_not, bit_at-lt, bit_at-zero, bit_at_set_same, bit_at_set_other, shr_and_one}
+use Rattle.std.proofs.lemmas.Nat.Bits.{same_from_bits_below, bit_at_or, bit_at_not, bit_at-lt, bit_at-zero, bit_at_set_same, bit_at_set_other}
 use Rattle.regex_ast.specs.Bytes.{has, bytes_where, numbers_from, bit_of, with_range}
 
 -- a number is among those from n on
@@ -90,7 +88,7 @@ unfolding bit_of
 bits-or v w b h =
     by_bit
     (λ i r. (bit_at (slice_index (bit_or (slice_index v 0) (slice_index w 0) ∷ bit_or (slice_index v 1) (slice_index w 1) ∷ bit_or (slice_index v 2) (slice_index w 2) ∷ bit_or (slice_index v 3) (slice_index w 3) ∷ []) i) r == 1)
-      ≡ ((bit_at (slice_index v i) r == 1) || (bit_at (slice_index w i) r == 1)))
+    ≡ ((bit_at (slice_index v i) r == 1) || (bit_at (slice_index w i) r == 1)))
     (λ r h. or_bit (slice_index v 0) (slice_index w 0) r) (λ r h. or_bit (slice_index v 1) (slice_index w 1) r)
     (λ r h. or_bit (slice_index v 2) (slice_index w 2) r) (λ r h. or_bit (slice_index v 3) (slice_index w 3) r) b h
 
@@ -107,7 +105,7 @@ unfolding bit_of
 bits-not v small b h =
     by_bit
     (λ i r. (bit_at (slice_index ((18446744073709551615 - slice_index v 0) ∷ (18446744073709551615 - slice_index v 1) ∷ (18446744073709551615 - slice_index v 2) ∷ (18446744073709551615 - slice_index v 3) ∷ []) i) r == 1)
-      ≡ not (bit_at (slice_index v i) r == 1))
+    ≡ not (bit_at (slice_index v i) r == 1))
     (λ r h. not_bit (slice_index v 0) r (small 0 (omega arith)) h) (λ r h. not_bit (slice_index v 1) r (small 1 (omega arith)) h)
     (λ r h. not_bit (slice_index v 2) r (small 2 (omega arith)) h) (λ r h. not_bit (slice_index v 3) r (small 3 (omega arith)) h) b h
 
@@ -137,8 +135,9 @@ one_of_two (suc n) h e = absurd (eqb-false (suc n) 1 e (omega arith))
 pub has-or : (t u v : ℕ → Bool) → ((b : ℕ) → b < 256 → t b ≡ (u b || v b)) → (b : ℕ) → has (bytes_where t) b ≡ (has (bytes_where u) b || has (bytes_where v) b)
 has-or t u v same b =
     elim (cases_lt b 256) [
-      inl h ↦ has_byte t b h ∙ same b h ∙ sym (ap2 (λ x y. x || y) (has_byte u b h) (has_byte v b h))
-    | inr h ↦ has_above t b h ∙ sym (ap2 (λ x y. x || y) (has_above u b h) (has_above v b h)) ]
+      | inl h ↦ has_byte t b h ∙ same b h ∙ sym (ap2 (λ x y. x || y) (has_byte u b h) (has_byte v b h))
+      | inr h ↦ has_above t b h ∙ sym (ap2 (λ x y. x || y) (has_above u b h) (has_above v b h))
+    ]
 
 -- a bit that is set
 set_here : (v : List ℕ) (i r : ℕ) → i < length v → r < 64 → (s : ℕ)
@@ -146,9 +145,10 @@ set_here : (v : List ℕ) (i r : ℕ) → i < length v → r < 64 → (s : ℕ)
 set_here v i r within h s =
     rw get_or-set_same
     (elim (cases_eq s r) [
-      inl e ↦ subst (λ k. (bit_at (bit_or (get_or v i 0) (1 * 2 ^ r % 2 ^ 64)) k == 1) ≡ ((bit_at (get_or v i 0) k == 1) || (k == r))) (sym e)
-        (ap (λ k. k == 1) (bit_at_set_same w64 (get_or v i 0) r h) ∙ sym (or_true _ _ (eq-eqb r r refl)))
-    | inr n ↦ ap (λ k. k == 1) (bit_at_set_other w64 (get_or v i 0) r h s n) ∙ sym (or_false _ _ (ne_eqb s r n)) ])
+      | inl e ↦ subst (λ k. (bit_at (bit_or (get_or v i 0) (1 * 2 ^ r % 2 ^ 64)) k == 1) ≡ ((bit_at (get_or v i 0) k == 1) || (k == r))) (sym e)
+          (ap (λ k. k == 1) (bit_at_set_same w64 (get_or v i 0) r h) ∙ sym (or_true _ _ (eq-eqb r r refl)))
+      | inr n ↦ ap (λ k. k == 1) (bit_at_set_other w64 (get_or v i 0) r h s n) ∙ sym (or_false _ _ (ne_eqb s r n))
+    ])
 
 one_byte : (b c : ℕ) → (nat_le b c && nat_le c b) ≡ (c == b)
 one_byte b c = grind (arith, nat_tests)
@@ -162,12 +162,13 @@ unfolding bit_of
 bits-insert v b c long small =
     let within : b / 64 < length v = omega arith in
     elim (cases_eq (c / 64) (b / 64)) [
-      inl e ↦
-        subst (λ i. (bit_at (get_or (set v (b / 64) (bit_or (get_or v (b / 64) 0) (1 * 2 ^ (b % 64) % 2 ^ 64))) i 0) (c % 64) == 1) ≡ ((bit_at (get_or v i 0) (c % 64) == 1) || (nat_le b c && nat_le c b))) (sym e)
-        (set_here v (b / 64) (b % 64) within (omega arith) (c % 64) ∙ ap (λ k. (bit_at (get_or v (b / 64) 0) (c % 64) == 1) || k) (same_place b c (sym e) ∙ sym (one_byte b c)))
-    | inr n ↦
-        ap (λ w. bit_at w (c % 64) == 1) (get_or-set_other v (b / 64) (c / 64) _ 0 n)
-        ∙ sym (or_false _ _ (one_byte b c ∙ ne_eqb c b (λ e. n (ap (λ k. k / 64) e)))) ]
+      | inl e ↦
+          subst (λ i. (bit_at (get_or (set v (b / 64) (bit_or (get_or v (b / 64) 0) (1 * 2 ^ (b % 64) % 2 ^ 64))) i 0) (c % 64) == 1) ≡ ((bit_at (get_or v i 0) (c % 64) == 1) || (nat_le b c && nat_le c b))) (sym e)
+          (set_here v (b / 64) (b % 64) within (omega arith) (c % 64) ∙ ap (λ k. (bit_at (get_or v (b / 64) 0) (c % 64) == 1) || k) (same_place b c (sym e) ∙ sym (one_byte b c)))
+      | inr n ↦
+          ap (λ w. bit_at w (c % 64) == 1) (get_or-set_other v (b / 64) (c / 64) _ 0 n)
+          ∙ sym (or_false _ _ (one_byte b c ∙ ne_eqb c b (λ e. n (ap (λ k. k / 64) e))))
+    ]
 
 -- a word with no bit
 no_bits : (w : ℕ) → w < 2 ^ 64 → ((r : ℕ) → r < 64 → (bit_at w r == 1) ≡ false) → w ≡ 0
@@ -183,7 +184,7 @@ bit_in v i r h =
 pub words-zero : (v : List ℕ) → length v ≡ 4 → ((i : ℕ) → i < 4 → slice_index v i < 2 ^ 64) → bytes_where (bit_of v) ≡ [] → (i : ℕ) → i < 4 → slice_index v i ≡ 0
 words-zero v long small empty k h =
     no_bits (slice_index v k) (small k h) (λ r l.
-      sym (bit_in v k r l) ∙ sym (has_byte (bit_of v) (k * 64 + r) (omega arith)) ∙ ap (λ s. has s (k * 64 + r)) empty)
+    sym (bit_in v k r l) ∙ sym (has_byte (bit_of v) (k * 64 + r) (omega arith)) ∙ ap (λ s. has s (k * 64 + r)) empty)
 
 pub small_words : (v : List ℕ) → slice_index v 0 < 2 ^ 64 → slice_index v 1 < 2 ^ 64 → slice_index v 2 < 2 ^ 64 → slice_index v 3 < 2 ^ 64 → (i : ℕ) → i < 4 → slice_index v i < 2 ^ 64
 small_words v a b c d = by_word (λ i. slice_index v i < 2 ^ 64) a b c d
@@ -229,7 +230,7 @@ pub set_with_range : (v w set : List ℕ) (low high n : ℕ) → bytes_where (bi
     → bytes_where (bit_of w) ≡ with_range set low high
 set_with_range v w set low high n is bits all =
     bytes_where-same _ _ (λ b h.
-      bits b ∙ ap (λ k. k || (nat_le low b && nat_lt b n)) (sym (has_byte (bit_of v) b h) ∙ ap (λ s. has s b) is) ∙ all (has set b) b)
+    bits b ∙ ap (λ k. k || (nat_le low b && nat_lt b n)) (sym (has_byte (bit_of v) b h) ∙ ap (λ s. has s b) is) ∙ all (has set b) b)
 
 pub no_more : (low high : ℕ) → high < low → (s : Bool) (b : ℕ) → (s || (nat_le low b && nat_lt b low)) ≡ (s || (nat_le low b && nat_le b high))
 no_more low high h s b = no_range s low b high h

@@ -1,12 +1,12 @@
 -- Lists of positions, and the rows of a table of them.
-use Rattle.std.proofs.Common.{◌≡◌, ℕ, suc, zero, ◌+◌, ◌<◌, ◌≤◌, Bool, true, false, ◌||◌, ◌&&◌, ◌==◌, nat_lt, nat_le, cond, List, [], ◌∷◌, ◌++◌, length, slice_index, filter, refl, sym, ap, ◌∙◌, subst, ◌⊎◌, inl, inr, arith, add-one, append-nil, IsTrue, ◌↔◌, map, slice_index_or, replicate, ◌-◌, if◌then◌else◌}
+use Rattle.std.proofs.Common.{◌≡◌, ℕ, suc, zero, ◌+◌, ◌<◌, ◌≤◌, Bool, true, false, ◌||◌, ◌&&◌, ◌==◌, nat_lt, nat_le, cond, List, [], ◌∷◌, ◌++◌, length, slice_index, filter, refl, sym, ap, ◌∙◌, subst, ◌⊎◌, inl, inr, arith, add-one, append-nil, map, slice_index_or, replicate, ◌-◌, if◌then◌else◌}
 use Rattle.std.proofs.lemmas.List.{map-append, length-replicate}
 use Rattle.std.specs.List.Sorted.{IsStrictlyIncreasing}
 use Rattle.std.proofs.lemmas.Bool.{eqb-true, eq-eqb, and_parts, and_from, or_cases, false≢true, lt-ltb, ltb-true, le-leb, cases_Bool}
-use Rattle.regex_ast.specs.Bytes.{has, numbers_from, bytes_where, only}
-use Rattle.regex_ast.specs.Expressions.{Expression, class, sequence, choice, star, plus, maybe, class_count, classes_of}
-use Rattle.regex_ast.specs.Matching.{IsMarkedWord, IsMarkedLiteral}
-use Rattle.regex_ast.specs.Positions.{Begins, Ends, Succeeds, ListsExactly, Table, IsTableOf, ArePositionsOf, ArePositionsOfLiteral}
+use Rattle.regex_ast.specs.Bytes.{has, numbers_from, only}
+use Rattle.regex_ast.specs.Expressions.{Expression, sequence, star, class_count, classes_of}
+use Rattle.regex_ast.specs.Matching.{IsMarkedWord}
+use Rattle.regex_ast.specs.Positions.{Begins, Ends, Succeeds, ListsExactly, IsTableOf, ArePositionsOf, ArePositionsOfLiteral}
 use Rattle.regex_ast.proofs.MarkLemmas.{length-classes_of}
 use Rattle.regex_ast.proofs.LinkLemmas.{nullable-true, from-nullable, firsts-true, from-firsts, firsts-lt, lasts-true, from-lasts, lasts-lt, follows-true, from-follows, follows-lt}
 use Rattle.regex_ast.specs.Links.{nullable, firsts, lasts, follows, next_below}
@@ -108,7 +108,9 @@ lists_exactly t P k gives needs = record {
   members = λ p. (
     (λ h. gives p (and_parts (t p) (has (numbers_from 0 k) p) (sym (has-filter t (numbers_from 0 k) p) ∙ h)).0),
     (λ h. has-filter t (numbers_from 0 k) p ∙ and_from (t p) (has (numbers_from 0 k) p) (needs p h).0
-      (has-numbers_from 0 k p ∙ and_from (nat_le 0 p) (nat_lt p (0 + k)) (le-leb 0 p (omega arith)) (lt-ltb p (0 + k) (omega (arith, (needs p h).1)))))) }
+        (has-numbers_from 0 k p ∙ and_from (nat_le 0 p) (nat_lt p (0 + k)) (le-leb 0 p (omega arith)) (lt-ltb p (0 + k) (omega (arith, (needs p h).1))))),
+  );
+}
 
 -- what is computed part by part is the table of the expression
 pub table_of_links : (e : Expression) (count : ℕ) → class_count e ≡ count → (nil : Bool) → nil ≡ nullable e → (first last : List ℕ) (rows : List (List ℕ)) → length rows ≡ count
@@ -118,17 +120,18 @@ table_of_links e count fits nil is first last rows long f l r = record {
   classes = refl;
   nullable = ((λ h. from-nullable 0 e (sym is ∙ h)), (λ h. is ∙ nullable-true 0 e h));
   first = lists_exactly (has first) (Begins (IsMarkedWord e)) count
-    (λ p h. from-firsts 0 e p (sym (f p) ∙ h))
-    (λ p h. let k = firsts-true 0 e p h.0 h.1 in (f p ∙ k, omega (arith, (firsts-lt 0 e p k).1)));
+      (λ p h. from-firsts 0 e p (sym (f p) ∙ h))
+      (λ p h. let k = firsts-true 0 e p h.0 h.1 in (f p ∙ k, omega (arith, (firsts-lt 0 e p k).1)));
   last = lists_exactly (has last) (Ends (IsMarkedWord e)) count
-    (λ p h. from-lasts 0 e p (sym (l p) ∙ h))
-    (λ p h. let k = lasts-true 0 e p h.0 h.1 in (l p ∙ k, omega (arith, (lasts-lt 0 e p k).1)));
+      (λ p h. from-lasts 0 e p (sym (l p) ∙ h))
+      (λ p h. let k = lasts-true 0 e p h.0 h.1 in (l p ∙ k, omega (arith, (lasts-lt 0 e p k).1)));
   follow = λ q h.
-    let below : q < count = omega (arith, length-classes_of e) in
-    subst (λ xs. ListsExactly (Succeeds (IsMarkedWord e) q) xs) (sym (get_or-map (λ r. filter (has r) (numbers_from 0 count)) rows q (omega arith)))
-    (lists_exactly (has (slice_index_or rows q [])) (Succeeds (IsMarkedWord e) q) count
+      let below : q < count = omega (arith, length-classes_of e) in
+      subst (λ xs. ListsExactly (Succeeds (IsMarkedWord e) q) xs) (sym (get_or-map (λ r. filter (has r) (numbers_from 0 count)) rows q (omega arith)))
+      (lists_exactly (has (slice_index_or rows q [])) (Succeeds (IsMarkedWord e) q) count
       (λ p k. from-follows 0 e q p (sym (r q p below) ∙ k))
-      (λ p k. let m = follows-true 0 e q p k.0 k.1 k.2 in (r q p below ∙ m, omega (arith, follows-lt 0 e q p m)))) }
+      (λ p k. let m = follows-true 0 e q p k.0 k.1 k.2 in (r q p below ∙ m, omega (arith, follows-lt 0 e q p m))));
+}
 
 -- ---- a literal
 no_cons : {x : ℕ} {xs : List ℕ} → x ∷ xs ≡ [] → ⊥
@@ -165,7 +168,8 @@ none_increasing = λ k h. absurd (omega arith)
 lists_one : (n : ℕ) (P : ℕ → Type 0) → P n → ((p : ℕ) → P p → n ≡ p) → ListsExactly P (n ∷ [])
 lists_one n P here alone = record {
   ascending = one_increasing n;
-  members = λ p. ((λ h. subst P (one_number n p h) here), (λ h. subst (λ k. has (n ∷ []) k ≡ true) (alone p h) (has_own n))) }
+  members = λ p. ((λ h. subst P (one_number n p h) here), (λ h. subst (λ k. has (n ∷ []) k ≡ true) (alone p h) (has_own n)));
+}
 
 lists_none : (P : ℕ → Type 0) → ((p : ℕ) → P p → ⊥) → ListsExactly P []
 lists_none P none = record { ascending = none_increasing; members = λ p. ((λ h. absurd (false≢true h)), (λ h. absurd (none p h))) }
@@ -237,7 +241,8 @@ literal_table m sets long = record {
   nullable = ((λ h. absurd (false≢true h)), (λ h. absurd (no_cons (sym h))));
   first = lists_one 0 (Begins (InTurn m)) (numbers_from 1 m, refl) (λ p h. first_number h.1);
   last = lists_one m (Ends (InTurn m)) (numbers_from 0 m, sym (numbers_from-more 0 m ∙ ap (λ k. numbers_from 0 m ++ k ∷ []) (none_more m))) (λ p h. sym (last-numbers h.0 p 0 m h.1 ∙ none_more m));
-  follow = λ q h. subst (λ xs. ListsExactly (Succeeds (InTurn m) q) xs) (sym (row_of_numbers (next_below (suc m)) 0 (suc m) q (omega arith) ∙ ap (next_below (suc m)) (none_more q))) (next_row m q (nat_lt (q + 1) (suc m)) refl) }
+  follow = λ q h. subst (λ xs. ListsExactly (Succeeds (InTurn m) q) xs) (sym (row_of_numbers (next_below (suc m)) 0 (suc m) q (omega arith) ∙ ap (next_below (suc m)) (none_more q))) (next_row m q (nat_lt (q + 1) (suc m)) refl);
+}
 
 -- what is made of a literal is its table
 pub table_of_literal : (bytes : List ℕ) → 0 < length bytes → (first last : List ℕ) (follow sets : List (List ℕ))

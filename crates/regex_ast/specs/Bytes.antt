@@ -1,5 +1,5 @@
 -- Sets of bytes, each as the list of its bytes, which ascends.
-use Rattle.std.specs.Prelude.{ℕ, zero, suc, ◌/◌, ◌%◌, Bool, true, false, ◌||◌, ◌&&◌, ◌==◌, nat_le, not, List, [], ◌∷◌, filter, slice_index}
+use Rattle.std.specs.Prelude.{ℕ, zero, suc, ◌/◌, ◌%◌, Bool, false, ◌||◌, ◌&&◌, ◌==◌, nat_le, not, List, [], ◌∷◌, filter, slice_index}
 use Rattle.std.specs.Int.{bit_at}
 
 -- so many numbers, from the first on

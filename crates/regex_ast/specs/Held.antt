@@ -1,5 +1,5 @@
 -- What the reader's structs hold, as plain data.
-use Rattle.std.specs.Prelude.{Option, List, map, reverse}
+use Rattle.std.specs.Prelude.{Option, map, reverse}
 use Rattle.std.specs.Option.{option_map}
 use Rattle.regex_ast.specs.Expressions.{Expression, tree_of}
 use Rattle.regex_ast.specs.Nests.{Layer, Nest, levels, State, reading}

@@ -2,7 +2,6 @@
 use Rattle.std.specs.Prelude.{ℕ, Bool, true, false, ◌==◌, if◌then◌else◌, Option, Some, None, List, []}
 use Rattle.regex_ast.specs.Bytes.{only, with_range, complement}
 use Rattle.regex_ast.specs.Spelling.{is_special_in_class, escape_of}
-use Rattle.regex_ast.specs.declared.lexer.Piece.{Piece}
 use Rattle.regex_ast.specs.declared.lexer.Piece.TheVariants.{OneOf, Open, Close, Bar, StarSign, PlusSign, MaybeSign}
 use Rattle.regex_ast.specs.declared.lexer.Place.{Place}
 use Rattle.regex_ast.specs.declared.lexer.Place.TheVariants.{Start, Backslash, Byte, Dash, DashBackslash}

@@ -4,8 +4,7 @@ use Rattle.regex_ast.specs.Expressions.{Expression}
 use Rattle.regex_ast.specs.Spelling.{Cut, text_of, SpellsInCuts, SpellsExpression}
 use Rattle.regex_ast.specs.declared.bad_regex.BadRegex.{BadRegex}
 use Rattle.regex_ast.specs.declared.bad_regex.BadRegex.TheVariants.{Shape, EmptyClass, TooDeep, TooManyPositions, NoMemory}
-use Rattle.regex_ast.specs.declared.lexer.Piece.{Piece}
-use Rattle.regex_ast.specs.declared.lexer.Piece.TheVariants.{OneOf, Open, Close, Bar, StarSign, PlusSign, MaybeSign}
+use Rattle.regex_ast.specs.declared.lexer.Piece.TheVariants.{OneOf, Open, Close}
 
 -- some text after this one makes it an expression
 abbrev pub HasContinuation : List ℕ → Type 0

@@ -72,8 +72,12 @@ impl ByteSet {
     pub(crate) fn complement(self) -> Self
         ensures { result ≡ complement self }
     {
-        let ByteSet { words: [a, b, c, d] } = self;
-        ByteSet { words: [!a, !b, !c, !d] }
+        let ByteSet {
+            words: [a, b, c, d],
+        } = self;
+        ByteSet {
+            words: [!a, !b, !c, !d],
+        }
     }
 
     pub(crate) fn copy(&self) -> Self

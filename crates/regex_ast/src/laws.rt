@@ -6,5 +6,4 @@ ghost use Rattle.regex_ast.specs.Matching.{Matches, IsMarkedWord, HoldBytes};
 /// after the other.
 pub fn words_and_marked_words()
     ensures { (e : Expression) (word : List ℕ) → (Matches e word) ↔ ((marked : List ℕ) × IsMarkedWord e marked × HoldBytes (classes_of e) marked word) }
-{
-}
+{}

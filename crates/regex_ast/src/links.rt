@@ -47,10 +47,10 @@ pub(crate) fn link(regex: &Regex, base: usize, rows: &mut [ByteSet]) -> Part
             either(first, second)
         }
         Regex::Star(inner) => {
-            let mut part = link(inner, base, rows);
-            connect(rows, &part.last, &part.first);
-            part.nullable = true;
-            part
+            let mut looped = link(inner, base, rows);
+            connect(rows, &looped.last, &looped.first);
+            looped.nullable = true;
+            looped
         }
         Regex::Plus(inner) => {
             let part = link(inner, base, rows);

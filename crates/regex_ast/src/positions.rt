@@ -4,14 +4,12 @@ ghost use Rattle.regex_ast.specs.Expressions.{tree_of, class_count, classes_of};
 ghost use Rattle.regex_ast.specs.Links.{next_below};
 ghost use Rattle.regex_ast.specs.Positions.{ArePositionsOf, ArePositionsOfLiteral};
 
-use std::alloc::Global;
-use std::marker::Model;
-
-use sqlite_items::Items;
-
 use crate::byte_set::ByteSet;
 use crate::links::link;
 use crate::regex::{NoMemory, Regex};
+use sqlite_items::Items;
+use std::alloc::Global;
+use std::marker::Model;
 
 /// The positions of an expression (Glushkov, 1961): its classes, numbered from 0 from left to
 /// right, and which of them may begin a word, end one, and follow one another.
@@ -29,7 +27,7 @@ pub struct Positions {
 impl Model for Positions {
     ghost use Rattle.std.specs.Prelude.{◌≡◌, length, ◌≤◌};
     ghost use Rattle.regex_ast.specs.Links.{next_below};
-ghost use Rattle.regex_ast.specs.Positions.{Table};
+    ghost use Rattle.regex_ast.specs.Positions.{Table};
 
     ghost Value = { Table };
 

@@ -4,13 +4,12 @@ ghost use Rattle.regex_ast.specs.Nests.{first_state, after_byte, after_bytes, an
 ghost use Rattle.regex_ast.specs.Held.{state_of};
 ghost use Rattle.regex_ast.specs.Refusals.{SpellsWithinLimits, IsCause};
 
-use std::alloc::Global;
-
 use crate::bad_regex::BadRegex;
 use crate::findings::Findings;
 use crate::lexer::{Mode, Step, lex};
 use crate::regex::Regex;
 use crate::stack::Stack;
+use std::alloc::Global;
 
 /// A text that is read byte by byte.
 #[derive(Debug, Drop)]
@@ -59,9 +58,7 @@ impl Reader {
             }),
             Step::Done(piece) => {
                 findings.note(&piece, stack.depth(), start);
-                let next = stack
-                    .put(alloc, piece)
-                    .map_err(|_| BadRegex::NoMemory)?;
+                let next = stack.put(alloc, piece).map_err(|_| BadRegex::NoMemory)?;
                 match next {
                     None => Err(BadRegex::Shape { offset: at }),
                     Some(stack) => Ok(Reader {
@@ -120,10 +117,8 @@ fn within_limits(regex: Regex, findings: Findings) -> Result<Regex, BadRegex>
 pub fn read_regex(alloc: Global, text: &[u8]) -> Result<Regex, BadRegex>
     requires { length text.now ≤ 248 }
     ensures found { IfOk result (λ regex. SpellsWithinLimits text.now (tree_of regex)) }
-    ensures only {
-        (e : Expression) → SpellsWithinLimits text.now e →
-        MatchResult result (λ regex. tree_of regex ≡ e) (λ refusal. refusal ≡ BadRegex.NoMemory)
-    }
+    ensures only { (e : Expression) → SpellsWithinLimits text.now e →
+        MatchResult result (λ regex. tree_of regex ≡ e) (λ refusal. refusal ≡ BadRegex.NoMemory) }
     ensures exact { IfErr result (λ refusal. IsCause text.now refusal) }
     ensures few { IfOk result (λ regex. class_count (tree_of regex) ≤ 200) }
 {

@@ -4,10 +4,9 @@ ghost use Rattle.regex_ast.specs.Expressions.{tree_of};
 ghost use Rattle.regex_ast.specs.Nests.{levels, put, joined, chosen, settled, whole, pushed, finished, depth_of};
 ghost use Rattle.regex_ast.specs.Held.{trees_of, nest_of};
 
-use std::alloc::{AllocError, Global};
-
 use crate::lexer::Piece;
 use crate::regex::Regex;
+use std::alloc::{AllocError, Global};
 
 /// The expression so far at one level of parentheses.
 #[derive(Debug, Drop)]
@@ -239,10 +238,7 @@ fn join(alloc: Global, branch: Option<Regex>, factor: Regex) -> Result<Regex, Al
 {
     match branch {
         None => Ok(factor),
-        Some(branch) => Ok(Regex::Then(
-            Box::new(alloc, branch)?,
-            Box::new(alloc, factor)?,
-        )),
+        Some(branch) => Ok(Regex::Then(Box::new(alloc, branch)?, Box::new(alloc, factor)?)),
     }
 }
 

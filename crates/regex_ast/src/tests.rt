@@ -63,7 +63,9 @@ fn read(alloc: Global, text: &[u8]) -> Result<String, AllocError> {
         Err(BadRegex::Shape { offset }) => format!(in alloc; "Shape {offset}"),
         Err(BadRegex::EmptyClass { offset }) => format!(in alloc; "EmptyClass {offset}"),
         Err(BadRegex::TooDeep { offset }) => format!(in alloc; "TooDeep {offset}"),
-        Err(BadRegex::TooManyPositions { offset }) => format!(in alloc; "TooManyPositions {offset}"),
+        Err(BadRegex::TooManyPositions { offset }) => format!(in alloc;
+            "TooManyPositions {offset}"
+        ),
         Err(BadRegex::NoMemory) => format!(in alloc; "NoMemory"),
     }
 }
@@ -178,7 +180,11 @@ fn limits(rt: HostRuntime) -> Result<(), Fail> {
         let got = read(alloc, &text)?;
         assert_eq!(rt; got.as_str(), want, "at depth {depth}");
     }
-    for (count, want) in [(200, "[97]"), (201, "TooManyPositions 200"), (248, "TooManyPositions 200")] {
+    for (count, want) in [
+        (200, "[97]"),
+        (201, "TooManyPositions 200"),
+        (248, "TooManyPositions 200"),
+    ] {
         let text = vec![in alloc; b'a'; count]?;
         let got = read(alloc, &text)?;
         assert!(rt; got.starts_with(want), "at {count} classes");

@@ -1,5 +1,5 @@
-use Rattle.std.proofs.Common.{rules, ◌≡◌, ℕ, List, ◌∙◌, sym, ap, ◌<◌, ◌^◌, not, slice_index, arith}
-use Rattle.regex_ast.specs.Bytes.{has, bit_of, bytes_where}
+use Rattle.std.proofs.Common.{◌∙◌, sym, ap, ◌<◌, ◌^◌, not, slice_index, arith}
+use Rattle.regex_ast.specs.Bytes.{bit_of}
 use Rattle.regex_ast.proofs.SetLemmas.{has_byte, bits-not, bytes_where-same, small_words}
 use Rattle.regex_ast.proofs.byte_set.ByteSet.complement.Goals as goal
 
@@ -11,4 +11,4 @@ returns c =
     let z : slice_index c.self.inside.words 3 < 2 ^ 64 = omega arith in
     rw (← c.self.view_is)
     (bytes_where-same _ _ (λ b h.
-      bits-not c.self.inside.words (small_words _ w x y z) b h ∙ ap not (sym (has_byte (bit_of c.self.inside.words) b h))))
+    bits-not c.self.inside.words (small_words _ w x y z) b h ∙ ap not (sym (has_byte (bit_of c.self.inside.words) b h))))

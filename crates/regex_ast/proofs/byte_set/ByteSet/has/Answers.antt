@@ -1,7 +1,7 @@
 -- The bit of the byte says whether it is in the set.
-use Rattle.std.proofs.Common.{rules, ◌≡◌, ℕ, List, ◌∙◌, sym, ap, ◌<◌, ◌==◌, nat_eq, ◌/◌, ◌%◌, slice_index, arith}
+use Rattle.std.proofs.Common.{sym, ◌<◌, arith}
 use Rattle.std.proofs.lemmas.Nat.Bits.{shr_and_one}
-use Rattle.regex_ast.specs.Bytes.{has, bit_of, bytes_where}
+use Rattle.regex_ast.specs.Bytes.{bit_of}
 use Rattle.regex_ast.proofs.SetLemmas.{has_byte}
 use Rattle.regex_ast.proofs.byte_set.ByteSet.has.Goals as goal
 

@@ -1,4 +1,3 @@
-use Rattle.std.proofs.Common.{rules, ◌≡◌, ℕ, List, ◌∙◌, sym, ap, ◌<◌, bit_or, slice_index, arith, [], ◌∷◌}
 use Rattle.regex_ast.specs.Bytes.{bit_of}
 use Rattle.regex_ast.proofs.SetLemmas.{has-or, bits-or}
 use Rattle.regex_ast.proofs.byte_set.ByteSet.union.Goals as goal

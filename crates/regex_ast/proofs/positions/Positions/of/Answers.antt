@@ -1,6 +1,5 @@
 -- What is computed part by part is the table of the expression.
-use Rattle.std.proofs.Common.{arith, ◌≡◌, ◌∙◌, ap, sym, length, refl, subst, List, ℕ, filter, map, replicate, []}
-use Rattle.regex_ast.specs.Bytes.{has, numbers_from}
+use Rattle.std.proofs.Common.{◌≡◌, ◌∙◌, ap, sym, length, refl, replicate, []}
 use Rattle.regex_ast.specs.Expressions.{tree_of, class_count}
 use Rattle.regex_ast.proofs.TableLemmas.{table_is, rows_from_none, rows_are}
 use Rattle.regex_ast.proofs.positions.Positions.of.Goals as goal

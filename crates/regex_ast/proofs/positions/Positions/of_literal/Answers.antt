@@ -1,6 +1,5 @@
 -- The numbers of a literal stand in line.
-use Rattle.std.proofs.Common.{arith, ap, sym, ◌≡◌, ◌∙◌, ◌-◌, ◌∷◌, [], length, refl, map}
-use Rattle.regex_ast.specs.Bytes.{only, numbers_from}
+use Rattle.std.proofs.Common.{arith, ap, sym, ◌≡◌, ◌∙◌, length}
 use Rattle.regex_ast.specs.Links.{next_below}
 use Rattle.regex_ast.proofs.TableLemmas.{table_of_literal, length_rows, length_only}
 use Rattle.regex_ast.proofs.positions.Positions.of_literal.Goals as goal
