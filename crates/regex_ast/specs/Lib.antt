@@ -1,0 +1,10 @@
+pub mod Bytes
+pub mod Expressions
+pub mod Held
+pub mod Lexing
+pub mod Links
+pub mod Matching
+pub mod Nests
+pub mod Positions
+pub mod Refusals
+pub mod Spelling

@@ -1,0 +1,61 @@
+ghost use Rattle.std.specs.Prelude.{◌≡◌, ◌<◌, ◌+◌, ◌^◌, ◌≤◌, None};
+ghost use Rattle.regex_ast.specs.Nests.{noted};
+
+use crate::lexer::Piece;
+
+/// How many parentheses may stand open.
+const MOST_OPEN: usize = 64;
+
+/// How many classes an expression may have.
+const MOST_CLASSES: u32 = 200;
+
+/// Where a text leaves the limits, while its shape is read to the end.
+#[derive(Clone, Copy, Debug)]
+pub(crate) struct Findings {
+    /// How many classes there are so far.
+    pub(crate) classes: u32,
+    /// The first class with no byte.
+    pub(crate) empty: Option<u32>,
+    /// The first parenthesis inside too many others.
+    pub(crate) deep: Option<u32>,
+    /// The first class after too many others.
+    pub(crate) many: Option<u32>,
+}
+
+impl Findings {
+    pub(crate) fn new() -> Self
+        ensures { result ≡ record { classes = 0; empty = None; deep = None; many = None } }
+    {
+        Findings {
+            classes: 0,
+            empty: None,
+            deep: None,
+            many: None,
+        }
+    }
+
+    /// Takes note of a piece that begins at the offset `at`, inside `depth` parentheses.
+    pub(crate) fn note(&mut self, piece: &Piece, depth: usize, at: u32)
+        requires { self.old.classes + 1 < 2 ^ 32 }
+        ensures noted { self.new ≡ noted piece.now depth at self.old }
+        ensures few { self.new.classes ≤ self.old.classes + 1 }
+    {
+        match piece {
+            Piece::OneOf(set) => {
+                if self.empty.is_none() && set.is_empty() {
+                    self.empty = Some(at);
+                }
+                if self.many.is_none() && self.classes >= MOST_CLASSES {
+                    self.many = Some(at);
+                }
+                self.classes += 1;
+            }
+            Piece::Open => {
+                if self.deep.is_none() && depth >= MOST_OPEN {
+                    self.deep = Some(at);
+                }
+            }
+            Piece::Close | Piece::Bar | Piece::StarSign | Piece::PlusSign | Piece::MaybeSign => {}
+        }
+    }
+}
