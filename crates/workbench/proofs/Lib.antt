@@ -1,0 +1,12 @@
+pub mod CommandSteps
+pub mod GrammarSteps
+pub mod LineSteps
+pub mod LiteralPlaces
+pub mod OneOutput
+pub mod ReplySteps
+pub mod RunSteps
+pub mod ScriptSteps
+pub mod SymbolPlaces
+pub mod Terminals
+pub mod TextSteps
+pub mod TokenSteps

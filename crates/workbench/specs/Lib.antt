@@ -1,0 +1,10 @@
+pub mod Lines
+pub mod Pieces
+pub mod Texts
+pub mod Replies
+pub mod Grammar
+pub mod Tokens
+pub mod Commands
+pub mod Reading
+pub mod Output
+pub mod Ends
