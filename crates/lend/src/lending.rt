@@ -3,6 +3,7 @@
 ghost use Rattle.std.specs.Prelude.{◌≡◌, ◌+◌, ◌-◌, ◌/◌, ◌<◌, IfOk};
 ghost use Rattle.lend.specs.Loans.{value_of, age_of, parts_of, whole};
 
+use crate::NoMemory;
 use crate::lent::Lent;
 use crate::loan::Loan;
 use crate::loose::Loose;
@@ -10,7 +11,7 @@ use std::alloc::{AllocError, Global};
 
 impl<T: Drop> Loan<T> {
     /// Puts the value on the heap. The loan has all parts of its right.
-    pub fn new(alloc: Global, value: T) -> Result<Loan<T>, AllocError>
+    pub fn new(alloc: Global, value: T) -> Result<Loan<T>, NoMemory>
         ensures { IfOk result (λ l. (value_of l ≡ value) × (parts_of l ≡ whole)) }
     {
         match Box::new(alloc, value) {

@@ -13,3 +13,6 @@ pub mod loan;
 mod loose;
 #[cfg(test)]
 mod tests;
+
+/// There was no memory.
+pub type NoMemory = std::alloc::AllocError;

@@ -9,7 +9,7 @@ use Rattle.pin_rule.specs.declared.view.View.{View}
 use Rattle.pin_rule.specs.declared.view.OwnRow.{OwnRow}
 use Rattle.pin_rule.specs.Layout.{word_count, claim, entry, claim_word, place_word}
 use Rattle.pin_rule.specs.Views.{OwnsAt, EachView}
-use Rattle.pin_rule.specs.Lawful.{IsStill, Knows, Lawful}
+use Rattle.pin_rule.specs.Lawful.{PinsFirst, Knows, Lawful}
 use Rattle.pin_rule.specs.Steps.{first_view}
 use Rattle.pin_rule.proofs.Lists.{not_zero}
 use Rattle.pin_rule.proofs.Parting.{first_pin}
@@ -38,7 +38,8 @@ begins L F z first = let ws = replicate (word_count z) (let o : ℕ = 0 in o) in
       long = length_zeros (word_count z);
       sizes = each (λ u. u.share ≢ 0 → u.sizes ≡ z) (λ _. refl);
       current = first;
-      still = each IsStill (record { log = refl; pinned = first_pin });
+      logs = each (λ u. u.log ≡ []) refl;
+      pins = each PinsFirst first_pin;
       pages = record { entries = λ p r _ e. absurd (not_zero (entry z ws 0 p) r (empty p) e); keys_once = λ p q a b _ _ e _ _. absurd (not_zero (entry z ws 0 p) a (empty p) e) };
       claims = record {
         bit = λ r _. let f = free r in omega arith;

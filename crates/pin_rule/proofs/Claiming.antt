@@ -62,7 +62,8 @@ module _ (L : List Entry → Type 0) (F : List Entry → List ℕ → Type 0) (z
       long = length-set words (claim_word z row) 1 ∙ h.long;
       sizes = r.sizes;
       current = h.current;
-      still = r.still;
+      logs = r.logs;
+      pins = r.pins;
       pages = page_moves (F []) z words words' 0 h.pages kept;
       claims = record {
         bit = λ r ri. dite (ℕ_discrete r row) (λ e. subst (λ (q : ℕ). claim z words' q ≤ 1) (sym e) (let c = here in omega arith)) (λ n. let c = claim-claim z words 1 row r n in let b = h.claims.bit r ri in omega arith);

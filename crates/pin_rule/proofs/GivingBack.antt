@@ -38,7 +38,8 @@ module _ (L : List Entry → Type 0) (F : List Entry → List ℕ → Type 0) (z
         long = length-set words (claim_word z row) 0 ∙ h.long;
         sizes = r.sizes;
         current = h.current;
-        still = r.still;
+        logs = r.logs;
+        pins = r.pins;
         pages = page_moves (F []) z words words' 0 h.pages kept;
         claims = record {
           bit = λ r ri. dite (ℕ_discrete r row) (λ e. subst (λ (q : ℕ). claim z words' q ≤ 1) (sym e) (omega arith)) (λ n. let b = h.claims.bit r ri in let e = stays r n in omega arith);

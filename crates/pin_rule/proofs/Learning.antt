@@ -16,7 +16,7 @@ use Rattle.pin_rule.specs.declared.view.WordFact.{WordFact}
 use Rattle.pin_rule.specs.Layout.{place_word, row_word, entry, row_at}
 use Rattle.pin_rule.specs.Lists.{Each, In}
 use Rattle.pin_rule.specs.Views.{version_at}
-use Rattle.pin_rule.specs.Lawful.{IsStill, EntryStands, WordStands, Knows, Lawful}
+use Rattle.pin_rule.specs.Lawful.{EntryStands, WordStands, Knows, Lawful}
 use Rattle.pin_rule.specs.Steps.{met_entry, met_word, version_of, after_load_place, after_load_row}
 use Rattle.pin_rule.specs.Keeps.{Keeps, law_of}
 use Rattle.pin_rule.proofs.Lists.{each_in}
@@ -30,7 +30,8 @@ module _ (L : List Entry → Type 0) (F : List Entry → List ℕ → Type 0) (z
     long = h.long;
     sizes = r.sizes;
     current = h.current;
-    still = r.still;
+    logs = r.logs;
+    pins = r.pins;
     pages = h.pages;
     claims = claims_by z words views (set views id w) (owned_before views id v w at same_own) (owned_after views id v w at same_own) h.claims;
     facts = each_set views id v w at (Knows z words) knows h.facts;
@@ -57,7 +58,7 @@ met_stands z words (Some m) es page place zero inside of e h = h
 met_stands z words (Some m) es page place (suc row) inside of e h = ((λ _. (inside, ap (λ (p : ℕ). entry z words p place) (sym (of m refl)) ∙ e)), h)
 
 -- an entry of the view names the row
-names : (es : List EntryFact) (row version : ℕ) → version_of es row ≡ Some version → (e : EntryFact) × In e es × (e.row ≡ row) × (e.version ≡ version)
+pub names : (es : List EntryFact) (row version : ℕ) → version_of es row ≡ Some version → (e : EntryFact) × In e es × (e.row ≡ row) × (e.version ≡ version)
 names [] row version e = absurd (clash (record { version = 0; page = 0 }) version e)
 names (x ∷ xs) row version e = dite (ℕ_discrete x.row row)
     (λ same. (x, inl refl, same, same_version x.version version (sym (ap (λ b. cond b (Some x.version) (version_of xs row)) (eq-eqb x.row row same)) ∙ e)))
@@ -75,11 +76,11 @@ module _ (L : List Entry → Type 0) (F : List Entry → List ℕ → Type 0) (z
       let i = place_word z page place in let n = slice_index s.words i in let w = after_load_place v page place n in let known = h.facts id v at in
       subst (λ (ws : List ℕ). Lawful L F z ws (set s.views id w)) (sym (set_same s.words i))
       (learns L F z s.words s.views id v w at (record { sizes = refl; share = refl; log = refl; pinned = refl }) refl
-          (met_stands z s.words (version_at v.pinned page) v.entries page place n inside (λ m e. (only_first v.pinned page m (h.still id v at).pinned e).1) refl known.0, known.1) h)
+      (met_stands z s.words (version_at v.pinned page) v.entries page place n inside (λ m e. (only_first v.pinned page m (h.pins id v at) e).1) refl known.0, known.1) h)
 
   pub keeps_load_row : (row index : ℕ) → index < z.width → Keeps (law_of L F z) v (row_word z row index) (λ n. n) (after_load_row v row index)
   keeps_load_row row index inside s id h at _ =
       let i = row_word z row index in let n = slice_index s.words i in let w = after_load_row v row index n in let known = h.facts id v at in
       subst (λ (ws : List ℕ). Lawful L F z ws (set s.views id w)) (sym (set_same s.words i))
       (learns L F z s.words s.views id v w at (record { sizes = refl; share = refl; log = refl; pinned = refl }) refl
-          (known.0, word_stands z s.words (version_of v.entries row) v.entries v.words row index refl inside known.0 known.1) h)
+      (known.0, word_stands z s.words (version_of v.entries row) v.entries v.words row index refl inside known.0 known.1) h)

@@ -1,4 +1,5 @@
 pub mod Lists
+pub mod Paths
 pub mod Frames
 pub mod Seats
 pub mod Moves

@@ -5,14 +5,11 @@ use Rattle.pin_rule.specs.declared.view.View.{View}
 use Rattle.pin_rule.specs.declared.view.OwnRow.{OwnRow}
 use Rattle.pin_rule.specs.Layout.{claim, entry, row_at}
 use Rattle.pin_rule.specs.Lists.{Each}
-use Rattle.pin_rule.specs.Rows.{key_of, on_path, hashed}
+use Rattle.pin_rule.specs.Rows.{key_of, on_path}
 use Rattle.pin_rule.specs.Lawful.{StandsOnPath, IsEntry, IsPage, IsHeld, IsOwned, EntryStands, WordStands, Knows}
 use Rattle.pin_rule.proofs.Frames.{Same, key_same, content_same}
 use Rattle.pin_rule.proofs.Lists.{each_map}
-
-pub on_page : (z : Sizes) (key : List ℕ) (step : ℕ) → 0 < z.places → on_path z key step < z.places
-unfolding on_path
-on_page z key step h = let x : ℕ = hashed 0 key / 2 ^ 32 + step in let r : x % z.places < z.places = omega arith in r
+use Rattle.pin_rule.proofs.Paths.{on_page}
 
 module _ (F : List ℕ → Type 0) (z : Sizes) (words words' : List ℕ) (page : ℕ) where
   -- an entry stands where its row is in use and the same, and where no place was emptied
@@ -27,7 +24,7 @@ module _ (F : List ℕ → Type 0) (z : Sizes) (words words' : List ℕ) (page :
         in_use = c;
         room = omega arith;
         fitting = subst F (content_same f g z.width room s) e.fitting;
-        path = subst (λ (key : List ℕ). StandsOnPath z words' page p key) k (e.path.0, e.path.1, e.path.2, λ q lt. up (on_path z (key_of f) q) (on_page z (key_of f) q (omega arith)) (e.path.3 q lt));
+        path = subst (λ (key : List ℕ). StandsOnPath z words' page p key) k (e.path.0, e.path.1, e.path.2, λ q lt. up (on_path z (key_of f) q) (on_page z (key_of f) (omega arith) q) (e.path.3 q lt));
       }
 
   -- each place is as it was, and each row that a place holds is in use and as it was

@@ -12,7 +12,7 @@ use Rattle.pin_rule.specs.declared.view.View.{View}
 use Rattle.pin_rule.specs.declared.view.Pin.{Pin}
 use Rattle.pin_rule.specs.declared.view.OwnRow.{OwnRow}
 use Rattle.pin_rule.specs.Views.{OwnsAt, EachView}
-use Rattle.pin_rule.specs.Lawful.{IsStill, EntryStands, WordStands, Knows, Lawful}
+use Rattle.pin_rule.specs.Lawful.{PinsFirst, EntryStands, WordStands, Knows, Lawful}
 use Rattle.pin_rule.specs.Steps.{still, after_split, split_off, after_join, spent_view}
 use Rattle.pin_rule.specs.Keeps.{KeepsSplit, KeepsJoin, law_of}
 use Rattle.pin_rule.proofs.Lists.{total_set, total_append, each_append}
@@ -38,12 +38,13 @@ module _ (L : List Entry → Type 0) (F : List Entry → List ℕ → Type 0) (z
         | inr t ↦ absurd (none_some o (ap (λ (u : View). u.own) t ∙ x.2))
       ] in
       let on : (i : ℕ) (o : OwnRow) → OwnsAt views i o → OwnsAt views' i o = λ i o x. let y = owned_after views id v w at refl i o x in (y.0, at_longer vs (new ∷ []) i y.0 y.1, y.2) in
-      let known = h.facts id v at in let mine = h.still id v at in
+      let known = h.facts id v at in
       record {
         long = h.long;
         sizes = each (λ u. u.share ≢ 0 → u.sizes ≡ z) (λ n. h.sizes id v at (λ e. n (omega arith))) (λ n. h.sizes id v at (λ e. n (omega arith))) h.sizes;
         current = h.current;
-        still = each IsStill (record { log = mine.log; pinned = mine.pinned }) (record { log = mine.log; pinned = first_pin }) h.still;
+        logs = each (λ u. u.log ≡ []) (h.logs id v at) (h.logs id v at) h.logs;
+        pins = each PinsFirst (h.pins id v at) first_pin h.pins;
         pages = h.pages;
         claims = claims_by z words views views' back on h.claims;
         facts = each (Knows z words) known (tt, tt) h.facts;
@@ -70,7 +71,8 @@ module _ (L : List Entry → Type 0) (F : List Entry → List ℕ → Type 0) (z
         long = h.long;
         sizes = each (λ u. u.share ≢ 0 → u.sizes ≡ z) (λ _. h.sizes id v at mine) (λ n. absurd (n refl)) h.sizes;
         current = h.current;
-        still = each IsStill (let q = h.still id v at in record { log = q.log; pinned = q.pinned }) (record { log = refl; pinned = λ p e. absurd (no_pin p e) }) h.still;
+        logs = each (λ u. u.log ≡ []) (h.logs id v at) refl h.logs;
+        pins = each PinsFirst (h.pins id v at) (λ p e. absurd (no_pin p e)) h.pins;
         pages = h.pages;
         claims = claims_by z words views views' back on h.claims;
         facts = each (Knows z words) (each_append (EntryStands z words) v.entries o.entries knows.0 known.0, each_append (WordStands z words) v.words o.words knows.1 known.1) (tt, tt) h.facts;

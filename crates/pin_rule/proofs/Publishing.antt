@@ -24,7 +24,8 @@ use Rattle.pin_rule.specs.Ready.{IsReady}
 use Rattle.pin_rule.specs.Keeps.{Keeps, law_of}
 use Rattle.pin_rule.proofs.Lists.{each_map, each_in, each_append, each_mapped, not_zero, same_row}
 use Rattle.pin_rule.proofs.Frames.{set_same, Same, key_same, content_same, same_key, place_in, wrote, place-claim, place-entry, place-row}
-use Rattle.pin_rule.proofs.Moves.{on_page, entry_moves}
+use Rattle.pin_rule.proofs.Moves.{entry_moves}
+use Rattle.pin_rule.proofs.Paths.{on_page}
 use Rattle.pin_rule.proofs.Learning.{learns, only_first, met_stands}
 use Rattle.pin_rule.proofs.Seats.{none_some, owner_row, each_set, owns_cases, owns_else, rest}
 
@@ -43,13 +44,13 @@ module _ (L : List Entry → Type 0) (F : List Entry → List ℕ → Type 0) (z
   mine = h.claims.owned id o was
 
   inside : place < z.places
-  inside = let n = ready.step_in in subst (λ (p : ℕ). p < z.places) ready.at (on_page z (key_of g) ready.step (omega arith))
+  inside = let n = ready.step_in in subst (λ (p : ℕ). p < z.places) ready.at (on_page z (key_of g) (omega arith) ready.step)
 
   first : 0 < z.versions
   first = let b = z.versions_in in omega arith
 
   fitting : F [] (content_of g)
-  fitting = subst (λ (log : List Entry). F log (content_of g)) (h.still id v at).log ready.fitting
+  fitting = subst (λ (log : List Entry). F log (content_of g)) (h.logs id v at) ready.fitting
 
   -- the row's words are those of g
   reads : Same (2 + (g 0 + g 1)) (Row row) g
@@ -172,7 +173,8 @@ module _ (L : List Entry → Type 0) (F : List Entry → List ℕ → Type 0) (z
       long = length-set words (place_word z 0 place) (suc row) ∙ h.long;
       sizes = r.sizes;
       current = h.current;
-      still = r.still;
+      logs = r.logs;
+      pins = r.pins;
       pages = record { entries = entries'; keys_once = once };
       claims = record {
         bit = λ r ri. let b = h.claims.bit r ri in let e = stays r ri in omega arith;
@@ -209,7 +211,7 @@ module _ (L : List Entry → Type 0) (F : List Entry → List ℕ → Type 0) (z
   publishes_or some s id h at (suc m) e = let w = after_publish v 0 place o.row (suc m) in let i = place_word z 0 place in let k = h.facts id v at in
       subst (λ (ws : List ℕ). Lawful L F z ws (set s.views id w)) (sym (ap (λ b. set s.words i (either b (o.row + 1) (suc m))) (ne_eqb (suc m) 0 (λ x. omega arith)) ∙ ap (set s.words i) (sym e) ∙ set_same s.words i))
       (learns L F z s.words s.views id v w at (record { sizes = refl; share = refl; log = refl; pinned = refl }) refl
-          (met_stands z s.words (version_at v.pinned 0) v.entries 0 place (suc m) (inside L F z v o g place ready s.words s.views id h at) (λ _ _. refl) e k.0, subst (Each (WordStands z s.words)) (sym (words_stay (version_at v.pinned 0) v.own v.words m)) k.1) h)
+      (met_stands z s.words (version_at v.pinned 0) v.entries 0 place (suc m) (inside L F z v o g place ready s.words s.views id h at) (λ _ _. refl) e k.0, subst (Each (WordStands z s.words)) (sym (words_stay (version_at v.pinned 0) v.own v.words m)) k.1) h)
 
   pub keeps_publish : v.share ≢ 0 → Keeps (law_of L F z) v (place_word z 0 place) (λ n. either (eqb n 0) (o.row + 1) n) (after_publish v 0 place o.row)
   keeps_publish some s id h at _ = publishes_or some s id h at (slice_index s.words (place_word z 0 place)) refl

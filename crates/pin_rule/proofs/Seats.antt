@@ -1,5 +1,5 @@
 -- The views after a step of one seat.
-use Rattle.std.proofs.Common.{◌≡◌, ◌≢◌, ℕ, ◌+◌, List, ◌⊎◌, inl, inr, set, sym, refl, ap, ◌∙◌, subst, arith}
+use Rattle.std.proofs.Common.{◌≡◌, ◌≢◌, ℕ, ◌+◌, List, [], ◌⊎◌, inl, inr, set, sym, refl, ap, ◌∙◌, subst, arith}
 use mathlib.Core.Option as maybe
 use mathlib.Core.Logic.{dite}
 use native.Mathlib.Decide.{ℕ_discrete}
@@ -12,7 +12,7 @@ use Rattle.pin_rule.specs.declared.view.OwnRow.{OwnRow}
 use Rattle.pin_rule.specs.declared.view.Pin.{Pin}
 use Rattle.pin_rule.specs.Lists.{total}
 use Rattle.pin_rule.specs.Views.{whole, Owns, OwnsAt, EachView}
-use Rattle.pin_rule.specs.Lawful.{IsStill, Claims, Lawful}
+use Rattle.pin_rule.specs.Lawful.{PinsFirst, Claims, Lawful}
 use Rattle.pin_rule.specs.declared.content.Entry.{Entry}
 use Rattle.pin_rule.proofs.Lists.{at_short, total_set}
 
@@ -65,7 +65,8 @@ claims_by z words views views' back on h = record {
 -- the parts that a seat keeps whose sizes, share, log and pin stay
 pub record Rest (z : Sizes) (views : List View) : Type 0 where
   pub sizes : EachView views (λ v. v.share ≢ 0 → v.sizes ≡ z)
-  pub still : EachView views IsStill
+  pub logs : EachView views (λ v. v.log ≡ [])
+  pub pins : EachView views PinsFirst
   pub sum : total (λ (v : View). v.share) views ≡ whole
 
 pub record IsAlike (v w : View) : Type 0 where
@@ -78,6 +79,7 @@ pub rest : (L : List Entry → Type 0) (F : List Entry → List ℕ → Type 0) 
     → IsAlike v w → Lawful L F z words views → Rest z (set views id w)
 rest L F z words views id v w at a h = record {
   sizes = each_set views id v w at (λ u. u.share ≢ 0 → u.sizes ≡ z) (λ n. a.sizes ∙ h.sizes id v at (λ e. n (a.share ∙ e))) h.sizes;
-  still = each_set views id v w at IsStill (let s = h.still id v at in record { log = a.log ∙ s.log; pinned = λ p e. s.pinned p (sym a.pinned ∙ e) }) h.still;
+  logs = each_set views id v w at (λ u. u.log ≡ []) (a.log ∙ h.logs id v at) h.logs;
+  pins = each_set views id v w at PinsFirst (λ p e. h.pins id v at p (sym a.pinned ∙ e)) h.pins;
   sum = (let t = total_set (λ (u : View). u.share) views id v w at in let s = h.shares.sum in let e = a.share in omega arith);
 }

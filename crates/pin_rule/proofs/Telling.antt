@@ -23,9 +23,10 @@ module _ (L : List Entry → Type 0) (F : List Entry → List ℕ → Type 0) (z
   pub tells : v.share ≢ 0 → IsTold (F v.log) v
   tells some = let same : v.sizes ≡ z = h.sizes id v at some in record {
     range = λ row k. subst (λ (y : Sizes). row < y.rows) (sym same) (known row k).1.in_range;
+    key = λ row key k a. subst (λ (y : Sizes). 2 + key ≤ y.width) (sym same) (let r = (known row k).1.room in let p = read row 0 key a in omega arith);
     room = λ row key payload k a b. subst (λ (y : Sizes). 2 + (key + payload) ≤ y.width) (sym same)
         (let r = (known row k).1.room in let p = read row 0 key a in let q = read row 1 payload b in omega arith);
     fitting = λ row g k ws. let f = row_at z words row in let s : Same (2 + (g 0 + g 1)) f g = λ i lt. read row i (g i) (ws i lt) in
         let a : f 0 ≡ g 0 = s 0 (omega arith) in let b : f 1 ≡ g 1 = s 1 (omega arith) in
-        subst (λ (log : List Entry). F log (content_of g)) (sym (h.still id v at).log) (subst (F []) (content_same f g (2 + (g 0 + g 1)) (omega arith) s) (known row k).1.fitting);
+        subst (λ (log : List Entry). F log (content_of g)) (sym (h.logs id v at)) (subst (F []) (content_same f g (2 + (g 0 + g 1)) (omega arith) s) (known row k).1.fitting);
   }

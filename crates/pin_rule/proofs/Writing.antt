@@ -52,7 +52,8 @@ module _ (L : List Entry → Type 0) (F : List Entry → List ℕ → Type 0) (z
         long = length-set words (row_word z row index) x ∙ h.long;
         sizes = r.sizes;
         current = h.current;
-        still = r.still;
+        logs = r.logs;
+        pins = r.pins;
         pages = page_moves (F []) z words words' 0 h.pages kept;
         claims = record {
           bit = λ r ri. let b = h.claims.bit r ri in let e = stays r ri in omega arith;

@@ -56,10 +56,9 @@ module _ (z : Sizes) (words : List ℕ) where
   abbrev pub Knows : View → Type 0
   Knows v = Each EntryStands v.entries × Each WordStands v.words
 
--- the log of a view, and the version that it pins
-pub record IsStill (v : View) : Type 0 where
-  pub log : v.log ≡ []
-  pub pinned : (p : Pin) → v.pinned ≡ Some p → (p.version ≡ 0) × (p.page ≡ 0)
+-- the one version that a view may pin
+abbrev pub PinsFirst : View → Type 0
+PinsFirst v = (p : Pin) → v.pinned ≡ Some p → (p.version ≡ 0) × (p.page ≡ 0)
 
 pub record Shares (views : List View) : Type 0 where
   pub sum : total (λ (v : View). v.share) views ≡ whole
@@ -69,7 +68,8 @@ pub record Lawful (lawful : List Entry → Type 0) (fits : List Entry → List �
   pub long : length words ≡ word_count z
   pub sizes : EachView views (λ v. v.share ≢ 0 → v.sizes ≡ z)
   pub current : lawful []
-  pub still : EachView views IsStill
+  pub logs : EachView views (λ v. v.log ≡ [])
+  pub pins : EachView views PinsFirst
   pub pages : IsPage z words (fits []) 0
   pub claims : Claims z words views
   pub facts : EachView views (Knows z words)

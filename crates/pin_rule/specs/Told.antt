@@ -15,7 +15,8 @@ KnowsWord v row index word = In (let w : WordFact = record { version = 0; row = 
 
 pub record IsTold (fits : List ℕ → Type 0) (v : View) : Type 0 where
   pub range : (row : ℕ) → KnowsRow v row → row < v.sizes.rows
-  -- a row whose lengths are known has room for both
+  -- a row has room for the lengths of its key and its payload
+  pub key : (row key : ℕ) → KnowsRow v row → KnowsWord v row 0 key → 2 + key ≤ v.sizes.width
   pub room : (row key payload : ℕ) → KnowsRow v row → KnowsWord v row 0 key → KnowsWord v row 1 payload → 2 + (key + payload) ≤ v.sizes.width
   -- a row whose words are known fits the log
   pub fitting : (row : ℕ) (g : ℕ → ℕ) → KnowsRow v row → ((index : ℕ) → index < 2 + (g 0 + g 1) → KnowsWord v row index (g index)) → fits (content_of g)

@@ -19,3 +19,6 @@ mod stepping;
 #[cfg(test)]
 mod tests;
 pub mod view;
+
+/// There was no memory.
+pub type NoMemory = std::alloc::AllocError;

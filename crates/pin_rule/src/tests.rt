@@ -29,19 +29,6 @@ fn a_small_table_has_its_words(rt: HostRuntime) {
 }
 
 #[test]
-fn a_hand_claims_and_loads(rt: HostRuntime) -> Result<(), Fail> {
-    let mut hand = Hand::<AnyRow>::open(rt.alloc(), small())?;
-    assert_eq!(rt; hand.load_place(0, 3), 0);
-    assert_eq!(rt; hand.load_row(2, 7), 0);
-    assert_eq!(rt; hand.claim(1), 0);
-    hand.write_row(1, 0, 17);
-    assert_eq!(rt; hand.load_row(1, 0), 17);
-    hand.give_back(1);
-    hand.close();
-    Ok(())
-}
-
-#[test]
 fn two_threads_hold_a_hand_each(rt: HostRuntime) -> Result<(), Fail> {
     let mut mine = Hand::<AnyRow>::open(rt.alloc(), small())?;
     let theirs = mine.split(0);
