@@ -6,3 +6,8 @@ pub mod Taking
 pub mod Storing
 pub mod ByWord
 pub mod Passing
+pub mod Copying
+pub mod Glancing
+pub mod Offering
+pub mod Settling
+pub mod Extending

@@ -4,13 +4,15 @@ use mathlib.Core.Bool.{cond}
 use Rattle.std.specs.Prelude.{Option, Some, None}
 use Rattle.pin_rule.specs.declared.sizes.Sizes.{Sizes}
 use Rattle.pin_rule.specs.declared.view.View.{View}
+use Rattle.pin_rule.specs.declared.view.OwnRow.{OwnRow}
 use Rattle.pin_rule.specs.declared.view.EntryFact.{EntryFact}
 use Rattle.pin_rule.specs.declared.view.WordFact.{WordFact}
 use Rattle.pin_rule.specs.declared.view.Step.{Step}
 use Rattle.pin_rule.specs.Lists.{In}
 use Rattle.pin_rule.specs.Views.{version_at}
-use Rattle.pin_rule.specs.Steps.{met_entry, met_word, version_of, loaded_place, loaded_row, after_load_place, after_load_row}
+use Rattle.pin_rule.specs.Steps.{met_entry, met_word, version_of, exchanged, own_words, published_words, loaded_place, loaded_row, published, gave_back, after_load_place, after_load_row, after_publish, after_give_back}
 use Rattle.pin_rule.specs.Told.{KnowsRow}
+use Rattle.pin_rule.proofs.Lists.{in_right}
 use Rattle.pin_rule.proofs.Learning.{names}
 use Rattle.slot_store.specs.Walks.{IsAtWork, Moves, KnowsAt, Reads}
 
@@ -74,3 +76,32 @@ module _ (z : Sizes) (v : View) (work : IsAtWork z v) where
 
     pub names_row : version_of w.entries row ≡ Some 0
     names_row = ap (λ (es : List EntryFact). version_of es row) (met ∙ met_at place row) ∙ named v.entries place row
+
+published_grow : (o : Option ℕ) (own : Option OwnRow) (ws : List WordFact) (n : ℕ) (x : WordFact) → In x ws → In x (published_words o own ws n)
+published_grow None own ws n x i = i
+published_grow (Some version) own ws zero x i = in_right x (own_words version own) ws i
+published_grow (Some version) own ws (suc n) x i = i
+
+pub moves_publish : (z : Sizes) (v : View) (place row n : ℕ) → v.sizes ≡ z → Moves v (after_publish v 0 place row n) (published z 0 place row n ∷ [])
+moves_publish z v place row n sizes = record {
+  sizes = refl;
+  log = refl;
+  share = refl;
+  pins_left = refl;
+  pinned = refl;
+  steps = ap (λ (y : Sizes). v.steps ++ published y 0 place row n ∷ []) sizes;
+  entries = λ e i. entry_grows (version_at v.pinned 0) v.entries place (exchanged (suc row) n) e i;
+  words = λ x i. published_grow (version_at v.pinned 0) v.own v.words n x i;
+}
+
+pub moves_give_back : (z : Sizes) (v : View) (row : ℕ) → v.sizes ≡ z → Moves v (after_give_back v row) (gave_back z row ∷ [])
+moves_give_back z v row sizes = record {
+  sizes = refl;
+  log = refl;
+  share = refl;
+  pins_left = refl;
+  pinned = refl;
+  steps = ap (λ (y : Sizes). v.steps ++ gave_back y row ∷ []) sizes;
+  entries = λ _ i. i;
+  words = λ _ i. i;
+}

@@ -86,21 +86,14 @@ pub record Walks (z : Sizes) (v w : View) (key : List ℕ) (s : Seen) : Type 0 w
   pub own : w.own ≡ v.own
   pub is : SeenIs z w added key s
 
--- the payload of a row is read into a buffer, so many words of it so far
-pub record Copies (z : Sizes) (v w : View) (row from count : ℕ) (buffer : List ℕ) : Type 0 where
+-- the payload of a row, which has so many words, is read into a buffer, so many of them so far
+pub record Copies (z : Sizes) (v w : View) (row from size count : ℕ) (buffer : List ℕ) : Type 0 where
   pub added : List Step
   pub moves : Moves v w added
   pub own : w.own ≡ v.own
   pub version : version_of w.entries row ≡ Some 0
+  pub size_read : Reads z w added row 1 size
   pub words : (i : ℕ) → i < count → Reads z w added row (from + i) (slice_index buffer i)
-
-pub record ReadsPayload (z : Sizes) (v w : View) (row : ℕ) (key buffer : List ℕ) (count : ℕ) : Type 0 where
-  pub added : List Step
-  pub moves : Moves v w added
-  pub own : w.own ≡ v.own
-  pub room : count ≤ length buffer
-  pub words : (index : ℕ) → index < length (row_of key (take count buffer)) → 2 + length key ≤ index → Reads z w added row index (slice_index (row_of key (take count buffer)) index)
-  pub count_read : Reads z w added row 1 count
 
 abbrev pub GlanceIs : Sizes → List Step → (List ℕ → Type 0) → List ℕ → List ℕ → Glance → Type 0
 GlanceIs z added fits key buffer (glance.Found count) = (count ≤ length buffer) × IsFound z 0 added fits key (take count buffer)

@@ -2,7 +2,7 @@
 ghost use Rattle.std.specs.Prelude.{◌≡◌, ◌<◌, ◌≤◌, ◌+◌, Some, length};
 ghost use Rattle.pin_rule.specs.Hands.{view_of, table_of};
 ghost use Rattle.pin_rule.specs.Steps.{version_of};
-ghost use Rattle.slot_store.specs.Walks.{IsAtWork, Walks, ReadsPayload, Glances};
+ghost use Rattle.slot_store.specs.Walks.{IsAtWork, Walks, Copies, Glances};
 ghost use Rattle.pin_rule.specs.Told.{KnowsWord, IsTold};
 
 use crate::comparing::has_key;
@@ -60,7 +60,8 @@ fn read_payload<C: Content>(
     requires key { KnowsWord (view_of hand.old) row 0 (length key.now) }
     requires room { sizes.width ≤ length buffer.old }
     ensures table { table_of hand.new ≡ table_of hand.old }
-    ensures read { ReadsPayload sizes (view_of hand.old) (view_of hand.new) row key.now buffer.new result }
+    ensures read { Copies sizes (view_of hand.old) (view_of hand.new) row (length key.now + 2) result result buffer.new }
+    ensures room { result ≤ length buffer.new }
     ensures told { IsTold (C.fits (view_of hand.new).log) (view_of hand.new) }
 {
     let count = hand.load_row(row, 1) as usize;
