@@ -11,3 +11,4 @@ pub mod Glancing
 pub mod Offering
 pub mod Settling
 pub mod Extending
+pub mod Concluding
