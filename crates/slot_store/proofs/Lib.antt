@@ -12,3 +12,4 @@ pub mod Offering
 pub mod Settling
 pub mod Extending
 pub mod Concluding
+pub mod Dividing

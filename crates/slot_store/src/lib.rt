@@ -8,6 +8,7 @@
 mod claiming;
 mod comparing;
 mod finding;
+pub mod opening;
 pub mod page;
 mod paths;
 pub mod pinned;
