@@ -1,11 +1,11 @@
 -- A claim keeps the rule.
-use Rattle.std.proofs.Common.{◌≡◌, ◌≢◌, ℕ, zero, suc, ◌+◌, ◌<◌, ◌≤◌, List, [], inl, inr, slice_index, set, length-set, eqb, ne_eqb, sym, refl, ap, ◌∙◌, subst, arith}
+use Rattle.std.proofs.Common.{◌≡◌, ◌≢◌, ℕ, zero, suc, ◌<◌, ◌≤◌, List, [], inl, inr, slice_index, set, length-set, eqb, ne_eqb, sym, refl, ap, ◌∙◌, subst, arith}
 use mathlib.Core.Option as maybe
 use mathlib.Core.Logic.{dite}
 use prog.Atomic.{either}
 use native.Mathlib.Decide.{ℕ_discrete}
 use lib.ListN.{get_elem?}
-use Rattle.std.specs.Prelude.{Some, None}
+use Rattle.std.specs.Prelude.{None}
 use Rattle.atomic_table.specs.Table.{State}
 use Rattle.pin_rule.specs.declared.sizes.Sizes.{Sizes}
 use Rattle.pin_rule.specs.declared.content.Entry.{Entry}

@@ -1,10 +1,9 @@
 -- What stands of a page, of the facts and of the own rows after a write that leaves the page's entries and the rows that they name.
-use Rattle.std.proofs.Common.{◌≡◌, ◌≢◌, ℕ, suc, ◌+◌, ◌<◌, ◌%◌, ◌/◌, ◌^◌, List, sym, ◌∙◌, subst, arith}
+use Rattle.std.proofs.Common.{◌≡◌, ◌≢◌, ℕ, suc, ◌<◌, List, sym, ◌∙◌, subst, arith}
 use Rattle.pin_rule.specs.declared.sizes.Sizes.{Sizes}
 use Rattle.pin_rule.specs.declared.view.View.{View}
 use Rattle.pin_rule.specs.declared.view.OwnRow.{OwnRow}
 use Rattle.pin_rule.specs.Layout.{claim, entry, row_at}
-use Rattle.pin_rule.specs.Lists.{Each}
 use Rattle.pin_rule.specs.Rows.{key_of, on_path}
 use Rattle.pin_rule.specs.Lawful.{StandsOnPath, IsEntry, IsPage, IsHeld, IsOwned, EntryStands, WordStands, Knows}
 use Rattle.pin_rule.proofs.Frames.{Same, key_same, content_same}

@@ -1,8 +1,6 @@
 -- A seat that is split, and one that takes in another, keep the rule.
-use Rattle.std.proofs.Common.{◌≡◌, ◌≢◌, ℕ, ◌+◌, ◌/◌, List, [], ◌∷◌, ◌++◌, inl, inr, set, sym, refl, ap, ◌∙◌, subst, arith}
+use Rattle.std.proofs.Common.{◌≡◌, ◌≢◌, ℕ, List, [], ◌∷◌, ◌++◌, inl, inr, set, sym, refl, ap, ◌∙◌, subst, arith}
 use mathlib.Core.Option as maybe
-use mathlib.Core.Logic.{dite}
-use native.Mathlib.Decide.{ℕ_discrete}
 use lib.ListN.{get_elem?}
 use Rattle.std.specs.Prelude.{Some, None}
 use Rattle.atomic_table.proofs.Lists.{at_snoc, at_longer, set_else}
@@ -12,7 +10,7 @@ use Rattle.pin_rule.specs.declared.view.View.{View}
 use Rattle.pin_rule.specs.declared.view.Pin.{Pin}
 use Rattle.pin_rule.specs.declared.view.OwnRow.{OwnRow}
 use Rattle.pin_rule.specs.Views.{OwnsAt, EachView}
-use Rattle.pin_rule.specs.Lawful.{PinsFirst, EntryStands, WordStands, Knows, Lawful}
+use Rattle.pin_rule.specs.Lawful.{PinsFirst, EntryStands, WordStands, Knows}
 use Rattle.pin_rule.specs.Steps.{still, after_split, split_off, after_join, spent_view}
 use Rattle.pin_rule.specs.Keeps.{KeepsSplit, KeepsJoin, law_of}
 use Rattle.pin_rule.proofs.Lists.{total_set, total_append, each_append}

@@ -1,5 +1,5 @@
 -- A publication keeps the rule.
-use Rattle.std.proofs.Common.{◌≡◌, ◌≢◌, ℕ, zero, suc, ◌+◌, ◌-◌, ◌<◌, ◌≤◌, List, [], ◌∷◌, ◌++◌, map, inl, inr, slice_index, set, length-set, eqb, ne_eqb, sym, refl, ap, ◌∙◌, subst, arith}
+use Rattle.std.proofs.Common.{◌≡◌, ◌≢◌, ℕ, zero, suc, ◌+◌, ◌-◌, ◌<◌, List, [], inl, inr, slice_index, set, length-set, eqb, ne_eqb, sym, refl, ap, ◌∙◌, subst, arith}
 use Rattle.std.proofs.lemmas.Bool.{cases_lt}
 use mathlib.Core.Option as maybe
 use mathlib.Core.Logic.{dite}
@@ -12,7 +12,6 @@ use Rattle.pin_rule.specs.declared.sizes.Sizes.{Sizes}
 use Rattle.pin_rule.specs.declared.content.Entry.{Entry}
 use Rattle.pin_rule.specs.declared.view.View.{View}
 use Rattle.pin_rule.specs.declared.view.OwnRow.{OwnRow}
-use Rattle.pin_rule.specs.declared.view.EntryFact.{EntryFact}
 use Rattle.pin_rule.specs.declared.view.WordFact.{WordFact}
 use Rattle.pin_rule.specs.Layout.{place_word, claim, entry, row_at}
 use Rattle.pin_rule.specs.Lists.{Each}
@@ -26,7 +25,7 @@ use Rattle.pin_rule.proofs.Lists.{each_map, each_in, each_append, each_mapped, n
 use Rattle.pin_rule.proofs.Frames.{set_same, Same, key_same, content_same, same_key, place_in, wrote, place-claim, place-entry, place-row}
 use Rattle.pin_rule.proofs.Moves.{entry_moves}
 use Rattle.pin_rule.proofs.Paths.{on_page}
-use Rattle.pin_rule.proofs.Learning.{learns, only_first, met_stands}
+use Rattle.pin_rule.proofs.Learning.{learns, met_stands}
 use Rattle.pin_rule.proofs.Seats.{none_some, owner_row, each_set, owns_cases, owns_else, rest}
 
 module _ (L : List Entry → Type 0) (F : List Entry → List ℕ → Type 0) (z : Sizes) (v : View) (o : OwnRow) (g : ℕ → ℕ) (place : ℕ) (ready : IsReady (F v.log) z v o g place)

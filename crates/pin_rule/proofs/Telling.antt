@@ -5,7 +5,7 @@ use lib.ListN.{get_elem?}
 use Rattle.pin_rule.specs.declared.sizes.Sizes.{Sizes}
 use Rattle.pin_rule.specs.declared.content.Entry.{Entry}
 use Rattle.pin_rule.specs.declared.view.View.{View}
-use Rattle.pin_rule.specs.Layout.{entry, row_at}
+use Rattle.pin_rule.specs.Layout.{row_at}
 use Rattle.pin_rule.specs.Rows.{content_of}
 use Rattle.pin_rule.specs.Lawful.{EntryStands, WordStands, IsEntry, Lawful}
 use Rattle.pin_rule.specs.Told.{KnowsRow, KnowsWord, IsTold}

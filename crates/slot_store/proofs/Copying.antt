@@ -1,5 +1,5 @@
 -- The loop that copies a payload into the buffer.
-use Rattle.std.proofs.Common.{◌≡◌, ◌≢◌, ℕ, suc, ◌+◌, ◌<◌, ◌≤◌, List, [], ◌∷◌, ◌++◌, length, slice_index, set, get_or-set_same, get_or-set_other, sym, refl, ap, ◌∙◌, subst, arith}
+use Rattle.std.proofs.Common.{◌≡◌, ℕ, ◌+◌, ◌<◌, ◌≤◌, List, [], ◌∷◌, ◌++◌, length, slice_index, set, get_or-set_same, get_or-set_other, sym, refl, ◌∙◌, subst, arith}
 use mathlib.Core.Logic.{dite}
 use native.Mathlib.Decide.{ℕ_discrete}
 use Rattle.std.specs.Prelude.{Some}
@@ -7,7 +7,7 @@ use Rattle.pin_rule.specs.declared.sizes.Sizes.{Sizes}
 use Rattle.pin_rule.specs.declared.view.View.{View}
 use Rattle.pin_rule.specs.declared.view.Step.{Step}
 use Rattle.pin_rule.specs.Steps.{version_of, loaded_row, after_load_row}
-use Rattle.pin_rule.specs.Told.{IsTold, KnowsRow, KnowsWord}
+use Rattle.pin_rule.specs.Told.{IsTold, KnowsWord}
 use Rattle.slot_store.specs.Walks.{IsAtWork, Moves, Reads, Copies}
 use Rattle.slot_store.proofs.Growing.{moves_on, work_on, earlier, later, reads_on}
 use Rattle.slot_store.proofs.Single.{knows_row, moves_row, reads_row}
@@ -41,6 +41,6 @@ module _ (z : Sizes) (v w u : View) (row from size i x : ℕ) (buffer : List ℕ
     size_read = reads_on z w u c.added (c.added ++ l.added) more row 1 size c.size_read;
     words = λ j lt. dite (ℕ_discrete j i)
         (λ e. subst (λ (k : ℕ). Reads z u (c.added ++ l.added) row (from + k) (slice_index (set buffer i x) k)) (sym e)
-            (subst (Reads z u (c.added ++ l.added) row (from + i)) (sym (get_or-set_same buffer i x 0 inside)) (reads_on z u u l.added (c.added ++ l.added) (later u c.added l.added) row (from + i) x l.read)))
+        (subst (Reads z u (c.added ++ l.added) row (from + i)) (sym (get_or-set_same buffer i x 0 inside)) (reads_on z u u l.added (c.added ++ l.added) (later u c.added l.added) row (from + i) x l.read)))
         (λ n. subst (Reads z u (c.added ++ l.added) row (from + j)) (sym (get_or-set_other buffer i j x 0 n)) (reads_on z w u c.added (c.added ++ l.added) more row (from + j) _ (c.words j (omega arith))));
   }

@@ -1,5 +1,5 @@
 -- Steps that were added, seen as what the page means.
-use Rattle.std.proofs.Common.{◌≡◌, ℕ, List, ◌++◌, sym, refl, subst}
+use Rattle.std.proofs.Common.{◌≡◌, ℕ, List, sym, subst}
 use Rattle.atomic_table.specs.Seated.{TableId}
 use Rattle.pin_rule.specs.declared.sizes.Sizes.{Sizes}
 use Rattle.pin_rule.specs.declared.content.Entry.{Entry}

@@ -1,19 +1,18 @@
 -- What a look found.
-use Rattle.std.proofs.Common.{◌≡◌, ◌≢◌, ℕ, suc, ◌+◌, ◌<◌, ◌≤◌, List, [], ◌∷◌, ◌++◌, length, take, slice_index, sym, refl, ap, ◌∙◌, subst, arith}
+use Rattle.std.proofs.Common.{◌≡◌, ℕ, ◌+◌, ◌<◌, ◌≤◌, List, ◌++◌, length, take, slice_index, sym, ◌∙◌, subst, arith}
 use Rattle.std.proofs.lemmas.List.{length-take-le, get_or-take}
-use Rattle.std.specs.Prelude.{Some}
 use Rattle.pin_rule.specs.declared.sizes.Sizes.{Sizes}
 use Rattle.pin_rule.specs.declared.content.Entry.{Entry}
 use Rattle.pin_rule.specs.declared.view.View.{View}
 use Rattle.pin_rule.specs.declared.view.Step.{Step}
 use Rattle.pin_rule.specs.Rows.{on_path}
-use Rattle.pin_rule.specs.Told.{IsTold, KnowsWord}
+use Rattle.pin_rule.specs.Told.{IsTold}
 use Rattle.pin_rule.proofs.Lists.{in_left}
 use Rattle.slot_store.specs.declared.finding.Seen.TheVariants as seen
 use Rattle.slot_store.specs.declared.finding.Glance.TheVariants as glance
-use Rattle.slot_store.specs.Keys.{row_of, head_of, TellsKey}
-use Rattle.slot_store.specs.Answers.{HoldsOther, ReadWord}
-use Rattle.slot_store.specs.Walks.{Moves, Reads, Passed, Walks, Copies, Glances}
+use Rattle.slot_store.specs.Keys.{row_of}
+use Rattle.slot_store.specs.Answers.{HoldsOther}
+use Rattle.slot_store.specs.Walks.{Reads, Passed, Walks, Copies, Glances}
 use Rattle.slot_store.proofs.ByWord.{by_parts, length_row, content_is}
 use Rattle.slot_store.proofs.Growing.{moves_on, earlier, later, reads_on}
 use Rattle.slot_store.proofs.Passing.{full}

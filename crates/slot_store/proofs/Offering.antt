@@ -1,7 +1,6 @@
 -- A row is offered to a place of the page.
-use Rattle.std.proofs.Common.{◌≡◌, ◌≢◌, ℕ, zero, suc, ◌+◌, ◌<◌, ◌≤◌, List, [], ◌∷◌, ◌++◌, inl, inr, length, slice_index, eqb, sym, refl, ap, ◌∙◌, subst, arith}
+use Rattle.std.proofs.Common.{◌≡◌, ◌≢◌, ℕ, ◌+◌, ◌<◌, List, [], ◌∷◌, ◌++◌, inl, inr, slice_index, eqb, sym, ap, ◌∙◌, subst, arith}
 use prog.Atomic.{either}
-use Rattle.std.specs.Prelude.{Some, None}
 use Rattle.pin_rule.specs.declared.sizes.Sizes.{Sizes}
 use Rattle.pin_rule.specs.declared.content.Entry.{Entry}
 use Rattle.pin_rule.specs.declared.view.View.{View}
@@ -19,7 +18,7 @@ use Rattle.pin_rule.proofs.Seats.{same_some}
 use Rattle.pin_rule.proofs.Paths.{on_page}
 use Rattle.pin_rule.proofs.Publishing.{keeps_publish}
 use Rattle.slot_store.specs.Keys.{row_of}
-use Rattle.slot_store.specs.Walks.{IsAtWork, Moves, HasWrittenAll, IsPlaceable, Offers}
+use Rattle.slot_store.specs.Walks.{IsAtWork, Moves, IsPlaceable, Offers}
 use Rattle.slot_store.proofs.ByWord.{length_row, key_is, content_is}
 use Rattle.slot_store.proofs.Growing.{moves_on, work_on}
 use Rattle.slot_store.proofs.Passing.{loads, meets, range}

@@ -1,5 +1,5 @@
 -- The walk along the path of a key, past the rows with other keys.
-use Rattle.std.proofs.Common.{◌≡◌, ◌≢◌, ℕ, zero, suc, ◌+◌, ◌-◌, ◌<◌, ◌≤◌, List, [], ◌∷◌, ◌++◌, inl, inr, sym, refl, ap, ◌∙◌, subst, arith}
+use Rattle.std.proofs.Common.{◌≡◌, ◌≢◌, ℕ, suc, ◌+◌, ◌-◌, ◌<◌, List, [], ◌∷◌, ◌++◌, inl, sym, refl, ap, ◌∙◌, subst, arith}
 use mathlib.Core.Logic.{dite}
 use native.Mathlib.Decide.{ℕ_discrete}
 use Rattle.std.specs.Prelude.{Some}
@@ -8,14 +8,14 @@ use Rattle.pin_rule.specs.declared.view.View.{View}
 use Rattle.pin_rule.specs.declared.view.Step.{Step}
 use Rattle.pin_rule.specs.Rows.{on_path}
 use Rattle.pin_rule.specs.Steps.{version_of, loaded_place, after_load_place}
-use Rattle.pin_rule.specs.Told.{IsTold, KnowsRow}
+use Rattle.pin_rule.specs.Told.{IsTold}
 use Rattle.pin_rule.specs.Lists.{In}
 use Rattle.pin_rule.proofs.Lists.{in_left, in_right}
 use Rattle.pin_rule.proofs.Paths.{on_page, path_reaches}
 use Rattle.slot_store.specs.declared.finding.Seen.TheVariants as seen
 use Rattle.slot_store.specs.Answers.{MetRow, IsPageFull}
 use Rattle.slot_store.specs.Walks.{IsAtWork, Moves, KnowsAt, ReadsKey, Passed, Compares, Walking, Walks}
-use Rattle.slot_store.proofs.Growing.{stays, moves_on, work_on, earlier, later, key_on, other_on, met_on, passed_on}
+use Rattle.slot_store.proofs.Growing.{stays, moves_on, earlier, later, key_on, other_on, met_on, passed_on}
 use Rattle.slot_store.proofs.Single.{moves_place, knows_at, names_row, knows_row}
 
 -- a row was met at a place

@@ -1,14 +1,10 @@
 -- The walk of a row to its place.
-use Rattle.std.proofs.Common.{◌≡◌, ◌≢◌, ℕ, zero, suc, ◌+◌, ◌-◌, ◌<◌, ◌≤◌, List, [], ◌∷◌, ◌++◌, length, slice_index, append_assoc, sym, refl, ap, ◌∙◌, subst, arith}
-use Rattle.std.specs.Prelude.{Some, None, Option}
+use Rattle.std.proofs.Common.{◌≡◌, ℕ, suc, ◌+◌, ◌<◌, ◌≤◌, List, [], ◌∷◌, ◌++◌, length, append_assoc, sym, ap, ◌∙◌, subst, arith}
 use Rattle.pin_rule.specs.declared.sizes.Sizes.{Sizes}
 use Rattle.pin_rule.specs.declared.content.Entry.{Entry}
 use Rattle.pin_rule.specs.declared.view.View.{View}
-use Rattle.pin_rule.specs.declared.view.OwnRow.{OwnRow}
 use Rattle.pin_rule.specs.declared.view.Step.{Step}
-use Rattle.pin_rule.specs.Rows.{on_path}
 use Rattle.pin_rule.specs.Steps.{published}
-use Rattle.pin_rule.specs.Ready.{KnowsOther}
 use Rattle.slot_store.specs.declared.placing.Placed.TheVariants as placed
 use Rattle.slot_store.specs.Keys.{row_of}
 use Rattle.slot_store.specs.Walks.{OwnsRow, HasWrittenAll, IsPlaceable, Walking, Compares, Offers, Places}

@@ -1,5 +1,5 @@
 -- Single steps of a user at work.
-use Rattle.std.proofs.Common.{◌≡◌, ℕ, zero, suc, List, [], ◌∷◌, ◌++◌, inl, inr, eqb, eq-eqb, sym, refl, ap, ◌∙◌, subst}
+use Rattle.std.proofs.Common.{◌≡◌, ℕ, zero, suc, List, [], ◌∷◌, ◌++◌, inl, inr, eq-eqb, sym, refl, ap, ◌∙◌, subst}
 use mathlib.Core.Bool.{cond}
 use Rattle.std.specs.Prelude.{Option, Some, None}
 use Rattle.pin_rule.specs.declared.sizes.Sizes.{Sizes}
@@ -7,7 +7,6 @@ use Rattle.pin_rule.specs.declared.view.View.{View}
 use Rattle.pin_rule.specs.declared.view.OwnRow.{OwnRow}
 use Rattle.pin_rule.specs.declared.view.EntryFact.{EntryFact}
 use Rattle.pin_rule.specs.declared.view.WordFact.{WordFact}
-use Rattle.pin_rule.specs.declared.view.Step.{Step}
 use Rattle.pin_rule.specs.Lists.{In}
 use Rattle.pin_rule.specs.Views.{version_at}
 use Rattle.pin_rule.specs.Steps.{met_entry, met_word, version_of, exchanged, own_words, published_words, loaded_place, loaded_row, published, gave_back, after_load_place, after_load_row, after_publish, after_give_back}

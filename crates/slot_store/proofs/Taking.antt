@@ -1,5 +1,5 @@
 -- The loop that claims the first free row of a range.
-use Rattle.std.proofs.Common.{◌≡◌, ◌≢◌, ℕ, zero, suc, ◌+◌, ◌<◌, ◌≤◌, List, [], ◌∷◌, ◌++◌, inl, inr, sym, refl, ap, ◌∙◌, subst, arith}
+use Rattle.std.proofs.Common.{◌≡◌, ◌≢◌, ℕ, ◌+◌, ◌<◌, ◌≤◌, List, [], ◌∷◌, ◌++◌, inl, inr, sym, refl, ap, ◌∙◌, subst, arith}
 use Rattle.std.proofs.lemmas.Bool.{cases_lt}
 use mathlib.Core.Logic.{dite}
 use native.Mathlib.Decide.{ℕ_discrete}
@@ -11,7 +11,7 @@ use Rattle.pin_rule.specs.Lists.{In}
 use Rattle.pin_rule.specs.Steps.{claimed, after_claim}
 use Rattle.pin_rule.proofs.Lists.{in_left, in_right}
 use Rattle.slot_store.specs.Walks.{IsAtWork, Moves, Claims}
-use Rattle.slot_store.proofs.Growing.{stays, moves_on, work_on}
+use Rattle.slot_store.proofs.Growing.{stays, moves_on}
 
 -- each row of the range below this one was in use
 pub record Taking (z : Sizes) (v w : View) (from at : ℕ) : Type 0 where

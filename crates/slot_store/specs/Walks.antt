@@ -1,5 +1,5 @@
 -- What the parts of a call do to the view.
-use Rattle.std.specs.Prelude.{◌≡◌, ◌≢◌, ℕ, suc, ◌+◌, ◌<◌, ◌≤◌, List, [], ◌∷◌, ◌++◌, length, take, slice_index, Option, Some, None, IsTrue}
+use Rattle.std.specs.Prelude.{◌≡◌, ◌≢◌, ℕ, suc, ◌+◌, ◌<◌, ◌≤◌, List, [], ◌∷◌, ◌++◌, length, take, slice_index, Option, Some, None}
 use Rattle.pin_rule.specs.declared.sizes.Sizes.{Sizes}
 use Rattle.pin_rule.specs.declared.view.View.{View}
 use Rattle.pin_rule.specs.declared.view.OwnRow.{OwnRow}
@@ -18,7 +18,7 @@ use Rattle.slot_store.specs.declared.finding.Glance.TheVariants as glance
 use Rattle.slot_store.specs.declared.placing.Placed.{Placed}
 use Rattle.slot_store.specs.declared.placing.Placed.TheVariants as placed
 use Rattle.slot_store.specs.Keys.{row_of, head_of, TellsKey}
-use Rattle.slot_store.specs.Answers.{MetRow, ReadWord, IsFound, IsInitial, IsPageFull, IsMade, IsAlready}
+use Rattle.slot_store.specs.Answers.{MetRow, ReadWord, IsFound, IsInitial, IsPageFull}
 
 -- a user of the table that makes steps
 pub record IsAtWork (z : Sizes) (v : View) : Type 0 where

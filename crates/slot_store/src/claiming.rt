@@ -8,12 +8,7 @@ use pin_rule::hand::Hand;
 use pin_rule::sizes::Sizes;
 
 /// Claims the first free row of a range.
-fn claim_within<C: Content>(
-    hand: &mut Hand<C>,
-    sizes: Sizes,
-    from: u32,
-    to: u32,
-) -> Option<u32>
+fn claim_within<C: Content>(hand: &mut Hand<C>, sizes: Sizes, from: u32, to: u32) -> Option<u32>
     requires work { IsAtWork sizes (view_of hand.old) }
     requires free { (view_of hand.old).own ≡ None }
     requires rows { to ≤ sizes.rows }
@@ -30,11 +25,7 @@ fn claim_within<C: Content>(
 
 /// Claims a free row, and tries them from `next` on, so that the rows below it,
 /// which are mostly in use, come last.
-pub(crate) fn claim_row<C: Content>(
-    hand: &mut Hand<C>,
-    sizes: Sizes,
-    next: u32,
-) -> Option<u32>
+pub(crate) fn claim_row<C: Content>(hand: &mut Hand<C>, sizes: Sizes, next: u32) -> Option<u32>
     requires work { IsAtWork sizes (view_of hand.old) }
     requires free { (view_of hand.old).own ≡ None }
     requires next { next ≤ sizes.rows }

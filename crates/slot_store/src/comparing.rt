@@ -9,12 +9,7 @@ use pin_rule::hand::Hand;
 use pin_rule::sizes::Sizes;
 
 /// Reads the words of the row up to the first that differs from the key's.
-pub(crate) fn has_key<C: Content>(
-    hand: &mut Hand<C>,
-    sizes: Sizes,
-    row: u32,
-    key: &[u64],
-) -> bool
+pub(crate) fn has_key<C: Content>(hand: &mut Hand<C>, sizes: Sizes, row: u32, key: &[u64]) -> bool
     requires work { IsAtWork sizes (view_of hand.old) }
     requires row { row < sizes.rows }
     requires known { version_of (view_of hand.old).entries row ≡ Some 0 }

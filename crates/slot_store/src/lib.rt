@@ -13,9 +13,9 @@ pub mod page;
 mod paths;
 pub mod pinned;
 mod placing;
-mod using;
 #[cfg(test)]
 mod tests;
+mod using;
 mod writing;
 
 /// There was no memory.

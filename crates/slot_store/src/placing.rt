@@ -20,12 +20,7 @@ pub(crate) enum Placed {
 /// Publishes the row at a place that is empty. Answers 0 where that was done,
 /// and else the number of the row that stands there plus one. A place that is
 /// known to be taken is loaded alone, which is cheaper than an exchange.
-fn offer<C: Content>(
-    hand: &mut Hand<C>,
-    sizes: Sizes,
-    place: u32,
-    row: u32,
-) -> u64
+fn offer<C: Content>(hand: &mut Hand<C>, sizes: Sizes, place: u32, row: u32) -> u64
     requires work { IsAtWork sizes (view_of hand.old) }
     requires place { (key : List ℕ) × (payload : List ℕ) × (step : ℕ) × IsPlaceable (C.fits (view_of hand.old).log) sizes (view_of hand.old) row key payload step place }
     ensures table { table_of hand.new ≡ table_of hand.old }

@@ -150,6 +150,7 @@ fn publish_at_once(rt: &impl Threads, alloc: Global, more: u64) -> Result<(u32, 
             (first, made)
         },
         move || -> (Pinned<AnyRow>, u32)
+            requires { more ≤ 1000 }
             ensures { result.1 ≤ 64 }
         {
             let made = publish_all(&mut second, more);

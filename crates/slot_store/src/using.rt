@@ -1,11 +1,11 @@
 // A pinned user as a page.
 ghost use Rattle.std.specs.Prelude.{◌≡◌};
 
+use crate::claiming::claim_row;
 use crate::finding::{Glance, look};
 use crate::page::{Look, Page, Put};
 use crate::pinned::Pinned;
 use crate::placing::{Placed, place_row};
-use crate::claiming::claim_row;
 use crate::writing::write_whole;
 use pin_rule::content::Content;
 
@@ -19,12 +19,7 @@ impl<C: Content> Page<C> for Pinned<C> {
     }
 
     fn find(&mut self, key: &[u64]) -> Look<'_> {
-        let glance = look(
-            &mut self.hand,
-            self.sizes,
-            key,
-            self.buffer.as_mut_slice(),
-        );
+        let glance = look(&mut self.hand, self.sizes, key, self.buffer.as_mut_slice());
         match glance {
             Glance::Found { count } => Look::Found(&self.buffer.as_slice()[..count]),
             Glance::Initial { place } => Look::Initial { place },

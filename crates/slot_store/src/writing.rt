@@ -9,13 +9,7 @@ use pin_rule::hand::Hand;
 use pin_rule::sizes::Sizes;
 
 /// Writes words from an index of the row on.
-fn write_words<C: Content>(
-    hand: &mut Hand<C>,
-    sizes: Sizes,
-    row: u32,
-    from: u32,
-    words: &[u64],
-)
+fn write_words<C: Content>(hand: &mut Hand<C>, sizes: Sizes, row: u32, from: u32, words: &[u64])
     requires work { IsAtWork sizes (view_of hand.old) }
     requires row { row < sizes.rows }
     requires owns { OwnsRow (view_of hand.old) row }

@@ -1,4 +1,4 @@
-use Rattle.std.proofs.Common.{◌≡◌, ◌≢◌, ◌+◌, ◌<◌, ◌≤◌, ℕ, length, List, refl, sym, ap, ◌∙◌, subst, arith}
+use Rattle.std.proofs.Common.{◌≡◌, ◌+◌, ◌<◌, ◌≤◌, ℕ, length, List, refl, sym, ap, ◌∙◌, subst, arith}
 use Rattle.pin_rule.specs.declared.sizes.Sizes.{Sizes}
 use Rattle.pin_rule.specs.Hands.{view_of, sizes_of}
 use Rattle.pin_rule.proofs.Learning.{keeps_load_row}
@@ -39,7 +39,7 @@ pub returns-then-load_row-key-2-clause-compared : goal.returns-then-load_row-key
 returns-then-load_row-key-2-clause-compared g c =
     let v = view_of c.args.hand.now in let w = view_of c.loop-i.hand in let u = view_of c.load_row-in-loop-i.new.self in let i : ℕ = c.loop-i.i in let key = c.args.key.now in
     differs c.args.sizes v w u c.args.row key c.requires.work (i + 2) (i + 2) c.load_row-in-loop-i.result c.load_row-in-loop-i.ensures.view c.loop-i.invariant.reading (tells key i (omega arith))
-        (λ e. c.if-load_row-key-2.true (e ∙ head_at key i))
+    (λ e. c.if-load_row-key-2.true (e ∙ head_at key i))
 
 pub loop-i-preserved : goal.loop-i-preserved
 loop-i-preserved g c =

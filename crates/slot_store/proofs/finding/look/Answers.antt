@@ -1,4 +1,3 @@
-use Rattle.std.proofs.Common.{◌≡◌}
 use Rattle.pin_rule.specs.Hands.{view_of}
 use Rattle.slot_store.proofs.Glancing.{initial, page_full, found}
 use Rattle.slot_store.proofs.finding.look.Goals as goal

@@ -1,4 +1,4 @@
-use Rattle.std.proofs.Common.{◌≡◌, ◌<◌, ◌≤◌, ℕ, ◌%◌, ◌/◌, ◌^◌, sym, ap, ◌∙◌, arith}
+use Rattle.std.proofs.Common.{ℕ, ◌%◌, ◌/◌, ◌^◌, sym, ap, ◌∙◌, arith}
 use Rattle.pin_rule.proofs.Paths.{path_start}
 use Rattle.slot_store.proofs.paths.first_place.Goals as goal
 

@@ -1,4 +1,4 @@
-use Rattle.std.proofs.Common.{◌≡◌, ◌<◌, ◌≤◌, ℕ, suc, ◌+◌, sym, ap, ◌∙◌, arith}
+use Rattle.std.proofs.Common.{◌≡◌, ◌<◌, ◌≤◌, ℕ, suc, ◌+◌, sym, ◌∙◌, arith}
 use Rattle.pin_rule.specs.Rows.{on_path}
 use Rattle.pin_rule.proofs.Paths.{path_on, path_round}
 use Rattle.slot_store.proofs.paths.next_place.Goals as goal

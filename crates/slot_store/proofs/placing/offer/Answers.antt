@@ -1,8 +1,7 @@
-use Rattle.std.proofs.Common.{◌≡◌, ◌≢◌, ◌+◌, ◌<◌, ◌≤◌, ℕ, sym, ap, ◌∙◌, subst, arith}
+use Rattle.std.proofs.Common.{◌<◌, sym, ap, ◌∙◌, subst, arith}
 use Rattle.pin_rule.specs.declared.sizes.Sizes.{Sizes}
 use Rattle.pin_rule.specs.declared.view.View.{View}
 use Rattle.pin_rule.specs.Hands.{view_of, sizes_of}
-use Rattle.pin_rule.specs.Steps.{loaded_place}
 use Rattle.pin_rule.proofs.Learning.{keeps_load_place}
 use Rattle.slot_store.proofs.Growing.{work_on}
 use Rattle.slot_store.proofs.Offering as offers

@@ -1,4 +1,4 @@
-use Rattle.std.proofs.Common.{◌≡◌, ◌≢◌, ◌+◌, ◌-◌, ◌<◌, ◌≤◌, ℕ, suc, refl, sym, ap, ◌∙◌, subst, arith}
+use Rattle.std.proofs.Common.{◌≡◌, ◌-◌, ◌<◌, ℕ, refl, ◌∙◌, arith}
 use Rattle.std.specs.Prelude.{IsTrue, Bool, true, false}
 use Rattle.pin_rule.specs.Hands.{view_of}
 use Rattle.slot_store.proofs.Growing.{work_on}
@@ -35,7 +35,7 @@ has_key-requires-clause-row g c = let n : ℕ = c.offer-met.result in (c.offer-m
 pub returns-then-has_key-clause-placed : goal.returns-then-has_key-clause-placed
 returns-then-has_key-clause-placed g c = let n : ℕ = c.offer-met.result in
     already c.args.sizes (view_of c.args.hand.now) (view_of c.loop-step.hand) c.args.key.now c.args.payload.now c.args.row c.loop-step._step c.loop-step.place c.loop-step.invariant.walking (view_of c.offer-met.new.hand) n c.offer-met.ensures.offer (n - 1)
-        (row_met n c.if-met-eq0.false) (view_of c.has_key.new.hand) (IsTrue c.has_key.result) c.has_key.ensures.compared c.if-has_key.true
+    (row_met n c.if-met-eq0.false) (view_of c.has_key.new.hand) (IsTrue c.has_key.result) c.has_key.ensures.compared c.if-has_key.true
 
 pub next_place-place-requires : goal.next_place-place-requires
 next_place-place-requires g c = on_the_page c.args.sizes (view_of c.args.hand.now) (view_of c.loop-step.hand) c.args.key.now c.loop-step._step c.loop-step.place c.loop-step.invariant.walking c.loop-step-test.true

@@ -1,4 +1,4 @@
-use Rattle.std.proofs.Common.{◌≡◌, ◌<◌, ◌≤◌, ℕ, sym, ap, ◌∙◌, subst, arith}
+use Rattle.std.proofs.Common.{◌≡◌, ◌<◌, sym, ap, ◌∙◌, subst, arith}
 use lib.Dec.{eqb}
 use prog.Atomic.{either}
 use Rattle.pin_rule.specs.declared.sizes.Sizes.{Sizes}

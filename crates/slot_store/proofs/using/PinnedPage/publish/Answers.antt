@@ -29,7 +29,7 @@ returns-in-Here-clause-put g c =
     let payload = c.args.payload.now in let row = c.in-Some.row in let cl = c.in-Some.ensures.claim in let wr = c.write_whole.ensures.wrote in
     let table = c.in-Here.ensures.table ∙ c.write_whole.ensures.table ∙ c.claim_row.ensures.table in
     publishes v (view_of q) (table_of p.hand) (table_of q) (concludes.walked z v w x (view_of q) row key payload cl wr k.added) (concludes.moves z v w x (view_of q) row key payload cl wr k.added k.moves) (k.is.0 ∙ sym p.free) table z key payload put.Made p.measured
-        (concludes.made z v w x (view_of q) row key payload cl wr k)
+    (concludes.made z v w x (view_of q) row key payload cl wr k)
 
 pub returns-in-Already-clause-put : goal.returns-in-Already-clause-put
 returns-in-Already-clause-put g c =
@@ -38,7 +38,7 @@ returns-in-Already-clause-put g c =
     let table = c.give_back.ensures.table ∙ c.in-Already.ensures.table ∙ c.write_whole.ensures.table ∙ c.claim_row.ensures.table in
     let same = (concludes.moves z v w x y row key payload cl wr k.added k.moves).sizes ∙ p.measured in
     publishes v (view_of q) (table_of p.hand) (table_of q) (concludes.ended z v w x y row key payload cl wr k.added) (concludes.ends z v w x y row key payload cl wr k.added (view_of q) k.moves same c.give_back.ensures.view)
-        (ap (λ (u : View). u.own) c.give_back.ensures.view ∙ sym p.free) table z key payload put.Already p.measured (concludes.already z v w x y row key payload cl wr k)
+    (ap (λ (u : View). u.own) c.give_back.ensures.view ∙ sym p.free) table z key payload put.Already p.measured (concludes.already z v w x y row key payload cl wr k)
 
 pub returns-in-Full-clause-put : goal.returns-in-Full-clause-put
 returns-in-Full-clause-put g c =
@@ -47,4 +47,4 @@ returns-in-Full-clause-put g c =
     let table = c.give_back-in-Full.ensures.table ∙ c.in-Full.ensures.table ∙ c.write_whole.ensures.table ∙ c.claim_row.ensures.table in
     let same = (concludes.moves z v w x y row key payload cl wr k.added k.moves).sizes ∙ p.measured in
     publishes v (view_of q) (table_of p.hand) (table_of q) (concludes.ended z v w x y row key payload cl wr k.added) (concludes.ends z v w x y row key payload cl wr k.added (view_of q) k.moves same c.give_back-in-Full.ensures.view)
-        (ap (λ (u : View). u.own) c.give_back-in-Full.ensures.view ∙ sym p.free) table z key payload put.PageFull p.measured (concludes.page_full z v w x y row key payload cl wr k)
+    (ap (λ (u : View). u.own) c.give_back-in-Full.ensures.view ∙ sym p.free) table z key payload put.PageFull p.measured (concludes.page_full z v w x y row key payload cl wr k)
