@@ -1,0 +1,18 @@
+-- What a loan means: the value that it lends, the lifetime that names it, and its parts of the right to it.
+use Rattle.std.specs.Prelude.{ℕ}
+use Rattle.lend.specs.declared.loan.Loan.{Loan}
+
+-- all parts of the right to one value
+abbrev pub whole : ℕ
+whole = 4294967296
+
+module _ {T : Type 0} where
+  abbrev pub value_of : Loan T → T
+  value_of l = l.hold.value
+
+  -- the loans of one value, and no others, have one age
+  abbrev pub age_of : Loan T → ℕ
+  age_of l = l.hold.age
+
+  abbrev pub parts_of : Loan T → ℕ
+  parts_of l = l.hold.parts

@@ -1,0 +1,99 @@
+-- What a written word leaves: the words of the other parts of the table, and rows that are read by their words.
+use Rattle.std.proofs.Common.{◌≡◌, ◌≢◌, ℕ, zero, suc, ◌+◌, ◌*◌, ◌<◌, ◌≤◌, List, [], ◌∷◌, slice_index, length, set, sym, refl, ap, ◌∙◌, arith, get_or-set_other, get_or-set_same, get_or, suc-mul, inl, inr}
+use Rattle.std.proofs.lemmas.Bool.{cases_lt}
+use Rattle.std.proofs.Math.Nat.{mul-le-mul_right}
+use Rattle.pin_rule.specs.declared.sizes.Sizes.{Sizes}
+use Rattle.pin_rule.specs.Layout.{claim_word, place_word, row_word, word_count, claim, entry, row_at}
+use Rattle.pin_rule.specs.Rows.{words_of, key_of, content_of}
+
+pub set_same : (l : List ℕ) (i : ℕ) → set l i (slice_index l i) ≡ l
+set_same [] i = refl
+set_same (x ∷ xs) zero = refl
+set_same (x ∷ xs) (suc i) = ap (λ l. x ∷ l) (set_same xs i)
+
+-- rows that agree on the words of a row have the same key and the same content
+abbrev pub Same : ℕ → (ℕ → ℕ) → (ℕ → ℕ) → Type 0
+Same width f g = (i : ℕ) → i < width → f i ≡ g i
+
+words_same : (f g : ℕ → ℕ) (width from n : ℕ) → from + n ≤ width → Same width f g → words_of f from n ≡ words_of g from n
+words_same f g width from zero h s = refl
+words_same f g width from (suc n) h s = let a = s from (omega arith) in let b = words_same f g width (suc from) n (omega arith) s in (λ i. a i ∷ b i)
+
+pub key_same : (f g : ℕ → ℕ) (width : ℕ) → 2 + f 0 ≤ width → Same width f g → key_of f ≡ key_of g
+key_same f g width h s = words_same f g width 2 (f 0) h s ∙ ap (words_of g 2) (s 0 (omega arith))
+
+pub content_same : (f g : ℕ → ℕ) (width : ℕ) → 2 + (f 0 + f 1) ≤ width → Same width f g → content_of f ≡ content_of g
+content_same f g width h s = let a = s 0 (omega arith) in let b = s 1 (omega arith) in words_same f g width 0 (2 + (f 0 + f 1)) (omega arith) s ∙ (λ i. words_of g 0 (2 + (a i + b i)))
+
+length_words : (f : ℕ → ℕ) (from n : ℕ) → length (words_of f from n) ≡ n
+length_words f from zero = refl
+length_words f from (suc n) = ap suc (length_words f (suc from) n)
+
+pub word_at : (f : ℕ → ℕ) (from n i : ℕ) → i < n → get_or (words_of f from n) i 0 ≡ f (from + i)
+word_at f from zero i h = absurd (omega arith)
+word_at f from (suc n) zero h = ap f (let r : from ≡ from + 0 = omega arith in r)
+word_at f from (suc n) (suc i) h = word_at f (suc from) n i (omega arith) ∙ ap f (let r : suc from + i ≡ from + suc i = omega arith in r)
+
+-- rows with the same key have the same key words
+pub same_key : (f g : ℕ → ℕ) → key_of f ≡ key_of g → (f 0 ≡ g 0) × ((i : ℕ) → i < f 0 → f (2 + i) ≡ g (2 + i))
+same_key f g e = let n : f 0 ≡ g 0 = sym (length_words f 2 (f 0)) ∙ ap length e ∙ length_words g 2 (g 0) in
+    (n, λ i h. sym (word_at f 2 (f 0) i h) ∙ ap (λ l. get_or l i 0) e ∙ word_at g 2 (g 0) i (omega arith))
+
+-- Each part ends before the next begins
+
+before : (r q w i : ℕ) → r < q → i < w → r * w + i < q * w
+before r q w i h k = let m : suc r * w ≤ q * w = mul-le-mul_right w h in let d : suc r * w ≡ r * w + w = suc-mul r w in omega arith
+
+pub place_before : (z : Sizes) (page place : ℕ) → page < z.versions → place < z.places → page * z.places + place < z.versions * z.places
+place_before z page place h k = before page z.versions z.places place h k
+
+pub claim_in : (z : Sizes) (row : ℕ) → row < z.rows → claim_word z row < word_count z
+claim_in z row h = omega arith
+
+pub place_in : (z : Sizes) (page place : ℕ) → page < z.versions → place < z.places → place_word z page place < word_count z
+place_in z page place h k = let m = place_before z page place h k in omega arith
+
+pub row_in : (z : Sizes) (row index : ℕ) → row < z.rows → index < z.width → row_word z row index < word_count z
+row_in z row index h k = let m = before row z.rows z.width index h k in omega arith
+
+module _ (z : Sizes) (words : List ℕ) (x : ℕ) where
+  other : (i j : ℕ) → j ≢ i → slice_index (set words i x) j ≡ slice_index words j
+  other i j n = get_or-set_other words i j x 0 n
+
+  -- the written word
+  pub wrote : (i : ℕ) → length words ≡ word_count z → i < word_count z → slice_index (set words i x) i ≡ x
+  wrote i l h = get_or-set_same words i x 0 (omega arith)
+
+  -- a claim word is written
+  pub claim-claim : (row r : ℕ) → r ≢ row → claim z (set words (claim_word z row) x) r ≡ claim z words r
+  claim-claim row r n = other (claim_word z row) (claim_word z r) (λ e. n (omega arith))
+
+  pub claim-entry : (row page p : ℕ) → row < z.rows → entry z (set words (claim_word z row) x) page p ≡ entry z words page p
+  claim-entry row page p h = other (claim_word z row) (place_word z page p) (λ e. omega arith)
+
+  pub claim-row : (row r i : ℕ) → row < z.rows → row_at z (set words (claim_word z row) x) r i ≡ row_at z words r i
+  claim-row row r i h = other (claim_word z row) (row_word z r i) (λ e. omega arith)
+
+  -- a place is written
+  pub place-claim : (page place r : ℕ) → r < z.rows → claim z (set words (place_word z page place) x) r ≡ claim z words r
+  place-claim page place r h = other (place_word z page place) (claim_word z r) (λ e. omega arith)
+
+  pub place-entry : (page place p : ℕ) → p ≢ place → entry z (set words (place_word z page place) x) page p ≡ entry z words page p
+  place-entry page place p n = other (place_word z page place) (place_word z page p) (λ e. n (omega arith))
+
+  pub place-row : (page place r i : ℕ) → page < z.versions → place < z.places → row_at z (set words (place_word z page place) x) r i ≡ row_at z words r i
+  place-row page place r i v h = let m = place_before z page place v h in other (place_word z page place) (row_word z r i) (λ e. omega arith)
+
+  -- a word of a row is written
+  pub row-claim : (row index r : ℕ) → r < z.rows → claim z (set words (row_word z row index) x) r ≡ claim z words r
+  row-claim row index r h = other (row_word z row index) (claim_word z r) (λ e. omega arith)
+
+  pub row-entry : (row index page p : ℕ) → page < z.versions → p < z.places → entry z (set words (row_word z row index) x) page p ≡ entry z words page p
+  row-entry row index page p v h = let m = place_before z page p v h in other (row_word z row index) (place_word z page p) (λ e. omega arith)
+
+apart : (r q w i j : ℕ) → r < q → i < w → r * w + i ≢ q * w + j
+apart r q w i j h k e = let m = before r q w i h k in omega arith
+
+pub row-row : (z : Sizes) (words : List ℕ) (x row index r i : ℕ) → index < z.width → i < z.width → ((r ≡ row) → i ≢ index) → row_at z (set words (row_word z row index) x) r i ≡ row_at z words r i
+row-row z words x row index r i h k n = other z words x (row_word z row index) (row_word z r i) (λ e. let e' : r * z.width + i ≡ row * z.width + index = omega arith in
+    elim (cases_lt r row) [ inl a ↦ apart r row z.width i index a k e' | inr b ↦ elim (cases_lt row r) [ inl a ↦ apart row r z.width index i a h (sym e') | inr c ↦ let same : r ≡ row = omega arith in n same (let s : r * z.width ≡ row * z.width = ap (λ q. q * z.width) same in omega arith) ] ])

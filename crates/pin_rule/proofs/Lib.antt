@@ -1,0 +1,14 @@
+pub mod Lists
+pub mod Paths
+pub mod Frames
+pub mod Seats
+pub mod Moves
+pub mod Learning
+pub mod Claiming
+pub mod Writing
+pub mod GivingBack
+pub mod Publishing
+pub mod Parting
+pub mod Beginning
+pub mod Telling
+pub mod Allowed

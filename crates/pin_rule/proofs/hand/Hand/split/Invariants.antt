@@ -1,0 +1,4 @@
+use Rattle.pin_rule.proofs.hand.Hand.split.Given as goal
+
+abbrev pub ghosts-split_as : goal.ghosts-split_as
+ghosts-split_as g a = record { pins = a.pins }

@@ -1,0 +1,11 @@
+pub mod Layout
+pub mod Spots
+pub mod Rows
+pub mod Lists
+pub mod Views
+pub mod Steps
+pub mod Lawful
+pub mod Keeps
+pub mod Told
+pub mod Ready
+pub mod Hands

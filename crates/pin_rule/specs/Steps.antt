@@ -1,0 +1,168 @@
+-- What each kind of step makes of the view: from the view before, the arguments, and the word met where the operation tells it.
+use Rattle.std.specs.Prelude.{ℕ, zero, suc, ◌+◌, ◌-◌, ◌/◌, List, [], ◌∷◌, ◌++◌, map, Option, Some, None, cond}
+use lib.Dec.{eqb}
+use Rattle.pin_rule.specs.declared.sizes.Sizes.{Sizes}
+use Rattle.pin_rule.specs.declared.view.View.{View}
+use Rattle.pin_rule.specs.declared.view.OwnRow.{OwnRow}
+use Rattle.pin_rule.specs.declared.view.Pin.{Pin}
+use Rattle.pin_rule.specs.declared.view.Role.{Role}
+use Rattle.pin_rule.specs.declared.view.EntryFact.{EntryFact}
+use Rattle.pin_rule.specs.declared.view.WordFact.{WordFact}
+use Rattle.pin_rule.specs.declared.view.Step.{Step}
+use Rattle.pin_rule.specs.declared.view.Kind.{Kind}
+use Rattle.pin_rule.specs.declared.view.Kind.TheVariants.{LoadPlace, LoadRow, Claim, WriteRow, Publish, GiveBack, Split, Join}
+use Rattle.pin_rule.specs.Layout.{claim_word, place_word, row_word, full_sizes}
+use Rattle.pin_rule.specs.Views.{whole, version_at}
+
+-- The steps as they stand in a view's list
+
+abbrev pub step_of : Kind → ℕ → Option ℕ → Option ℕ → Step
+step_of k i m n = record { kind = k; word = i; met = m; left = n }
+
+abbrev pub loaded_place : Sizes → ℕ → ℕ → ℕ → Step
+loaded_place z page place met = step_of LoadPlace (place_word z page place) (Some met) (Some met)
+
+abbrev pub loaded_row : Sizes → ℕ → ℕ → ℕ → Step
+loaded_row z row index met = step_of LoadRow (row_word z row index) (Some met) (Some met)
+
+-- the word that an exchange of 0 for a new word leaves
+abbrev pub exchanged : ℕ → ℕ → ℕ
+exchanged new zero = new
+exchanged new (suc n) = suc n
+
+abbrev pub claimed : Sizes → ℕ → ℕ → Step
+claimed z row met = step_of Claim (claim_word z row) (Some met) (Some (exchanged 1 met))
+
+abbrev pub wrote_row : Sizes → ℕ → ℕ → ℕ → Step
+wrote_row z row index word = step_of WriteRow (row_word z row index) None (Some word)
+
+abbrev pub published : Sizes → ℕ → ℕ → ℕ → ℕ → Step
+published z page place row met = step_of Publish (place_word z page place) (Some met) (Some (exchanged (suc row) met))
+
+abbrev pub gave_back : Sizes → ℕ → Step
+gave_back z row = step_of GiveBack (claim_word z row) None (Some 0)
+
+-- they load word 0, and what they met is not told
+abbrev pub was_split : Step
+was_split = step_of Split 0 None None
+
+abbrev pub was_joined : Step
+was_joined = step_of Join 0 None None
+
+abbrev pub noted : View → Step → View
+noted v s = record v { steps = v.steps ++ s ∷ [] }
+
+-- What they teach
+
+-- the entry met at a place, if the view may speak of the page
+abbrev pub met_entry : Option ℕ → List EntryFact → ℕ → ℕ → List EntryFact
+met_entry None es place met = es
+met_entry (Some version) es place zero = es
+met_entry (Some version) es place (suc row) = record { version = version; place = place; row = row } ∷ es
+
+-- the version of the newest entry that names the row
+abbrev pub version_of : List EntryFact → ℕ → Option ℕ
+version_of [] row = None
+version_of (e ∷ es) row = cond (eqb e.row row) (Some e.version) (version_of es row)
+
+abbrev pub met_word : Option ℕ → List WordFact → ℕ → ℕ → ℕ → List WordFact
+met_word None ws row index met = ws
+met_word (Some version) ws row index met = record { version = version; row = row; index = index; word = met } ∷ ws
+
+-- The views afterwards
+
+abbrev pub after_load_place : View → ℕ → ℕ → ℕ → View
+after_load_place v page place met = noted (record v { entries = met_entry (version_at v.pinned page) v.entries place met }) (loaded_place v.sizes page place met)
+
+abbrev pub after_load_row : View → ℕ → ℕ → ℕ → View
+after_load_row v row index met = noted (record v { words = met_word (version_of v.entries row) v.words row index met }) (loaded_row v.sizes row index met)
+
+-- a claim that met 0 was won
+abbrev pub claimed_row : Option OwnRow → ℕ → ℕ → Option OwnRow
+claimed_row own row zero = Some record { row = row; wrote = [] }
+claimed_row own row (suc _) = own
+
+abbrev pub after_claim : View → ℕ → ℕ → View
+after_claim v row met = noted (record v { own = claimed_row v.own row met }) (claimed v.sizes row met)
+
+-- the pairs of the other indexes
+abbrev pub without : ℕ → List (ℕ × ℕ) → List (ℕ × ℕ)
+without index [] = []
+without index (w ∷ ws) = cond (eqb w.0 index) (without index ws) (w ∷ without index ws)
+
+abbrev pub written : Option OwnRow → ℕ → ℕ → Option OwnRow
+written None index word = None
+written (Some o) index word = Some record o { wrote = (index, word) ∷ without index o.wrote }
+
+abbrev pub after_write_row : View → ℕ → ℕ → ℕ → View
+after_write_row v row index word = noted (record v { own = written v.own index word }) (wrote_row v.sizes row index word)
+
+-- the words that were written, as facts of their row
+abbrev pub own_words : ℕ → Option OwnRow → List WordFact
+own_words version None = []
+own_words version (Some o) = map (λ w. record { version = version; row = o.row; index = w.0; word = w.1 }) o.wrote
+
+abbrev pub published_words : Option ℕ → Option OwnRow → List WordFact → ℕ → List WordFact
+published_words None own ws met = ws
+published_words (Some version) own ws zero = own_words version own ++ ws
+published_words (Some version) own ws (suc _) = ws
+
+-- a publication that met 0 was won
+abbrev pub published_own : Option OwnRow → ℕ → Option OwnRow
+published_own own zero = None
+published_own own (suc _) = own
+
+abbrev pub after_publish : View → ℕ → ℕ → ℕ → ℕ → View
+after_publish v page place row met = noted
+    (record v {
+      own = published_own v.own met;
+      entries = met_entry (version_at v.pinned page) v.entries place (exchanged (suc row) met);
+      words = published_words (version_at v.pinned page) v.own v.words met;
+    })
+    (published v.sizes page place row met)
+
+abbrev pub after_give_back : View → ℕ → View
+after_give_back v row = noted (record v { own = None }) (gave_back v.sizes row)
+
+-- what is left to a seat that is split, and what the new seat has. While there is one version, each seat counts as one that pins it
+abbrev pub still : Option Pin
+still = Some record { version = 0; page = 0 }
+
+abbrev pub after_split : View → ℕ → View
+after_split v pins = noted (record v { share = v.share - v.share / 2; pins_left = v.pins_left - pins }) was_split
+
+abbrev pub split_off : View → ℕ → View
+split_off v pins = record {
+  sizes = v.sizes;
+  log = v.log;
+  share = v.share / 2;
+  pins_left = pins;
+  pinned = still;
+  own = None;
+  log_words = [];
+  entries = [];
+  words = [];
+  known = [];
+  role = None;
+  steps = [];
+}
+
+-- what a seat has once another has joined it, and what that one is left with
+abbrev pub after_join : View → View → View
+after_join v w = record (noted v was_joined) {
+  share = v.share + w.share;
+  pins_left = v.pins_left + w.pins_left;
+  entries = v.entries ++ w.entries;
+  words = v.words ++ w.words;
+  steps = (v.steps ++ was_joined ∷ []) ++ w.steps;
+}
+
+abbrev pub spent_view : View
+spent_view = record { sizes = full_sizes; log = []; share = 0; pins_left = 0; pinned = None; own = None; log_words = []; entries = []; words = []; known = []; role = None; steps = [] }
+
+-- the one seat of a new table
+abbrev pub first_role : Role
+first_role = record { live = record { version = 0; page = 0; base = 0; taken = None; carried = [] } ∷ []; released = []; making = None; giving_up = None }
+
+abbrev pub first_view : Sizes → View
+first_view z = record { sizes = z; log = []; share = whole; pins_left = z.pins; pinned = still; own = None; log_words = []; entries = []; words = []; known = []; role = Some first_role; steps = [] }

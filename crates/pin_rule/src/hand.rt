@@ -1,0 +1,33 @@
+//! One seat with its table.
+ghost use Rattle.std.specs.Prelude.{◌≡◌, []};
+ghost use Rattle.lend.specs.Loans.{parts_of, value_of};
+ghost use Rattle.pin_rule.specs.Layout.{word_count};
+
+use crate::content::Content;
+use crate::rule::Rule;
+use crate::sizes::Sizes;
+use crate::view::View;
+use atomic_table::{Seat, Table};
+use lend::loan::Loan;
+use std::alloc::Global;
+
+pub(crate) type Shelf<C> = Table<(), View, Sizes, Rule<C>, Global>;
+
+/// One seat at a table of rows of the content `C`.
+///
+/// The table lies on the heap. A hand has as many parts of the right to it as
+/// its view has of the share, so hands are split and joined without memory, and
+/// a hand with the whole share can give the table's memory back. A hand that is
+/// dropped loses its share, and then the memory stays.
+#[derive(Drop)]
+pub struct Hand<C: Content> {
+    pub(crate) table: Loan<Shelf<C>>,
+    pub(crate) seat: Seat<(), View>,
+    pub(crate) sizes: Sizes,
+    ghost alive: { parts_of table ≡ seat.me.0.share },
+    ghost seated: { seat.table_id ≡ (value_of table).shared.table_id },
+    ghost keyed: { (value_of table).shared.key ≡ sizes },
+    ghost wide: { (value_of table).shared.table_id.words ≡ word_count sizes },
+    ghost alone: { seat.me.1 ≡ [] },
+    ghost told: { seat.me.0.sizes ≡ sizes },
+}

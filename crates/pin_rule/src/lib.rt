@@ -1,0 +1,24 @@
+//! One lock-free table for rows of any content, and the rule that every step
+//! on it keeps.
+//!
+//! A [`hand::Hand`] is one seat at the table. It has one call per kind of
+//! step, and each makes one atomic operation on one word. The rule `Lawful`
+//! holds between any two steps, whatever the other seats do.
+#![tactic(auto)]
+
+pub mod content;
+pub mod hand;
+mod opening;
+mod operations;
+mod plays;
+mod rule;
+mod seating;
+pub mod sizes;
+mod spots;
+mod stepping;
+#[cfg(test)]
+mod tests;
+pub mod view;
+
+/// There was no memory.
+pub type NoMemory = std::alloc::AllocError;

@@ -1,0 +1,77 @@
+-- What a look found.
+use Rattle.std.proofs.Common.{◌≡◌, ℕ, ◌+◌, ◌<◌, ◌≤◌, List, ◌++◌, length, take, slice_index, sym, ◌∙◌, subst, arith}
+use Rattle.std.proofs.lemmas.List.{length-take-le, get_or-take}
+use Rattle.pin_rule.specs.declared.sizes.Sizes.{Sizes}
+use Rattle.pin_rule.specs.declared.content.Entry.{Entry}
+use Rattle.pin_rule.specs.declared.view.View.{View}
+use Rattle.pin_rule.specs.declared.view.Step.{Step}
+use Rattle.pin_rule.specs.Rows.{on_path}
+use Rattle.pin_rule.specs.Told.{IsTold}
+use Rattle.pin_rule.proofs.Lists.{in_left}
+use Rattle.slot_store.specs.declared.finding.Seen.TheVariants as seen
+use Rattle.slot_store.specs.declared.finding.Glance.TheVariants as glance
+use Rattle.slot_store.specs.Keys.{row_of}
+use Rattle.slot_store.specs.Answers.{HoldsOther}
+use Rattle.slot_store.specs.Walks.{Reads, Passed, Walks, Copies, Glances}
+use Rattle.slot_store.proofs.ByWord.{by_parts, length_row, content_is}
+use Rattle.slot_store.proofs.Growing.{moves_on, earlier, later, reads_on}
+use Rattle.slot_store.proofs.Passing.{full}
+use Rattle.slot_store.proofs.Reading.{head_at}
+use Rattle.slot_store.proofs.Single.{knows_row}
+
+-- what was passed holds other keys
+pub holds_others : (z : Sizes) (w : View) (added : List Step) (key : List ℕ) (steps : ℕ) → Passed z w added key steps → (before : ℕ) → before < steps → HoldsOther z 0 added key (on_path z key before)
+holds_others z w added key steps passed before lt = let p = passed before lt in let o = p.3 in (p.0, o.0, o.1, p.1, o.2.0, o.3, o.4)
+
+module _ (z : Sizes) (F : List Entry → List ℕ → Type 0) (v w : View) (key buffer : List ℕ) where
+  pub initial : (place : ℕ) → Walks z v w key (seen.Empty place) → Glances z (F v.log) v w key buffer (glance.Initial place)
+  initial place k = let i = k.is in record {
+    added = k.added;
+    moves = k.moves;
+    own = k.own;
+    is = record { step = i.0; inside = i.1; at = i.2; empty = i.3; passed = holds_others z w k.added key i.0 i.4 };
+  }
+
+  pub page_full : Walks z v w key seen.Full → Glances z (F v.log) v w key buffer glance.PageFull
+  page_full k = record { added = k.added; moves = k.moves; own = k.own; is = full z w k.added key k.is }
+
+  module _ (x : View) (row n : ℕ) (k : Walks z v w key (seen.Same row)) (c : Copies z w x row (length key + 2) n n buffer) (room : n ≤ length buffer) where
+    abbrev payload : List ℕ
+    payload = take n buffer
+
+    count : n ≡ length (take n buffer)
+    count = sym (length-take-le n buffer room)
+
+    abbrev all : List Step
+    all = k.added ++ c.added
+
+    before : (index word : ℕ) → Reads z w k.added row index word → Reads z x (k.added ++ c.added) row index word
+    before index word h = reads_on z w x k.added (k.added ++ c.added) (earlier w x k.added c.added c.moves) row index word h
+
+    after : (index word : ℕ) → Reads z x c.added row index word → Reads z x (k.added ++ c.added) row index word
+    after index word h = reads_on z x x c.added (k.added ++ c.added) (later x k.added c.added) row index word h
+
+    read : (index : ℕ) → index < length (row_of key (take n buffer)) → Reads z x (k.added ++ c.added) row index (slice_index (row_of key (take n buffer)) index)
+    read = let has = k.is.3 in by_parts key (take n buffer) (Reads z x (k.added ++ c.added) row)
+        (before 0 (length key) (has 0 (omega arith, λ e. omega arith)))
+        (subst (Reads z x (k.added ++ c.added) row 1) count (after 1 n c.size_read))
+        (λ i lt. before (i + 2) (slice_index key i) (subst (Reads z w k.added row (i + 2)) (head_at key i) (has (i + 2) (omega arith, λ e. omega arith))))
+        (λ j lt. let few = count in let inside : j < n = omega arith in subst (Reads z x (k.added ++ c.added) row (length key + 2 + j)) (sym (get_or-take n buffer j 0 inside)) (after (length key + 2 + j) (slice_index buffer j) (c.words j inside)))
+
+    pub found : IsTold (F x.log) x → Glances z (F v.log) v x key buffer (glance.Found n)
+    found told = let long = length_row key (take n buffer) in record {
+      added = k.added ++ c.added;
+      moves = moves_on v w x k.added c.added k.moves c.moves;
+      own = c.own ∙ k.own;
+      is = (
+        room,
+        record {
+          place = k.is.2.0;
+          row = row;
+          entry = in_left _ k.added c.added k.is.2.1;
+          words = λ index lt. (read index lt).0;
+          fitting = subst (λ (log : List Entry). F log (row_of key (take n buffer))) (c.moves.log ∙ k.moves.log)
+              (subst (F x.log) (content_is key (take n buffer)) (told.fitting row (slice_index (row_of key (take n buffer))) (knows_row x row c.version) (λ index lt. (read index (omega arith)).1)));
+        },
+      );
+    }

@@ -1,0 +1,15 @@
+pub mod Growing
+pub mod Single
+pub mod Reading
+pub mod Hashing
+pub mod Taking
+pub mod Storing
+pub mod ByWord
+pub mod Passing
+pub mod Copying
+pub mod Glancing
+pub mod Offering
+pub mod Settling
+pub mod Extending
+pub mod Concluding
+pub mod Dividing

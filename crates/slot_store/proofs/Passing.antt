@@ -1,0 +1,119 @@
+-- The walk along the path of a key, past the rows with other keys.
+use Rattle.std.proofs.Common.{◌≡◌, ◌≢◌, ℕ, suc, ◌+◌, ◌-◌, ◌<◌, List, [], ◌∷◌, ◌++◌, inl, sym, refl, ap, ◌∙◌, subst, arith}
+use mathlib.Core.Logic.{dite}
+use native.Mathlib.Decide.{ℕ_discrete}
+use Rattle.std.specs.Prelude.{Some}
+use Rattle.pin_rule.specs.declared.sizes.Sizes.{Sizes}
+use Rattle.pin_rule.specs.declared.view.View.{View}
+use Rattle.pin_rule.specs.declared.view.Step.{Step}
+use Rattle.pin_rule.specs.Rows.{on_path}
+use Rattle.pin_rule.specs.Steps.{version_of, loaded_place, after_load_place}
+use Rattle.pin_rule.specs.Told.{IsTold}
+use Rattle.pin_rule.specs.Lists.{In}
+use Rattle.pin_rule.proofs.Lists.{in_left, in_right}
+use Rattle.pin_rule.proofs.Paths.{on_page, path_reaches}
+use Rattle.slot_store.specs.declared.finding.Seen.TheVariants as seen
+use Rattle.slot_store.specs.Answers.{MetRow, IsPageFull}
+use Rattle.slot_store.specs.Walks.{IsAtWork, Moves, KnowsAt, ReadsKey, Passed, Compares, Walking, Walks}
+use Rattle.slot_store.proofs.Growing.{stays, moves_on, earlier, later, key_on, other_on, met_on, passed_on}
+use Rattle.slot_store.proofs.Single.{moves_place, knows_at, names_row, knows_row}
+
+-- a row was met at a place
+pub record Meets (z : Sizes) (v w : View) (place row : ℕ) : Type 0 where
+  pub added : List Step
+  pub moves : Moves v w added
+  pub own : w.own ≡ v.own
+  pub met : MetRow z 0 added place row
+  pub at : KnowsAt w place row
+  pub version : version_of w.entries row ≡ Some 0
+
+pub starts : (z : Sizes) (v : View) (key : List ℕ) (place : ℕ) → place ≡ on_path z key 0 → Walking z v v key 0 place
+starts z v key place at = record { added = []; moves = stays v; own = refl; passed = λ before lt. absurd (omega arith); at = at }
+
+pub on_the_page : (z : Sizes) (v w : View) (key : List ℕ) (steps place : ℕ) → Walking z v w key steps place → steps < z.places → place < z.places
+on_the_page z v w key steps place k lt = subst (λ (p : ℕ). p < z.places) (sym k.at) (on_page z key (omega arith) steps)
+
+module _ (z : Sizes) (w u : View) (work : IsAtWork z w) (place n : ℕ) (is : u ≡ after_load_place w 0 place n) where
+  pub loads : Moves w u (loaded_place z 0 place n ∷ [])
+  loads = subst (λ (x : View). Moves w x (loaded_place z 0 place n ∷ [])) (sym is) (moves_place z w work place n)
+
+  pub meets : (row : ℕ) → n ≡ suc row → Meets z w u place row
+  meets row e = let t = is ∙ ap (after_load_place w 0 place) e in let entries = ap (λ (x : View). x.entries) t in record {
+    added = loaded_place z 0 place n ∷ [];
+    moves = loads;
+    own = ap (λ (x : View). x.own) is;
+    met = inl (inl (ap (loaded_place z 0 place) (sym e)));
+    at = knows_at z w work u place row entries;
+    version = names_row z w work u place row entries;
+  }
+
+  pub loaded_it : (row : ℕ) (e : n ≡ suc row) → In (loaded_place z 0 place (suc row)) (meets row e).added
+  unfolding meets
+  loaded_it row e = inl (ap (loaded_place z 0 place) (sym e))
+
+-- the number of the row that was met
+pub row_met : (n : ℕ) → n ≢ 0 → n ≡ suc (n - 1)
+row_met n h = dite (ℕ_discrete n 0) (λ e. absurd (h e)) (λ ne. omega arith)
+
+pub range : (F : List ℕ → Type 0) (z : Sizes) (w u : View) (place row : ℕ) → IsAtWork z w → Meets z w u place row → IsTold F u → row < z.rows
+range F z w u place row work m told = subst (λ (y : Sizes). row < y.rows) (m.moves.sizes ∙ work.sizes) (told.range row (knows_row u row m.version))
+
+module _ (z : Sizes) (v w : View) (key : List ℕ) (steps place : ℕ) (walk : Walking z v w key steps place) where
+  pub empty : (work : IsAtWork z w) (u : View) (n : ℕ) → u ≡ after_load_place w 0 place n → n ≡ 0 → steps < z.places → Walks z v u key (seen.Empty place)
+  empty work u n is e lt = let b : List Step = loaded_place z 0 place n ∷ [] in let m = loads z w u work place n is in record {
+    added = walk.added ++ b;
+    moves = moves_on v w u walk.added b walk.moves m;
+    own = ap (λ (x : View). x.own) is ∙ walk.own;
+    is = (steps, lt, sym walk.at, (later u walk.added b).steps _ (inl (ap (loaded_place z 0 place) (sym e))), passed_on z w u walk.added (walk.added ++ b) (earlier w u walk.added b m) key steps walk.passed);
+  }
+
+  module _ (u x : View) (row : ℕ) (m : Meets z w u place row) (same : Type 0) (c : Compares z u x row key same) where
+    on : Moves w x (m.added ++ c.added)
+    on = moves_on w u x m.added c.added m.moves c.moves
+
+    pub own_all : x.own ≡ v.own
+    own_all = c.own ∙ m.own ∙ walk.own
+
+    pub moves_all : Moves v x (walk.added ++ (m.added ++ c.added))
+    moves_all = moves_on v w x walk.added (m.added ++ c.added) walk.moves on
+
+    pub met_all : MetRow z 0 (walk.added ++ (m.added ++ c.added)) place row
+    met_all = met_on z x x (m.added ++ c.added) (walk.added ++ (m.added ++ c.added)) (later x walk.added (m.added ++ c.added)) place row
+        (met_on z u x m.added (m.added ++ c.added) (earlier u x m.added c.added c.moves) place row m.met)
+
+    pub passed_all : Passed z x (walk.added ++ (m.added ++ c.added)) key steps
+    passed_all = passed_on z w x walk.added (walk.added ++ (m.added ++ c.added)) (earlier w x walk.added (m.added ++ c.added) on) key steps walk.passed
+
+    pub key_all : same → ReadsKey z x (walk.added ++ (m.added ++ c.added)) row key
+    key_all is = key_on z x x (m.added ++ c.added) (walk.added ++ (m.added ++ c.added)) (later x walk.added (m.added ++ c.added)) row key
+        (key_on z x x c.added (m.added ++ c.added) (later x m.added c.added) row key (c.yes is))
+
+    pub found : same → row < z.rows → In (loaded_place z 0 place (suc row)) m.added → Walks z v x key (seen.Same row)
+    found yes_it_is inside loaded = record {
+      added = walk.added ++ (m.added ++ c.added);
+      moves = moves_all;
+      own = own_all;
+      is = (inside, c.version, (place, in_right _ walk.added (m.added ++ c.added) (in_left _ m.added c.added loaded)), key_all yes_it_is);
+    }
+
+    pub goes_on : ¬ same → (next : ℕ) → next ≡ on_path z key (steps + 1) → Walking z v x key (steps + 1) next
+    goes_on not next at = record {
+      added = walk.added ++ (m.added ++ c.added);
+      moves = moves_all;
+      own = own_all;
+      passed = λ before lt. dite (ℕ_discrete before steps)
+          (λ e. (
+            row,
+            subst (λ (p : ℕ). MetRow z 0 (walk.added ++ (m.added ++ c.added)) p row) (walk.at ∙ ap (on_path z key) (sym e)) met_all,
+            subst (λ (p : ℕ). KnowsAt x p row) (walk.at ∙ ap (on_path z key) (sym e)) (c.moves.entries _ m.at),
+            other_on z x x (m.added ++ c.added) (walk.added ++ (m.added ++ c.added)) (later x walk.added (m.added ++ c.added)) row key
+                (other_on z x x c.added (m.added ++ c.added) (later x m.added c.added) row key (c.no not)),
+          ))
+          (λ n. passed_all before (omega arith));
+      at = at;
+    }
+
+-- all places were passed, so all hold other keys
+pub full : (z : Sizes) (w : View) (added : List Step) (key : List ℕ) → Passed z w added key z.places → IsPageFull z 0 added key
+full z w added key passed place inside = let r = path_reaches z key (omega arith) place inside in let p = passed r.0 r.1 in let o = p.3 in
+    (p.0, o.0, o.1, subst (λ (q : ℕ). MetRow z 0 added q p.0) r.2 p.1, o.2.0, o.3, o.4)

@@ -1,0 +1,72 @@
+-- The loop that claims the first free row of a range.
+use Rattle.std.proofs.Common.{◌≡◌, ◌≢◌, ℕ, ◌+◌, ◌<◌, ◌≤◌, List, [], ◌∷◌, ◌++◌, inl, inr, sym, refl, ap, ◌∙◌, subst, arith}
+use Rattle.std.proofs.lemmas.Bool.{cases_lt}
+use mathlib.Core.Logic.{dite}
+use native.Mathlib.Decide.{ℕ_discrete}
+use Rattle.std.specs.Prelude.{Some, None}
+use Rattle.pin_rule.specs.declared.sizes.Sizes.{Sizes}
+use Rattle.pin_rule.specs.declared.view.View.{View}
+use Rattle.pin_rule.specs.declared.view.Step.{Step}
+use Rattle.pin_rule.specs.Lists.{In}
+use Rattle.pin_rule.specs.Steps.{claimed, after_claim}
+use Rattle.pin_rule.proofs.Lists.{in_left, in_right}
+use Rattle.slot_store.specs.Walks.{IsAtWork, Moves, Claims}
+use Rattle.slot_store.proofs.Growing.{stays, moves_on}
+
+-- each row of the range below this one was in use
+pub record Taking (z : Sizes) (v w : View) (from at : ℕ) : Type 0 where
+  pub added : List Step
+  pub moves : Moves v w added
+  pub free : w.own ≡ None
+  pub met : (row : ℕ) → from ≤ row → row < at → In (claimed z row 1) added
+
+pub starts : (z : Sizes) (v : View) (from : ℕ) → v.own ≡ None → Taking z v v from from
+starts z v from none = record { added = []; moves = stays v; free = none; met = λ row ge lt. absurd (omega arith) }
+
+module _ (z : Sizes) (v w u : View) (work : IsAtWork z v) (from at n : ℕ) (is : u ≡ after_claim w at n) (t : Taking z v w from at) where
+  moves : Moves v u (t.added ++ claimed z at n ∷ [])
+  moves = let same : w.sizes ≡ z = t.moves.sizes ∙ work.sizes in subst (λ (x : View). Moves v x (t.added ++ claimed z at n ∷ [])) (sym is)
+      (moves_on v w (after_claim w at n) t.added (claimed z at n ∷ []) t.moves (record {
+        sizes = refl;
+        log = refl;
+        share = refl;
+        pins_left = refl;
+        pinned = refl;
+        steps = ap (λ (y : Sizes). w.steps ++ claimed y at n ∷ []) same;
+        entries = λ _ i. i;
+        words = λ _ i. i;
+      }))
+
+  last : (m : ℕ) → n ≡ m → In (claimed z at m) (t.added ++ claimed z at n ∷ [])
+  last m e = subst (λ (k : ℕ). In (claimed z at k) (t.added ++ claimed z at n ∷ [])) e (in_right (claimed z at n) t.added (claimed z at n ∷ []) (inl refl))
+
+  pub won : n ≡ 0 → at < z.rows → (to : ℕ) → Claims z v u from to (Some at)
+  won e inside to = record {
+    added = t.added ++ claimed z at n ∷ [];
+    moves = moves;
+    is = (inside, ap (λ (x : View). x.own) (is ∙ ap (after_claim w at) e), last 0 e);
+  }
+
+  pub goes_on : n ≢ 0 → n ≤ 1 → Taking z v u from (at + 1)
+  goes_on ne le = let e : n ≡ 1 = omega arith in record {
+    added = t.added ++ claimed z at n ∷ [];
+    moves = moves;
+    free = ap (λ (x : View). x.own) (is ∙ ap (after_claim w at) e) ∙ t.free;
+    met = λ row ge lt. dite (ℕ_discrete row at) (λ same. subst (λ (r : ℕ). In (claimed z r 1) (t.added ++ claimed z at n ∷ [])) (sym same) (last 1 e))
+        (λ other. in_left (claimed z row 1) t.added (claimed z at n ∷ []) (t.met row ge (omega arith)));
+  }
+
+pub ends : (z : Sizes) (v w : View) (from at to : ℕ) → to ≤ at → Taking z v w from at → Claims z v w from to None
+ends z v w from at to all t = record { added = t.added; moves = t.moves; is = (t.free, λ row ge lt. t.met row ge (omega arith)) }
+
+-- two ranges that meet are one
+pub both : (z : Sizes) (u v w : View) (next : ℕ) → Claims z u v next z.rows None → (r : _) → Claims z v w 0 next r → Claims z u w 0 z.rows r
+both z u v w next a None b = record {
+  added = a.added ++ b.added;
+  moves = moves_on u v w a.added b.added a.moves b.moves;
+  is = (
+    b.is.0,
+    λ row ge lt. elim (cases_lt row next) [ inl below ↦ in_right (claimed z row 1) a.added b.added (b.is.1 row ge below) | inr above ↦ in_left (claimed z row 1) a.added b.added (a.is.1 row above lt) ],
+  );
+}
+both z u v w next a (Some row) b = record { added = a.added ++ b.added; moves = moves_on u v w a.added b.added a.moves b.moves; is = (b.is.0, b.is.1, in_right (claimed z row 0) a.added b.added b.is.2) }

@@ -1,0 +1,10 @@
+use Rattle.std.proofs.Common.{◌≡◌}
+use Rattle.pin_rule.specs.Hands.{view_of, table_of}
+use Rattle.slot_store.proofs.Taking.{Taking}
+use Rattle.slot_store.proofs.claiming.claim_within.Given as goal
+
+abbrev pub invariant-loop-row : goal.invariant-loop-row
+invariant-loop-row g l = record {
+  table : table_of l.hand ≡ table_of l.fn.hand;
+  taking : Taking l.fn.sizes (view_of l.fn.hand) (view_of l.hand) l.fn.from l.row;
+}

@@ -1,0 +1,5 @@
+pub mod Meaning
+pub mod Keys
+pub mod Answers
+pub mod Walks
+pub mod Means

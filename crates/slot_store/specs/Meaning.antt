@@ -1,0 +1,26 @@
+-- What a page means.
+use Rattle.std.specs.Prelude.{ℕ, List, Option, ◌++◌}
+use Rattle.atomic_table.specs.Seated.{TableId}
+use Rattle.pin_rule.specs.declared.sizes.Sizes.{Sizes}
+use Rattle.pin_rule.specs.declared.content.Entry.{Entry}
+use Rattle.pin_rule.specs.declared.view.OwnRow.{OwnRow}
+use Rattle.pin_rule.specs.declared.view.Step.{Step}
+use Rattle.pin_rule.specs.declared.view.View.{View}
+
+-- the sizes of the table, the number of the page there, the log of the version, the table, and of the user its share, its pins left, its own row and its steps
+pub record Meaning : Type 0 where
+  pub sizes : Sizes
+  pub page : ℕ
+  pub log : List Entry
+  pub table : TableId × ℕ
+  pub share : ℕ
+  pub pins_left : ℕ
+  pub own : Option OwnRow
+  pub steps : List Step
+
+-- some steps later, with all else as it was
+abbrev pub extended : Meaning → List Step → Meaning
+extended m added = record m { steps = m.steps ++ added }
+
+abbrev pub meaning_of : View → ℕ → TableId × ℕ → Meaning
+meaning_of v page table = record { sizes = v.sizes; page = page; log = v.log; table = table; share = v.share; pins_left = v.pins_left; own = v.own; steps = v.steps }

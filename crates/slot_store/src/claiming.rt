@@ -1,0 +1,39 @@
+// How a free row is claimed.
+ghost use Rattle.std.specs.Prelude.{◌≡◌, ◌≤◌, None};
+ghost use Rattle.pin_rule.specs.Hands.{view_of, table_of};
+ghost use Rattle.slot_store.specs.Walks.{IsAtWork, Claims};
+
+use pin_rule::content::Content;
+use pin_rule::hand::Hand;
+use pin_rule::sizes::Sizes;
+
+/// Claims the first free row of a range.
+fn claim_within<C: Content>(hand: &mut Hand<C>, sizes: Sizes, from: u32, to: u32) -> Option<u32>
+    requires work { IsAtWork sizes (view_of hand.old) }
+    requires free { (view_of hand.old).own ≡ None }
+    requires rows { to ≤ sizes.rows }
+    ensures table { table_of hand.new ≡ table_of hand.old }
+    ensures claim { Claims sizes (view_of hand.old) (view_of hand.new) from to result }
+{
+    for row in from..to {
+        if hand.claim(row) == 0 {
+            return Some(row);
+        }
+    }
+    None
+}
+
+/// Claims a free row, and tries them from `next` on, so that the rows below it,
+/// which are mostly in use, come last.
+pub(crate) fn claim_row<C: Content>(hand: &mut Hand<C>, sizes: Sizes, next: u32) -> Option<u32>
+    requires work { IsAtWork sizes (view_of hand.old) }
+    requires free { (view_of hand.old).own ≡ None }
+    requires next { next ≤ sizes.rows }
+    ensures table { table_of hand.new ≡ table_of hand.old }
+    ensures claim { Claims sizes (view_of hand.old) (view_of hand.new) 0 sizes.rows result }
+{
+    match claim_within(hand, sizes, next, sizes.rows) {
+        Some(row) => Some(row),
+        None => claim_within(hand, sizes, 0, next),
+    }
+}

@@ -1,0 +1,22 @@
+//! Pages over the shared table: what a user finds and publishes there.
+//!
+//! A [`page::Page`] is one version of a shared set of rows, each with a key and
+//! a payload. Users of one table find and publish rows in any threads, without
+//! locks, and every answer rests on steps that the call made itself.
+#![tactic(auto)]
+
+mod claiming;
+mod comparing;
+mod finding;
+pub mod opening;
+pub mod page;
+mod paths;
+pub mod pinned;
+mod placing;
+#[cfg(test)]
+mod tests;
+mod using;
+mod writing;
+
+/// There was no memory.
+pub type NoMemory = std::alloc::AllocError;
