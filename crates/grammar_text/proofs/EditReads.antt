@@ -12,7 +12,7 @@ use Rattle.grammar_text.specs.declared.edit.DefText.{DefText}
 use Rattle.grammar_text.specs.declared.edit.Edit.{Edit}
 use Rattle.grammar_text.specs.declared.edit.Edit.TheVariants.{AddRule, DropRule, AddToken, DropToken, AddSkip, DropSkip}
 use Rattle.grammar_text.specs.Names.{IsName}
-use Rattle.grammar_text.specs.Pieces.{IsLine, Place, trimmed, piece_of, behind_piece, blank_led}
+use Rattle.grammar_text.specs.Pieces.{IsLine, AreBytes, Place, trimmed, piece_of, behind_piece, blank_led}
 use Rattle.grammar_text.specs.Spelling.{AreBlanks, keyword_of, SpellsSymbols, SpellsExpression, BeginsWith, Spells}
 use Rattle.grammar_text.specs.Canonical.{canonical}
 use Rattle.grammar_text.specs.Limits.{Room, the_limits, SymbolFits, RightFits, PartsFit, IsWithinLimits, IsSound}
@@ -140,9 +140,9 @@ pub is_found : (line : List ℕ) (r : Result Edit BadEdit) → Gives r (edit_of 
 is_found line (Ok edit) given = edit_of_takes line edit given
 is_found line (Err e) given = tt
 
-pub all_sound : (line : List ℕ) (r : Result Edit BadEdit) → IsLine line → Gives r (edit_of line) → IfOk r IsSound
-all_sound line (Ok edit) is given = let read = edit_of_takes line edit given in is_sound line edit is read.0 read.1
-all_sound line (Err e) is given = tt
+pub all_sound : (line : List ℕ) (r : Result Edit BadEdit) → IsLine line → AreBytes line → Gives r (edit_of line) → IfOk r IsSound
+all_sound line (Ok edit) is bytes given = let read = edit_of_takes line edit given in is_sound line edit is bytes read.0 read.1
+all_sound line (Err e) is bytes given = tt
 
 -- ---- room for any two edits
 

@@ -6,4 +6,6 @@ pub mod Words
 pub mod SymbolLaws
 pub mod EditLaws
 pub mod EditReads
+pub mod Causes
+pub mod ByteTexts
 pub mod Soundness

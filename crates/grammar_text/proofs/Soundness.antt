@@ -13,12 +13,13 @@ use Rattle.grammar_text.specs.declared.edit.Edit.{Edit}
 use Rattle.grammar_text.specs.declared.edit.Edit.TheVariants.{AddRule, DropRule, AddToken, DropToken, AddSkip, DropSkip}
 use Rattle.grammar_text.specs.declared.limits.TheConstants.{LINE_LIMIT}
 use Rattle.grammar_text.specs.Names.{IsName}
-use Rattle.grammar_text.specs.Pieces.{IsLine}
+use Rattle.grammar_text.specs.Pieces.{IsLine, AreBytes}
 use Rattle.grammar_text.specs.Spelling.{keyword_of, words_of, SpellsByte, SpellsBytes, SpellsSymbol, SpellsSymbols, SpellsExpression, BeginsWith, Spells}
 use Rattle.grammar_text.specs.Canonical.{escaped, symbol_text, spaced, symbols_text, rule_text, definition_text, canonical}
 use Rattle.grammar_text.specs.Limits.{the_limits, RightFits, PartsFit, IsWithinLimits, IsSound}
 use Rattle.grammar_text.proofs.NameBytes.{name_facts, name-line}
 use Rattle.grammar_text.proofs.SymbolLaws.{symbols_len}
+use Rattle.grammar_text.proofs.ByteTexts.{canonical_bytes}
 
 -- ---- literals
 
@@ -202,8 +203,8 @@ canonical_line line (AddSkip definition) is spelled =
     definition_line definition spelled.named (expression_line spelled.rest definition.expression spelled.tail (rest_line line (AddSkip definition) spelled is))
 canonical_line line (DropSkip name) is spelled = name-line name spelled.named
 
-pub is_sound : (line : List ℕ) (edit : Edit) → IsLine line → Spells line edit → IsWithinLimits edit → IsSound edit
-is_sound line edit is spelled within = record { line = canonical_line line edit is spelled; spelled = canonical_spells line edit spelled; within = within }
+pub is_sound : (line : List ℕ) (edit : Edit) → IsLine line → AreBytes line → Spells line edit → IsWithinLimits edit → IsSound edit
+is_sound line edit is bytes spelled within = record { line = canonical_line line edit is spelled; bytes = canonical_bytes line edit spelled bytes; spelled = canonical_spells line edit spelled; within = within }
 
 -- ---- how long it is
 

@@ -6,7 +6,7 @@ use Rattle.grammar_text.specs.declared.symbol.Symbol.{Symbol}
 use Rattle.grammar_text.specs.declared.symbol.Symbol.TheVariants.{Named, Literal}
 use Rattle.grammar_text.specs.declared.edit.Edit.{Edit}
 use Rattle.grammar_text.specs.declared.edit.Edit.TheVariants.{AddRule, DropRule, AddToken, DropToken, AddSkip, DropSkip}
-use Rattle.grammar_text.specs.Pieces.{IsLine}
+use Rattle.grammar_text.specs.Pieces.{IsLine, AreBytes}
 use Rattle.grammar_text.specs.Spelling.{Spells}
 use Rattle.grammar_text.specs.Canonical.{canonical}
 
@@ -38,8 +38,9 @@ pub record IsWithinLimits (edit : Edit) : Type 0 where
   pub parts : PartsFit the_limits edit
   pub text : length (canonical edit) ≤ EDIT_LIMIT
 
--- the canonical text is a line that spells the edit, within the limits
+-- the canonical text is a line of bytes that spells the edit, within the limits
 pub record IsSound (edit : Edit) : Type 0 where
   pub line : IsLine (canonical edit)
+  pub bytes : AreBytes (canonical edit)
   pub spelled : Spells (canonical edit) edit
   pub within : IsWithinLimits edit

@@ -1,10 +1,14 @@
 -- The pieces of a line, which blanks part.
-use Rattle.std.specs.Prelude.{IsTrue, not, ℕ, ◌-◌, Bool, true, false, ◌||◌, ◌==◌, List, [], ◌∷◌, length, if◌then◌else◌}
-use Rattle.std.specs.List.{list_all}
+use Rattle.std.specs.Prelude.{IsTrue, not, ℕ, ◌-◌, ◌<◌, Bool, true, false, ◌||◌, ◌==◌, List, [], ◌∷◌, length, if◌then◌else◌}
+use Rattle.std.specs.List.{list_all, AllByRecursion}
 
 -- a line has no byte 10
 abbrev pub IsLine : List ℕ → Type 0
 IsLine bytes = IsTrue (list_all (λ byte. not (byte == 10)) bytes)
+
+-- numbers that a byte may have
+abbrev pub AreBytes : List ℕ → Type 0
+AreBytes numbers = AllByRecursion (λ number. number < 256) numbers
 
 -- a space or a tab
 abbrev pub is_blank : ℕ → Bool

@@ -1,6 +1,7 @@
 //! Laws of the text of edits.
 
-ghost use Rattle.std.specs.Prelude.{◌≡◌, List, ℕ, Ok};
+ghost use Rattle.std.specs.Prelude.{◌≡◌, List, ℕ, Ok, Err};
+ghost use Rattle.grammar_text.specs.declared.bad_edit.BadEdit.TheVariants.{NoMemory};
 ghost use Rattle.grammar_text.specs.declared.edit.Edit.{Edit};
 ghost use Rattle.grammar_text.specs.Spelling.{Spells};
 ghost use Rattle.grammar_text.specs.Canonical.{canonical};
@@ -20,4 +21,9 @@ pub fn canonical_is_spelled()
 /// The canonical text of a sound edit is read as that edit.
 pub fn reads_back()
     ensures { (edit : Edit) → IsSound edit → edit_of (canonical edit) ≡ Ok edit }
+{}
+
+/// Memory is never why a line is no edit.
+pub fn never_memory()
+    ensures { (line : List ℕ) → ¬ (edit_of line ≡ Err NoMemory) }
 {}

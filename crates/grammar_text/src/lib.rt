@@ -20,7 +20,7 @@ mod writing;
 pub use bad_edit::BadEdit;
 pub use canonical::written_len;
 pub use edit::{DefText, Edit, RuleText};
-pub use laws::{canonical_is_spelled, one_edit, reads_back};
+pub use laws::{canonical_is_spelled, never_memory, one_edit, reads_back};
 pub use limits::{EDIT_LIMIT, LINE_LIMIT, LITERAL_LIMIT, NAME_LIMIT, SYMBOL_LIMIT};
 pub use name::Name;
 pub use reading::read_edit;

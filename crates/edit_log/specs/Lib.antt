@@ -1,0 +1,15 @@
+pub mod Entries
+pub mod Refusals
+pub mod Symbols
+pub mod History
+pub mod Live
+pub mod Verdict
+pub mod Lookups
+pub mod Touches
+pub mod Facts
+pub mod Tokens
+pub mod Replicas
+pub mod Sizes
+pub mod Lists
+pub mod Kept
+pub mod Agreement

@@ -1,0 +1,6 @@
+pub mod Lines
+pub mod Texts
+pub mod Forms
+pub mod Commands
+pub mod Scripts
+pub mod Seen

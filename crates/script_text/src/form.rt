@@ -1,0 +1,81 @@
+//! What a line of a script is, by its command word.
+
+ghost use Rattle.std.specs.Prelude.{◌≡◌, drop};
+ghost use Rattle.script_text.specs.Forms.{is_comment, form_by, form_of};
+ghost use Rattle.script_text.specs.Seen.{form_seen};
+
+use crate::pieces::{split_piece, trimmed};
+
+/// What a command line asks for.
+#[derive(Clone, Copy, Debug)]
+pub(crate) enum Ask<'a> {
+    /// A change of the grammar.
+    Edit,
+    /// To parse the text that is written so.
+    Parse(&'a [u8]),
+}
+
+/// A line of a script.
+#[derive(Clone, Copy, Debug)]
+pub(crate) enum Line<'a> {
+    /// Blanks alone, or a comment.
+    PassedOver,
+    /// Its first piece is no command word.
+    Unknown,
+    /// A line that should be a command.
+    Command(Ask<'a>),
+}
+
+/// Whether nothing is there, or the first byte begins a comment.
+fn is_comment(begun: &[u8]) -> bool
+    ensures { result ≡ is_comment begun.now }
+{
+    match begun {
+        [] => true,
+        [first, ..] => *first == b'#',
+    }
+}
+
+/// What follows the blank behind a command word.
+fn behind_blank(behind: &[u8]) -> &[u8]
+    ensures { result.now ≡ drop 1 behind.now }
+{
+    match behind {
+        [] => behind,
+        [_, written @ ..] => written,
+    }
+}
+
+/// The form of a line with this command word, and these bytes behind it.
+#[tactic(auto, unfolding(crate::specs::Forms::form_by))]
+fn form_by<'a>(word: &[u8], behind: &'a [u8]) -> Line<'a>
+    ensures { form_seen result ≡ form_by word.now behind.now }
+{
+    if word == b"rule".as_slice() {
+        Line::Command(Ask::Edit)
+    } else if word == b"drop".as_slice() {
+        let (dropped, _) = split_piece(trimmed(behind));
+        if dropped == b"rule".as_slice() {
+            Line::Command(Ask::Edit)
+        } else {
+            Line::Unknown
+        }
+    } else if word == b"parse".as_slice() {
+        Line::Command(Ask::Parse(behind_blank(behind)))
+    } else {
+        Line::Unknown
+    }
+}
+
+/// The form of the line.
+#[tactic(auto, unfolding(crate::specs::Forms::form_of))]
+pub(crate) fn form_of(line: &[u8]) -> Line<'_>
+    ensures { form_seen result ≡ form_of line.now }
+{
+    let begun = trimmed(line);
+    if is_comment(begun) {
+        return Line::PassedOver;
+    }
+    let (word, behind) = split_piece(begun);
+    form_by(word, behind)
+}

@@ -1,0 +1,23 @@
+//! Scripts: the commands that a text asks for, line by line, or its first bad line.
+#![tactic(auto)]
+
+mod bad_script;
+mod command;
+mod form;
+mod laws;
+mod limits;
+mod lines;
+mod pieces;
+mod progress;
+mod reading;
+mod script;
+mod texts;
+
+pub use bad_script::{BadKind, BadScript, ScriptError};
+pub use command::{Block, Blocks, Command, Commands, Script};
+pub use laws::{has_first_bad, one_script};
+pub use limits::{COMMAND_LIMIT, SCRIPT_LIMIT, TEXT_LIMIT};
+pub use script::read_script;
+
+#[cfg(test)]
+mod tests;
