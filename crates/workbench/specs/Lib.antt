@@ -1,10 +1,7 @@
-pub mod Lines
 pub mod Pieces
-pub mod Texts
-pub mod Replies
-pub mod Grammar
-pub mod Tokens
-pub mod Commands
-pub mod Reading
-pub mod Output
 pub mod Ends
+pub mod Replies
+pub mod Literals
+pub mod Scans
+pub mod Output
+pub mod Bench

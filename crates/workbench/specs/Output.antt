@@ -1,109 +1,169 @@
 -- What the workbench writes for a script.
-use Rattle.std.specs.Prelude.{◌≡◌, ◌<◌, ◌≤◌, ◌⊎◌, ℕ, ◌+◌, List, [], ◌∷◌, ◌++◌, length, Ok, Err, Option}
-use Rattle.grammar_text.specs.declared.edit.RuleText.{RuleText}
-use Rattle.forest.specs.declared.symbols.SymbolId.{SymbolId}
+use Rattle.std.specs.Prelude.{◌≡◌, ◌<◌, ◌≤◌, ℕ, ◌+◌, List, [], ◌∷◌, ◌++◌, length, Option, Some, None}
+use Rattle.grammar_text.specs.declared.edit.Edit.{Edit as AnEdit}
+use Rattle.grammar_text.specs.declared.edit.Edit.TheVariants.{AddRule, DropRule, AddToken, DropToken, AddSkip, DropSkip}
+use Rattle.forest.specs.declared.symbols.Token.{Token}
 use Rattle.forest.specs.declared.forest.Forest.{Forest}
 use Rattle.forest.specs.Derivation.{IsSentence}
 use Rattle.forest.specs.Forests.{IsForestOf}
-use Rattle.workbench.specs.declared.command.Command.{Command}
-use Rattle.workbench.specs.declared.command.Command.TheVariants.{Rule, Parse}
-use Rattle.workbench.specs.declared.command.TheConstants.{TOKEN_LIMIT, TEXT_LIMIT}
-use Rattle.workbench.specs.declared.command.TheConstants.{SCRIPT_LIMIT}
+use Rattle.plain_chart.specs.declared.TheConstants.{MOST_TOKENS}
+use Rattle.edit_log.specs.declared.refusal.Refusal.{Refusal}
+use Rattle.edit_log.specs.declared.refusal.Refusal.TheVariants.{NameClash, Exists, NoSuch, LogFull}
+use Rattle.edit_log.specs.History.{Grammar, empty_grammar, after}
+use Rattle.edit_log.specs.Verdict.{verdict, IsProper}
+use Rattle.edit_log.specs.Tokens.{tokens, no_token as no_token_at, too_many as too_many_at, Tokenizes}
+use Rattle.script_text.specs.declared.command.Command.{Command}
+use Rattle.script_text.specs.declared.command.Command.TheVariants.{Edit, Parse, Tokens, Stats}
+use Rattle.script_text.specs.declared.command.Block.{Block}
+use Rattle.script_text.specs.declared.command.Block.TheVariants.{Alone, Par}
+use Rattle.script_text.specs.declared.command.Script.{Script}
+use Rattle.script_text.specs.declared.bad_script.BadScript.{BadScript}
+use Rattle.script_text.specs.declared.limits.TheConstants.{SCRIPT_LIMIT}
+use Rattle.script_text.specs.Scripts.{SpellsScript, IsFirstBad}
 use Rattle.bench_io.specs.Known.{Takes, IsKnownAs}
-use Rattle.workbench.specs.Pieces.{TakesPrefix, GivesCount}
-use Rattle.workbench.specs.Lines.{lines_of}
-use Rattle.workbench.specs.Commands.{AreCommands, HasBadLine}
-use Rattle.workbench.specs.Grammar.{Grammar, empty_grammar, version_of, with_rule, name_of}
-use Rattle.workbench.specs.Tokens.{tokens_of}
-use Rattle.workbench.specs.Replies.{version_line, no_token_line, too_large_line, no_sentence_line, forest_text}
+use Rattle.workbench.specs.Pieces.{TakesPrefix}
+use Rattle.workbench.specs.Replies.{version_line, clash_line, exists_line, absent_line, full_line, no_token_line, too_many_line, too_large_line, no_sentence_line, name_of, forest_text, bad_line}
+use Rattle.workbench.specs.Scans.{kinds_of}
+
+-- ---- commands
 
 -- the reply to a command, under the grammar that the commands before it made
 pub data IsReply (grammar : Grammar) : Command → List ℕ → Type 0 where
-  added : {r : RuleText} → IsReply grammar (Rule r) (version_line (version_of grammar + 1))
-  no_token : {text : List ℕ} {offset : ℕ} → tokens_of grammar.symbols text ≡ Err offset → IsReply grammar (Parse text) (no_token_line (version_of grammar) offset)
-  too_large : {text : List ℕ} {tokens : List SymbolId} → tokens_of grammar.symbols text ≡ Ok tokens → TOKEN_LIMIT < length tokens →
-      IsReply grammar (Parse text) (too_large_line (version_of grammar))
-  forest : {text : List ℕ} {tokens : List SymbolId} {found : Forest} → tokens_of grammar.symbols text ≡ Ok tokens → length tokens ≤ TOKEN_LIMIT →
-      IsForestOf grammar.rules tokens found → IsReply grammar (Parse text) (forest_text (version_of grammar) (name_of grammar.symbols) found.nodes)
-  no_sentence : {text : List ℕ} {tokens : List SymbolId} → tokens_of grammar.symbols text ≡ Ok tokens → length tokens ≤ TOKEN_LIMIT →
-      (IsSentence grammar.rules tokens → ⊥) → IsReply grammar (Parse text) (no_sentence_line (version_of grammar))
+  taken : {edit : AnEdit} → verdict grammar edit ≡ None → IsReply grammar (Edit edit) (version_line (grammar.version + 1))
+  clash : {edit : AnEdit} {name : List ℕ} → verdict grammar edit ≡ Some (NameClash name) → IsReply grammar (Edit edit) (clash_line name)
+  exists : {edit : AnEdit} {number : ℕ} → verdict grammar edit ≡ Some (Exists number) → IsReply grammar (Edit edit) (exists_line number)
+  absent : {edit : AnEdit} → verdict grammar edit ≡ Some NoSuch → IsReply grammar (Edit edit) absent_line
+  full : {edit : AnEdit} {version : ℕ} → verdict grammar edit ≡ Some (LogFull version) → IsReply grammar (Edit edit) (full_line version)
+  no_token : {text : List ℕ} {offset : ℕ} → Tokenizes grammar text (no_token_at offset) → IsReply grammar (Parse text) (no_token_line grammar.version offset)
+  too_many : {text : List ℕ} {offset : ℕ} → Tokenizes grammar text (too_many_at offset) → IsReply grammar (Parse text) (too_many_line grammar.version offset)
+  too_large : {text : List ℕ} {found : List Token} → Tokenizes grammar text (tokens found) → MOST_TOKENS < length found →
+      IsReply grammar (Parse text) (too_large_line grammar.version)
+  forest : {text : List ℕ} {found : List Token} {parsed : Forest} → Tokenizes grammar text (tokens found) → length found ≤ MOST_TOKENS →
+      IsForestOf grammar.rules (kinds_of found) parsed → IsReply grammar (Parse text) (forest_text grammar.version (name_of grammar.symbols) parsed.nodes)
+  no_sentence : {text : List ℕ} {found : List Token} → Tokenizes grammar text (tokens found) → length found ≤ MOST_TOKENS →
+      (IsSentence grammar.rules (kinds_of found) → ⊥) → IsReply grammar (Parse text) (no_sentence_line grammar.version)
+
+-- an edit that is taken changes the grammar, and a refused one leaves it
+abbrev pub unless_refused : Option Refusal → Grammar → AnEdit → Grammar
+unless_refused None grammar edit = after grammar edit
+unless_refused (Some why) grammar edit = grammar
 
 -- the grammar after a command
-abbrev pub after : Grammar → Command → Grammar
-after grammar (Rule r) = with_rule grammar r
-after grammar (Parse text) = grammar
+abbrev pub grammar_after : Grammar → Command → Grammar
+grammar_after grammar (Edit edit) = unless_refused (verdict grammar edit) grammar edit
+grammar_after grammar (Parse text) = grammar
+grammar_after grammar (Tokens text) = grammar
+grammar_after grammar Stats = grammar
 
 -- the replies to the commands, one after the other, from this grammar on
-pub data AreReplies : Grammar → List Command → List ℕ → Type 0 where
+pub data AreReplies : Grammar → List Block → List ℕ → Type 0 where
   none : {grammar : Grammar} → AreReplies grammar [] []
-  more : {grammar : Grammar} {command : Command} {commands : List Command} {reply replies : List ℕ} →
-      IsReply grammar command reply → AreReplies (after grammar command) commands replies → AreReplies grammar (command ∷ commands) (reply ++ replies)
+  more : {grammar : Grammar} {command : Command} {blocks : List Block} {reply replies : List ℕ} →
+      IsReply grammar command reply → AreReplies (grammar_after grammar command) blocks replies → AreReplies grammar (Alone command ∷ blocks) (reply ++ replies)
 
--- the grammar after all the commands, one after the other
-abbrev pub after_all : Grammar → List Command → Grammar
-after_all grammar [] = grammar
-after_all grammar (command ∷ commands) = after_all (after grammar command) commands
+-- ---- scripts
 
--- the script is good: it is not too long, and its lines are these commands
-pub record IsScript (script : List ℕ) (commands : List Command) : Type 0 where
-  pub short : length script ≤ SCRIPT_LIMIT
-  pub lines : AreCommands [] (lines_of script) commands
+-- the output of a script that is not too long: the replies to its commands, or the line for its first bad line
+pub data IsOutput (script : List ℕ) : List ℕ → Type 0 where
+  replies : {output : List ℕ} (read : Script) → length script ≤ SCRIPT_LIMIT → SpellsScript script read → AreReplies empty_grammar read.blocks output → IsOutput script output
+  refusal : (bad : BadScript) → length script ≤ SCRIPT_LIMIT → IsFirstBad script bad → IsOutput script (bad_line bad)
 
--- the script is bad: it is too long, or has a bad line
-abbrev pub IsBadScript : List ℕ → Type 0
-IsBadScript script = (SCRIPT_LIMIT < length script) ⊎ HasBadLine [] (lines_of script)
+-- the script is too long or has a bad line
+pub data IsBadScript (script : List ℕ) : Type 0 where
+  too_long : SCRIPT_LIMIT < length script → IsBadScript script
+  bad : (line : BadScript) → IsFirstBad script line → IsBadScript script
 
--- the script is good, and these are the replies to its commands
-pub record IsOutput (script output : List ℕ) : Type 0 where
-  pub commands : List Command
-  pub good : IsScript script commands
-  pub replies : AreReplies empty_grammar commands output
+-- ---- what a run of this stage answers
 
--- the sink took a front of the replies to these commands, at least up to where it stopped: a front of the replies to the first of them
-pub record TakesFront (old new : Option (List ℕ)) (commands : List Command) : Type 0 where
-  pub first : List Command
-  pub others : List Command
-  pub parts : commands ≡ first ++ others
+-- the edit adds or drops a rule
+abbrev pub IsOfRule : AnEdit → Type 0
+IsOfRule (AddRule r) = Unit {0}
+IsOfRule (DropRule r) = Unit {0}
+IsOfRule (AddToken d) = ⊥
+IsOfRule (DropToken name) = ⊥
+IsOfRule (AddSkip d) = ⊥
+IsOfRule (DropSkip name) = ⊥
+
+-- an edit of a rule, or a text
+abbrev pub IsAnswerable : Command → Type 0
+IsAnswerable (Edit edit) = IsProper edit × IsOfRule edit
+IsAnswerable (Parse text) = Unit {0}
+IsAnswerable (Tokens text) = ⊥
+IsAnswerable Stats = ⊥
+
+abbrev pub IsAnswerableBlock : Block → Type 0
+IsAnswerableBlock (Alone command) = IsAnswerable command
+IsAnswerableBlock (Par commands) = ⊥
+
+-- the grammar after a block
+abbrev pub grammar_behind : Grammar → Block → Grammar
+grammar_behind grammar (Alone command) = grammar_after grammar command
+grammar_behind grammar (Par commands) = grammar
+
+-- the grammar after all the blocks, one after the other
+abbrev pub grammar_after_all : Grammar → List Block → Grammar
+grammar_after_all grammar [] = grammar
+grammar_after_all grammar (block ∷ blocks) = grammar_after_all (grammar_behind grammar block) blocks
+
+-- the reply to the command was appended
+pub record RepliesWith (grammar : Grammar) (command : Command) (old new : List ℕ) : Type 0 where
+  pub reply : List ℕ
+  pub is : IsReply grammar command reply
+  pub appended : new ≡ old ++ reply
+
+-- the reply to the block was appended
+abbrev pub AnswersBlock : Grammar → Block → List ℕ → List ℕ → Type 0
+AnswersBlock grammar (Alone command) old new = RepliesWith grammar command old new
+AnswersBlock grammar (Par commands) old new = ⊥
+
+-- ---- what a run did
+
+-- the sink took all the replies to these blocks
+pub record TakesReplies (old new : Option (List ℕ)) (blocks : List Block) : Type 0 where
+  pub output : List ℕ
+  pub replies : AreReplies empty_grammar blocks output
+  pub taken : Takes old new output
+
+-- the sink took a front of the replies to these blocks, at least up to where it stopped: a front of the replies to the first of them
+pub record TakesFirst (old new : Option (List ℕ)) (blocks : List Block) : Type 0 where
+  pub first : List Block
+  pub others : List Block
+  pub parts : blocks ≡ first ++ others
   pub output : List ℕ
   pub replies : AreReplies empty_grammar first output
   pub taken : TakesPrefix old new output
 
--- a rule has at most 16 symbols on its right side, and a text is not too long
-abbrev pub IsBounded : Command → Type 0
-IsBounded (Rule r) = length r.right ≤ 16
-IsBounded (Parse text) = length text ≤ TEXT_LIMIT
+-- the sink took a front of the script's output
+pub data TakesFront (old new : Option (List ℕ)) (script : List ℕ) : Type 0 where
+  of_replies : (read : Script) → SpellsScript script read → TakesFirst old new read.blocks → TakesFront old new script
+  of_refusal : (bad : BadScript) → IsFirstBad script bad → TakesPrefix old new (bad_line bad) → TakesFront old new script
 
--- the reply to the text was appended
-pub record RepliesWith (grammar : Grammar) (text old new : List ℕ) : Type 0 where
-  pub reply : List ℕ
-  pub is : IsReply grammar (Parse text) reply
-  pub appended : new ≡ old ++ reply
-
--- the sink took all the replies to these commands
-pub record TakesReplies (old new : Option (List ℕ)) (commands : List Command) : Type 0 where
-  pub output : List ℕ
-  pub replies : AreReplies empty_grammar commands output
-  pub taken : Takes old new output
-
--- the source was read to its end, and the sink took exactly the output of what it gave
-pub record RunsWhole (left_old left_new taken_old taken_new : Option (List ℕ)) : Type 0 where
-  pub script : List ℕ
-  pub output : List ℕ
+-- the source was read to its end, and gave this script, which is not too long
+pub record IsReadWhole (left_old left_new : Option (List ℕ)) (script : List ℕ) : Type 0 where
   pub given : IsKnownAs left_old script
   pub ended : IsKnownAs left_new []
+  pub short : length script ≤ SCRIPT_LIMIT
+
+-- the source was read to its end, its script is good, and the sink took exactly its output
+pub record RunsWhole (left_old left_new taken_old taken_new : Option (List ℕ)) : Type 0 where
+  pub script : List ℕ
+  pub is_read : IsReadWhole left_old left_new script
+  pub read : Script
+  pub good : SpellsScript script read
+  pub output : List ℕ
   pub is : IsOutput script output
   pub taken : Takes taken_old taken_new output
 
--- the source was read to its end, its script is good, and the sink took a front of the replies to its commands
+-- the source was read to its end, its script has a first bad line, and the sink took exactly the line for it
+pub record RunsBad (left_old left_new taken_old taken_new : Option (List ℕ)) : Type 0 where
+  pub script : List ℕ
+  pub is_read : IsReadWhole left_old left_new script
+  pub bad : BadScript
+  pub first : IsFirstBad script bad
+  pub taken : Takes taken_old taken_new (bad_line bad)
+
+-- the source was read to its end, and the sink took a front of its script's output
 pub record StopsEarly (left_old left_new taken_old taken_new : Option (List ℕ)) : Type 0 where
   pub script : List ℕ
-  pub commands : List Command
-  pub given : IsKnownAs left_old script
-  pub ended : IsKnownAs left_new []
-  pub good : IsScript script commands
-  pub taken : TakesFront taken_old taken_new commands
-
--- the source was read to its end and its script has a bad line, or it gave one byte more than a script may have
-abbrev pub GivesBadScript : (left_old left_new : Option (List ℕ)) → Type 0
-GivesBadScript left_old left_new =
-    ((script : List ℕ) × IsKnownAs left_old script × IsKnownAs left_new [] × HasBadLine [] (lines_of script)) ⊎ GivesCount left_old left_new (SCRIPT_LIMIT + 1)
+  pub is_read : IsReadWhole left_old left_new script
+  pub taken : TakesFront taken_old taken_new script

@@ -1,27 +1,26 @@
-//! Reads a script of grammar rules and texts from standard input, and writes the reply to each line to
-//! standard output: a version for each rule, and for each text its shared packed forest or the reason why
-//! there is none.
+//! Reads a script from standard input, and writes the reply to each command to standard output: a version
+//! for each edit of the grammar that is taken, and for each text its shared packed forest or the reason why
+//! there is none. For a script with a bad line it writes one line.
 #![tactic(auto)]
 
-mod command;
-mod grammar;
+ghost use Rattle.std.specs.Prelude.{◌≡◌};
+ghost use Rattle.workbench.specs.Ends.{exit_number};
+
+mod bench;
 mod laws;
-mod lines;
+mod literals;
 mod print;
-mod reading;
+mod refusals;
 mod reply;
-mod script;
+mod scan;
 mod sink_writing;
 mod source_reading;
-mod symbols;
 #[cfg(test)]
 mod tests;
-mod texts;
-mod tokens;
 mod top_call;
 
 use bench_io::{StdSink, StdSource};
-pub use laws::one_output;
+pub use laws::{good_or_bad, one_output};
 use std::process::ExitCode;
 use std::{env, io};
 pub use top_call::{Status, run};
@@ -50,6 +49,13 @@ fn status_of(error: &io::Error) -> Status {
     }
 }
 
+/// The program's exit status.
+fn exit_status(status: Status) -> u8
+    ensures { result ≡ exit_number status }
+{
+    status as u8
+}
+
 fn main(rt: HostRuntime) -> ExitCode {
     let status = match start(&rt) {
         Ok(status) => status,
@@ -58,5 +64,5 @@ fn main(rt: HostRuntime) -> ExitCode {
     if status == Status::BadWords {
         let _ = rt.eprintln("usage: workbench");
     }
-    ExitCode::from(status as u8)
+    ExitCode::from(exit_status(status))
 }

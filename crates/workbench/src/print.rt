@@ -1,14 +1,14 @@
 // The lines that answer a command.
 ghost use Rattle.std.specs.Prelude.{◌≡◌, ◌∷◌, [], ◌++◌, ◌+◌, ℕ, List, OnOk, decimal, codes, length};
 ghost use Rattle.std.specs.List.{flat_map};
-ghost use Rattle.workbench.specs.Replies.{version_line, parse_head, no_token_line, too_large_line, no_sentence_line, cut_text, split_line, span_line, node_text, count_line};
+ghost use Rattle.workbench.specs.Replies.{version_line, parse_head, no_token_line, too_many_line, too_large_line, no_sentence_line, cut_text, split_line, span_line, node_text, count_line};
 
 use forest::{Forest, Node, Split};
 use itoa::{Buffer, Integer};
 use std::alloc::AllocError;
 
 /// Appends the number in decimals.
-fn put_number<I: Integer>(out: &mut Vec<u8>, number: I) -> Result<(), AllocError>
+pub fn put_number<I: Integer>(out: &mut Vec<u8>, number: I) -> Result<(), AllocError>
     ensures { OnOk result (out.new.items ≡ out.old.items ++ I.text number) }
 {
     out.extend_from_slice(Buffer::new().format(number).as_bytes())
@@ -33,7 +33,7 @@ fn put_parse_head(out: &mut Vec<u8>, version: u32) -> Result<(), AllocError>
     put_number(out, version)
 }
 
-/// Appends the line for a text whose byte at the offset begins no token.
+/// Appends the line for a text in which no token begins at the offset.
 #[tactic(auto, using(std::proofs::Common::append_assoc))]
 pub fn put_no_token(out: &mut Vec<u8>, version: u32, offset: usize) -> Result<(), AllocError>
     ensures { OnOk result (out.new.items ≡ out.old.items ++ no_token_line version offset) }
@@ -44,7 +44,18 @@ pub fn put_no_token(out: &mut Vec<u8>, version: u32, offset: usize) -> Result<()
     out.extend_from_slice(b"\n")
 }
 
-/// Appends the line for a text with too many tokens.
+/// Appends the line for a text in which a token too many begins at the offset.
+#[tactic(auto, using(std::proofs::Common::append_assoc))]
+pub fn put_too_many(out: &mut Vec<u8>, version: u32, offset: usize) -> Result<(), AllocError>
+    ensures { OnOk result (out.new.items ≡ out.old.items ++ too_many_line version offset) }
+{
+    put_parse_head(out, version)?;
+    out.extend_from_slice(b" too many tokens at ")?;
+    put_number(out, offset)?;
+    out.extend_from_slice(b"\n")
+}
+
+/// Appends the line for a text with more tokens than are parsed.
 #[tactic(auto, using(std::proofs::Common::append_assoc))]
 pub fn put_too_large(out: &mut Vec<u8>, version: u32) -> Result<(), AllocError>
     ensures { OnOk result (out.new.items ≡ out.old.items ++ too_large_line version) }

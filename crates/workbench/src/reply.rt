@@ -1,129 +1,101 @@
-// The reply to a command.
-ghost use Rattle.std.specs.Prelude.{◌≡◌, ◌≤◌, ◌<◌, ◌^◌, ◌++◌, ◌∷◌, [], ℕ, List, length, Ok, OnOk, IfOk};
-ghost use Rattle.workbench.specs.Grammar.{version_of, name_of};
-ghost use Rattle.workbench.specs.Replies.{nodes_text, forest_text};
-ghost use Rattle.workbench.specs.Output.{IsReply, RepliesWith, after, IsBounded};
-ghost use Rattle.workbench.specs.Tokens.{tokens_of};
+// The reply to a text.
+ghost use Rattle.std.specs.Prelude.{◌≡◌, ◌≤◌, ◌<◌, ◌^◌, ◌++◌, [], ℕ, List, length, OnOk, Contains};
+ghost use Rattle.forest.specs.declared.nodes.Node.{Node as TheNode};
+ghost use Rattle.forest.specs.declared.symbols.Token.{Token as TheToken};
 ghost use Rattle.forest.specs.Derivation.{AreTerminals};
+ghost use Rattle.script_text.specs.declared.command.Command.TheVariants.{Parse};
+ghost use Rattle.edit_log.specs.Tokens.{tokens, Tokenizes};
+ghost use Rattle.workbench.specs.Literals.{HoldsLiterals};
+ghost use Rattle.workbench.specs.Scans.{kinds_of};
+ghost use Rattle.workbench.specs.Replies.{name_of, nodes_text, forest_text};
+ghost use Rattle.workbench.specs.Output.{RepliesWith};
 
-use crate::command::{Command, TEXT_LIMIT};
-use crate::grammar::Grammar;
+use crate::literals::{Literals, name};
 use crate::print::{
-    put_counts, put_no_sentence, put_no_token, put_node, put_too_large, put_version,
+    put_counts, put_no_sentence, put_no_token, put_node, put_too_large, put_too_many,
 };
-use crate::tokens::tokens;
+use crate::scan::{Scanned, scan};
+use edit_log::Grammar;
 use forest::{Forest, Node, SymbolId};
-use grammar_text::Symbol;
 use plain_chart::{ChartError, chart};
 use std::alloc::{AllocError, Global};
 
-/// The name of the symbol with this number.
-fn name(symbols: &[Symbol], number: SymbolId) -> &[u8]
-    ensures { result.now ≡ name_of symbols.now number.0 }
-{
-    match symbols.get(number.0 as usize) {
-        Some(Symbol::Named(name)) => name.bytes(),
-        Some(Symbol::Literal(text)) => text.bytes(),
-        None => &[],
-    }
-}
-
 /// Appends the lines for each node.
-fn put_nodes(out: &mut Vec<u8>, symbols: &[Symbol], nodes: &[Node]) -> Result<(), AllocError>
-    ensures { OnOk result (out.new.items ≡ out.old.items ++ nodes_text (name_of symbols.now) nodes.now) }
+fn put_nodes(out: &mut Vec<u8>, grammar: &Grammar, nodes: &[Node]) -> Result<(), AllocError>
+    requires { (node : TheNode) → Contains nodes.now node → node.symbol.0 < length grammar.now.grammar.symbols }
+    ensures { OnOk result (out.new.items ≡ out.old.items ++ nodes_text (name_of grammar.now.grammar.symbols) nodes.now) }
 {
     for node in nodes {
-        put_node(out, name(symbols, node.symbol), node)?;
+        put_node(out, name(grammar, node.symbol), node)?;
     }
     Ok(())
 }
 
 /// Appends the lines for a forest.
 #[tactic(auto, using(std::proofs::Common::append_assoc))]
-fn put_forest(
-    out: &mut Vec<u8>,
-    version: u32,
-    symbols: &[Symbol],
-    forest: &Forest,
-) -> Result<(), AllocError>
-    ensures { OnOk result (out.new.items ≡ out.old.items ++ forest_text version (name_of symbols.now) forest.now.nodes) }
+fn put_forest(out: &mut Vec<u8>, grammar: &Grammar, forest: &Forest) -> Result<(), AllocError>
+    requires { (node : TheNode) → Contains forest.now.nodes node → node.symbol.0 < length grammar.now.grammar.symbols }
+    ensures { OnOk result (out.new.items ≡ out.old.items ++ forest_text grammar.now.grammar.version (name_of grammar.now.grammar.symbols) forest.now.nodes) }
 {
-    put_counts(out, version, forest)?;
-    put_nodes(out, symbols, forest.nodes.as_slice())?;
+    put_counts(out, grammar.version(), forest)?;
+    put_nodes(out, grammar, forest.nodes.as_slice())?;
     Ok(())
 }
 
-/// Appends the reply to a text of which each byte is a token. The tokens are given by their kinds.
+/// Appends the reply to a text with tokens of these kinds.
 fn parse_kinds(
     alloc: Global,
     grammar: &Grammar,
     kinds: &[SymbolId],
     out: &mut Vec<u8>,
 ) -> Result<(), AllocError>
-    requires room { version_of grammar.now ≤ 2 ^ 24 }
     requires countable { length kinds.now < 2 ^ 32 }
-    requires terminals { AreTerminals grammar.now.rules kinds.now }
-    ensures { OnOk result ((text : List ℕ) → tokens_of grammar.now.symbols text ≡ Ok kinds.now
-        → RepliesWith grammar.now text out.old.items out.new.items) }
+    requires terminals { AreTerminals grammar.now.grammar.rules kinds.now }
+    ensures { OnOk result ((text : List ℕ) (found : List TheToken) → Tokenizes grammar.now.grammar text (tokens found)
+        → kinds.now ≡ kinds_of found → RepliesWith grammar.now.grammar (Parse text) out.old.items out.new.items) }
 {
-    let version = grammar.version() as u32;
     match chart(alloc, grammar.rules(), kinds) {
         Ok(Some(forest)) => {
-            put_forest(out, version, grammar.symbols(), &forest)?;
+            put_forest(out, grammar, &forest)?;
             Ok(())
         }
         Ok(None) => {
-            put_no_sentence(out, version)?;
+            put_no_sentence(out, grammar.version())?;
             Ok(())
         }
         Err(ChartError::TooLarge { .. }) => {
-            put_too_large(out, version)?;
+            put_too_large(out, grammar.version())?;
             Ok(())
         }
         Err(ChartError::NoMemory) => Err(AllocError),
     }
 }
 
-/// Appends the reply to a text.
-fn parse(alloc: Global, grammar: &Grammar, text: &[u8], out: &mut Vec<u8>) -> Result<(), AllocError>
-    requires room { version_of grammar.now ≤ 2 ^ 24 }
-    requires short { length text.now ≤ TEXT_LIMIT }
-    ensures { OnOk result (RepliesWith grammar.now text.now out.old.items out.new.items) }
+/// Appends the reply to a text, where these are the live literals of the grammar.
+pub fn put_parse(
+    alloc: Global,
+    grammar: &Grammar,
+    literals: &Literals,
+    text: &[u8],
+    out: &mut Vec<u8>,
+) -> Result<(), AllocError>
+    requires plain { grammar.now.grammar.definitions ≡ [] }
+    requires literals { HoldsLiterals grammar.now.grammar literals.now }
+    ensures { OnOk result (RepliesWith grammar.now.grammar (Parse text.now) out.old.items out.new.items) }
 {
-    match tokens(alloc, grammar.symbols(), text)? {
-        Ok(kinds) => {
+    let version = grammar.version();
+    match scan(alloc, grammar, literals, text)? {
+        Scanned::Kinds(kinds) => {
             parse_kinds(alloc, grammar, &kinds, out)?;
             Ok(())
         }
-        Err(offset) => {
-            put_no_token(out, grammar.version() as u32, offset)?;
+        Scanned::NoToken(offset) => {
+            put_no_token(out, version, offset)?;
             Ok(())
         }
-    }
-}
-
-/// Appends the reply to the command, and gives the grammar after it.
-pub fn answer(
-    alloc: Global,
-    grammar: Grammar,
-    command: &Command,
-    out: &mut Vec<u8>,
-) -> Result<Grammar, AllocError>
-    requires room { version_of grammar < 2 ^ 24 }
-    requires bounded { IsBounded command.now }
-    ensures next { IfOk result (λ next. next ≡ after grammar command.now) }
-    ensures replied { OnOk result ((reply : List ℕ) × IsReply grammar command.now reply
-        × (out.new.items ≡ out.old.items ++ reply)) }
-{
-    match command {
-        Command::Rule(rule) => {
-            let grammar = grammar.with_rule(alloc, rule)?;
-            put_version(out, grammar.version() as u32)?;
-            Ok(grammar)
-        }
-        Command::Parse(text) => {
-            parse(alloc, &grammar, text.bytes(), out)?;
-            Ok(grammar)
+        Scanned::TooMany(offset) => {
+            put_too_many(out, version, offset)?;
+            Ok(())
         }
     }
 }

@@ -1,22 +1,24 @@
 // The top call: a script from a source, and the replies to a sink.
-ghost use Rattle.std.specs.Prelude.{◌≡◌, ◌≢◌, ◌≤◌, ◌<◌, ◌↔◌, ◌⊎◌, ◌++◌, [], ℕ, List, length, OnOk, OnErr, IfSome, IsErrOf};
+ghost use Rattle.std.specs.Prelude.{◌≡◌, ◌≢◌, ◌≤◌, ◌<◌, ◌+◌, ◌↔◌, ◌⊎◌, ◌++◌, [], ℕ, List, length, Some, OnOk, OnErr, IfSome, IsErrOf};
 ghost use Rattle.std.specs.List.{AllByRecursion};
 ghost use Rattle.bench_io.specs.Faults.{HasRisen};
 ghost use Rattle.bench_io.specs.Known.{Takes};
-ghost use Rattle.workbench.specs.declared.command.Command.{Command as TheCommand};
-ghost use Rattle.workbench.specs.Commands.{HasBadLine};
-ghost use Rattle.workbench.specs.Ends.{IsSilent, StopsBeforeEnd};
-ghost use Rattle.workbench.specs.Lines.{lines_of};
-ghost use Rattle.workbench.specs.Output.{IsBounded, TakesReplies, TakesFront, IsScript, IsOutput, IsBadScript, RunsWhole, StopsEarly, GivesBadScript};
-ghost use Rattle.workbench.specs.Pieces.{TakesPrefix};
+ghost use Rattle.script_text.specs.declared.command.Script.{Script as AScript};
+ghost use Rattle.script_text.specs.declared.bad_script.BadScript.{BadScript as ABadScript};
+ghost use Rattle.script_text.specs.declared.limits.TheConstants.{SCRIPT_LIMIT};
+ghost use Rattle.script_text.specs.Scripts.{SpellsScript, IsFirstBad};
+ghost use Rattle.workbench.specs.declared.top_call.TheConstants.{PIECE};
+ghost use Rattle.workbench.specs.Ends.{IsLate, IsFree, EndsBy, IsSilent, StopsBeforeEnd};
+ghost use Rattle.workbench.specs.Output.{IsAnswerableBlock, TakesReplies, TakesFirst, TakesFront, IsOutput, IsBadScript, RunsWhole, RunsBad, StopsEarly};
+ghost use Rattle.workbench.specs.Pieces.{TakesPrefix, GivesCount};
+ghost use Rattle.workbench.specs.Replies.{bad_line};
 
-use crate::command::{Command, SCRIPT_LIMIT};
-use crate::grammar::Grammar;
-use crate::reply::answer;
-use crate::script::{ScriptError, read_script};
+use crate::bench::Bench;
+use crate::refusals::put_bad_script;
 use crate::sink_writing::write_all;
 use crate::source_reading::{ReadError, read_all};
 use bench_io::{Fault, Sink, Source};
+use script_text::{BadScript, Block, SCRIPT_LIMIT, ScriptError, read_script};
 use std::alloc::Global;
 
 /// How many bytes of replies are gathered before they are written.
@@ -25,7 +27,7 @@ const PIECE: usize = 65_536;
 /// How a run ended. The number is the program's exit status.
 #[derive(Clone, Copy, Debug, PartialEq, Eq)]
 pub enum Status {
-    /// The whole script was read, and all its replies were written.
+    /// The whole script was read, it is good, and all its replies were written.
     Done = 0,
     /// There is a word besides the program's name.
     BadWords = 2,
@@ -35,14 +37,17 @@ pub enum Status {
     WriteFault = 4,
     /// There was no memory.
     NoMemory = 5,
-    /// The script has a bad line, or is too long.
+    /// The script has a bad line. No command was run, and the line that tells it was written.
     BadScript = 6,
+    /// The source gave one byte more than a script may have.
+    ScriptTooLong = 7,
 }
 
 /// Writes what was gathered, where it is much.
 fn flush_full<K: Sink>(sink: &mut K, out: &mut Vec<u8>) -> Result<(), Fault>
     ensures written { OnOk result ((gone : List ℕ) × Takes (K.taken sink.old) (K.taken sink.new) gone
         × (out.old.items ≡ gone ++ out.new.items)) }
+    ensures little { OnOk result (length out.new.items < PIECE) }
     ensures refused { OnErr result (TakesPrefix (K.taken sink.old) (K.taken sink.new) out.old.items) }
     ensures counted { K.faults sink.old ≤ K.faults sink.new }
     ensures failed { IsErrOf result Fault.Failed → HasRisen (K.faults sink.old) (K.faults sink.new) }
@@ -55,60 +60,81 @@ fn flush_full<K: Sink>(sink: &mut K, out: &mut Vec<u8>) -> Result<(), Fault>
     Ok(())
 }
 
-/// Writes the replies to the commands.
-fn answer_all<K: Sink>(alloc: Global, commands: &[Command], sink: &mut K) -> Result<(), Fault>
-    requires few { length commands.now ≤ SCRIPT_LIMIT }
-    requires bounded { AllByRecursion IsBounded commands.now }
-    ensures whole { OnOk result (TakesReplies (K.taken sink.old) (K.taken sink.new) commands.now) }
-    ensures front { OnErr result (TakesFront (K.taken sink.old) (K.taken sink.new) commands.now) }
+/// Writes the replies to the blocks.
+fn answer_all<K: Sink>(alloc: Global, blocks: &[Block], sink: &mut K) -> Result<(), Fault>
+    requires { AllByRecursion IsAnswerableBlock blocks.now }
+    ensures whole { OnOk result (TakesReplies (K.taken sink.old) (K.taken sink.new) blocks.now) }
+    ensures front { OnErr result (TakesFirst (K.taken sink.old) (K.taken sink.new) blocks.now) }
     ensures counted { K.faults sink.old ≤ K.faults sink.new }
     ensures failed { IsErrOf result Fault.Failed → HasRisen (K.faults sink.old) (K.faults sink.new) }
 {
-    let mut grammar = Grammar::empty(alloc)?;
+    let mut bench = Bench::new(alloc)?;
     let mut out = Vec::new(alloc);
-    for command in commands {
-        grammar = answer(alloc, grammar, command, &mut out)?;
+    for block in blocks {
+        bench.answer_block(alloc, block, &mut out)?;
         flush_full(sink, &mut out)?;
     }
     write_all(sink, &out)?;
     Ok(())
 }
 
-/// Reads the script, and writes the replies to its commands.
-fn run_script<K: Sink>(alloc: Global, script: &[u8], sink: &mut K) -> Status
-    requires { length script.now ≤ SCRIPT_LIMIT }
-    ensures late { (result ≢ Status.BadWords) × (result ≢ Status.ReadFault) }
-    ensures done { result ≡ Status.Done → (output : List ℕ) × IsOutput script.now output
-        × Takes (K.taken sink.old) (K.taken sink.new) output }
-    ensures bad_script { result ≡ Status.BadScript → HasBadLine [] (lines_of script.now) }
-    ensures silent { result ≡ Status.BadScript → K.taken sink.new ≡ K.taken sink.old }
-    ensures good_script { (result ≡ Status.Done) ⊎ (result ≡ Status.WriteFault)
-        → HasBadLine [] (lines_of script.now) → ⊥ }
-    ensures write_fault { result ≡ Status.WriteFault
-        → HasRisen (K.faults sink.old) (K.faults sink.new) }
-    ensures stopped { result ≡ Status.WriteFault → (commands : List TheCommand)
-        × IsScript script.now commands × TakesFront (K.taken sink.old) (K.taken sink.new) commands }
-    ensures no_memory { result ≡ Status.NoMemory → (K.taken sink.new ≡ K.taken sink.old)
-        ⊎ ((commands : List TheCommand) × IsScript script.now commands
-        × TakesFront (K.taken sink.old) (K.taken sink.new) commands) }
+/// Writes the line for a bad script.
+fn refuse<K: Sink>(alloc: Global, bad: BadScript, sink: &mut K) -> Result<(), Fault>
+    ensures whole { OnOk result (Takes (K.taken sink.old) (K.taken sink.new) (bad_line bad)) }
+    ensures front { OnErr result (TakesPrefix (K.taken sink.old) (K.taken sink.new) (bad_line bad)) }
     ensures counted { K.faults sink.old ≤ K.faults sink.new }
+    ensures failed { IsErrOf result Fault.Failed → HasRisen (K.faults sink.old) (K.faults sink.new) }
 {
-    let commands = match read_script(alloc, script) {
-        Ok(commands) => commands,
-        Err(ScriptError::BadLine) => return Status::BadScript,
-        Err(ScriptError::NoMemory) => return Status::NoMemory,
-    };
-    match answer_all(alloc, &commands, sink) {
-        Ok(()) => Status::Done,
+    let mut out = Vec::new(alloc);
+    put_bad_script(&mut out, bad)?;
+    write_all(sink, &out)?;
+    Ok(())
+}
+
+/// The status with which the output of a script was written: this one, where no write failed.
+fn status_after(written: Result<(), Fault>, done: Status) -> Status
+    ensures ok { OnOk written (result ≡ done) }
+    ensures failed { IsErrOf written Fault.Failed → result ≡ Status.WriteFault }
+    ensures no_memory { IsErrOf written Fault.NoMemory → result ≡ Status.NoMemory }
+{
+    match written {
+        Ok(()) => done,
         Err(Fault::Failed) => Status::WriteFault,
         Err(Fault::NoMemory) => Status::NoMemory,
     }
 }
 
-/// Reads a script from the source and writes the replies to its commands to the sink.
+/// Reads the script, and writes the replies to its commands or the line for its first bad line.
+fn run_script<K: Sink>(alloc: Global, script: &[u8], sink: &mut K) -> Status
+    requires { length script.now ≤ SCRIPT_LIMIT }
+    ensures late { IsLate result }
+    ensures done { result ≡ Status.Done → (read : AScript) × SpellsScript script.now read × TakesReplies (K.taken sink.old) (K.taken sink.new) read.blocks }
+    ensures bad_script { result ≡ Status.BadScript → (bad : ABadScript) × IsFirstBad script.now bad × Takes (K.taken sink.old) (K.taken sink.new) (bad_line bad) }
+    ensures write_fault { result ≡ Status.WriteFault
+        → HasRisen (K.faults sink.old) (K.faults sink.new) }
+    ensures stopped { result ≡ Status.WriteFault → TakesFront (K.taken sink.old) (K.taken sink.new) script.now }
+    ensures no_memory { result ≡ Status.NoMemory → (K.taken sink.new ≡ K.taken sink.old)
+        ⊎ TakesFront (K.taken sink.old) (K.taken sink.new) script.now }
+    ensures counted { K.faults sink.old ≤ K.faults sink.new }
+{
+    let read = match read_script(alloc, script) {
+        Ok(read) => read,
+        Err(ScriptError::Bad(bad)) => {
+            let written = refuse(alloc, bad, sink);
+            return status_after(written, Status::BadScript);
+        }
+        Err(ScriptError::NoMemory) => return Status::NoMemory,
+    };
+    let written = answer_all(alloc, read.blocks.as_slice(), sink);
+    status_after(written, Status::Done)
+}
+
+/// Reads a script from the source and writes to the sink the replies to its commands, or one line where it has
+/// a bad line.
 ///
 /// The words are those of the command line, of which the first is the program's name. Nothing is written
-/// before the script has been read whole and found good. Want of memory may end a run at any point.
+/// before the script has been read whole, and no command is run before all its lines were found good. Want of
+/// memory may end a run at any point.
 pub fn run<S: Source, K: Sink>(
     alloc: Global,
     words: &[&str],
@@ -120,14 +146,15 @@ pub fn run<S: Source, K: Sink>(
     // Only the program's name may stand in the words.
     ensures bad_words { (result ≡ Status.BadWords) ↔ (1 < length words.now) }
 
+    // A run to the end.
     ensures done { result ≡ Status.Done
         → RunsWhole (S.left source.old) (S.left source.new) (K.taken sink.old) (K.taken sink.new) }
-
-    // Which scripts are bad.
     ensures bad_script { result ≡ Status.BadScript
-        → GivesBadScript (S.left source.old) (S.left source.new) }
-    ensures good_script { (result ≡ Status.Done) ⊎ (result ≡ Status.WriteFault)
+        → RunsBad (S.left source.old) (S.left source.new) (K.taken sink.old) (K.taken sink.new) }
+    ensures good_script { result ≡ Status.Done
         → IfSome (S.left source.old) (λ script. IsBadScript script → ⊥) }
+    ensures too_long { result ≡ Status.ScriptTooLong
+        → GivesCount (S.left source.old) (S.left source.new) (SCRIPT_LIMIT + 1) }
 
     // A fault comes only where it was counted.
     ensures read_fault { result ≡ Status.ReadFault
@@ -135,6 +162,10 @@ pub fn run<S: Source, K: Sink>(
     ensures write_fault { result ≡ Status.WriteFault
         → HasRisen (K.faults sink.old) (K.faults sink.new) }
     ensures counted { (S.faults source.old ≤ S.faults source.new) × (K.faults sink.old ≤ K.faults sink.new) }
+
+    // Where no fault was counted, the script decides.
+    ensures complete { length words.now ≡ 1 → IsFree (S.faults source.old) (S.faults source.new) → IsFree (K.faults sink.old) (K.faults sink.new)
+        → (script : List ℕ) → S.left source.old ≡ Some script → EndsBy script result }
 
     // What the sink took where the run did not come to its end.
     ensures silent { IsSilent result → K.taken sink.new ≡ K.taken sink.old }
@@ -152,6 +183,6 @@ pub fn run<S: Source, K: Sink>(
         Ok(script) => run_script(alloc, &script, sink),
         Err(ReadError::Failed) => Status::ReadFault,
         Err(ReadError::NoMemory) => Status::NoMemory,
-        Err(ReadError::TooLong) => Status::BadScript,
+        Err(ReadError::TooLong) => Status::ScriptTooLong,
     }
 }

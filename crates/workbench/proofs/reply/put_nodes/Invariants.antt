@@ -1,7 +1,6 @@
 use Rattle.std.proofs.Common.{◌≡◌, ◌++◌, take}
-use Rattle.workbench.specs.Grammar.{name_of}
-use Rattle.workbench.specs.Replies.{nodes_text}
+use Rattle.workbench.specs.Replies.{name_of, nodes_text}
 use Rattle.workbench.proofs.reply.put_nodes.Given as goal
 
 abbrev pub invariant-loop-node : goal.invariant-loop-node
-invariant-loop-node l = l.out.items ≡ l.initial.out.items ++ nodes_text (name_of l.symbols) (take l.node-index l.nodes)
+invariant-loop-node l = l.out.items ≡ l.initial.out.items ++ nodes_text (name_of l.grammar.grammar.symbols) (take l.node-index l.nodes)

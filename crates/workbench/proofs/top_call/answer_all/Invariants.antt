@@ -2,8 +2,8 @@ use Rattle.std.proofs.Common.{◌≤◌, take}
 use Rattle.workbench.proofs.RunSteps.{IsAnswered}
 use Rattle.workbench.proofs.top_call.answer_all.Given as goal
 
-abbrev pub invariant-loop-command : goal.invariant-loop-command
-invariant-loop-command g l = record {
-  answered : IsAnswered (g.K.Sink.taken l.initial.sink) (g.K.Sink.taken l.sink) (take l.command-index l.commands) l.grammar l.out.items;
+abbrev pub invariant-loop-block : goal.invariant-loop-block
+invariant-loop-block g l = record {
+  answered : IsAnswered (g.K.Sink.taken l.initial.sink) (g.K.Sink.taken l.sink) (take l.block-index l.blocks) l.bench l.out.items;
   counted : g.K.Sink.faults l.initial.sink ≤ g.K.Sink.faults l.sink;
 }

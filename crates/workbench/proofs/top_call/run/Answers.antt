@@ -1,9 +1,61 @@
-use Rattle.std.proofs.Common.{List, ℕ, subst, sym}
+use Rattle.std.proofs.Common.{◌+◌, ◌≤◌, List, ℕ, length, inl, inr, subst, sym, rules}
 use Rattle.bench_io.specs.Known.{IsKnownAs}
-use Rattle.workbench.specs.Output.{IsOutput}
-use Rattle.workbench.specs.Pieces.{TakesPrefix}
-use Rattle.workbench.proofs.OneOutput.{front_at_end, if_known}
+use Rattle.script_text.specs.declared.limits.TheConstants.{SCRIPT_LIMIT}
+use Rattle.workbench.specs.Pieces.{TakesPrefix, GivesCount}
+use Rattle.workbench.specs.Ends.{without_memory}
+use Rattle.workbench.specs.Output.{IsOutput, replies, IsBadScript}
+use Rattle.workbench.proofs.OneOutput.{if_known}
+use Rattle.workbench.proofs.RunEnds.{not_bad, front_at_end, ends_by, ends_too_long}
 use Rattle.workbench.proofs.top_call.run.Goals as goal
+
+pub returns-in-Ok-clause-done : goal.returns-in-Ok-clause-done
+returns-in-Ok-clause-done g c = λ is.
+    let left = g.S.Source.left c.args.source.now in
+    let known : IsKnownAs (g.S.Source.left c.args.source.now) c.deref.result.now = subst (IsKnownAs left) (sym c.deref.ensures.value) c.in-Ok.ensures.whole in
+    let short : length c.deref.result.now ≤ SCRIPT_LIMIT = search rules in
+    let whole = c.run_script.ensures.done is in
+    record {
+      script = c.deref.result.now;
+      is_read = record { given = known; ended = c.in-Ok.ensures.ended; short = short };
+      read = whole.0;
+      good = whole.1;
+      output = whole.2.output;
+      is = replies whole.0 short whole.1 whole.2.replies;
+      taken = whole.2.taken;
+    }
+
+pub returns-in-Ok-clause-good_script : goal.returns-in-Ok-clause-good_script
+returns-in-Ok-clause-good_script g c = λ is.
+    let left = g.S.Source.left c.args.source.now in
+    let known : IsKnownAs (g.S.Source.left c.args.source.now) c.deref.result.now = subst (IsKnownAs left) (sym c.deref.ensures.value) c.in-Ok.ensures.whole in
+    let short : length c.deref.result.now ≤ SCRIPT_LIMIT = search rules in
+    let whole = c.run_script.ensures.done is in
+    if_known left c.deref.result.now (λ script. IsBadScript script → ⊥) known (not_bad c.deref.result.now whole.0 short whole.1)
+
+pub returns-in-Ok-clause-complete : goal.returns-in-Ok-clause-complete
+returns-in-Ok-clause-complete g c = λ one free_source free_sink script told.
+    let left = g.S.Source.left c.args.source.now in
+    let known : IsKnownAs (g.S.Source.left c.args.source.now) c.deref.result.now = subst (IsKnownAs left) (sym c.deref.ensures.value) c.in-Ok.ensures.whole in
+    let short : length c.deref.result.now ≤ SCRIPT_LIMIT = search rules in
+    ends_by left c.deref.result.now script c.run_script.result known told short c.run_script.ensures.late
+    (λ is. let whole = c.run_script.ensures.done is in (whole.0, whole.1)) (λ is. let bad = c.run_script.ensures.bad_script is in (bad.0, bad.1)) (λ is. free_sink (c.run_script.ensures.write_fault is))
+
+pub returns-in-Ok-clause-stopped : goal.returns-in-Ok-clause-stopped
+returns-in-Ok-clause-stopped g c = λ is.
+    let left = g.S.Source.left c.args.source.now in
+    let known : IsKnownAs (g.S.Source.left c.args.source.now) c.deref.result.now = subst (IsKnownAs left) (sym c.deref.ensures.value) c.in-Ok.ensures.whole in
+    let short : length c.deref.result.now ≤ SCRIPT_LIMIT = search rules in
+    record { script = c.deref.result.now; is_read = record { given = known; ended = c.in-Ok.ensures.ended; short = short }; taken = c.run_script.ensures.stopped is }
+
+pub returns-in-Ok-clause-no_memory : goal.returns-in-Ok-clause-no_memory
+returns-in-Ok-clause-no_memory g c = λ is.
+    let left = g.S.Source.left c.args.source.now in
+    let known : IsKnownAs (g.S.Source.left c.args.source.now) c.deref.result.now = subst (IsKnownAs left) (sym c.deref.ensures.value) c.in-Ok.ensures.whole in
+    let short : length c.deref.result.now ≤ SCRIPT_LIMIT = search rules in
+    elim (c.run_script.ensures.no_memory is) [
+      | inl same ↦ inl same
+      | inr front ↦ inr (record { script = c.deref.result.now; is_read = record { given = known; ended = c.in-Ok.ensures.ended; short = short }; taken = front })
+    ]
 
 pub returns-in-Ok-clause-front : goal.returns-in-Ok-clause-front
 returns-in-Ok-clause-front g c = λ ends.
@@ -13,3 +65,11 @@ returns-in-Ok-clause-front g c = λ ends.
     let known : IsKnownAs left c.deref.result.now = subst (IsKnownAs left) (sym c.deref.ensures.value) c.in-Ok.ensures.whole in
     if_known left c.deref.result.now (λ script. (output : List ℕ) → IsOutput script output → TakesPrefix old new output) known
     (front_at_end c.run_script.result c.deref.result.now old new c.run_script.ensures.stopped c.run_script.ensures.no_memory ends)
+
+pub returns-in-Err-NoMemory-clause-complete : goal.returns-in-Err-NoMemory-clause-complete
+returns-in-Err-NoMemory-clause-complete g c = λ one free_source free_sink script told. without_memory
+
+pub returns-in-Err-TooLong-clause-complete : goal.returns-in-Err-TooLong-clause-complete
+returns-in-Err-TooLong-clause-complete g c = λ one free_source free_sink script told.
+    let gives : GivesCount (g.S.Source.left c.args.source.now) (g.S.Source.left c.read_all.new.source) (SCRIPT_LIMIT + 1) = search rules in
+    ends_too_long (g.S.Source.left c.args.source.now) (g.S.Source.left c.read_all.new.source) script gives told
