@@ -27,7 +27,7 @@ use crate::uses::{ended, wakes};
 use forest::{RuleId, SymbolId};
 use grammar_text::{DefText, Edit, Name, RuleText, Symbol};
 use regex_ast::Positions;
-use std::alloc::{AllocError, Global};
+use std::alloc::AllocError;
 
 /// The most symbols, or definitions, that one edit brings.
 const MOST_NEW: usize = 17;
@@ -109,18 +109,24 @@ impl Grammar {
         RuleId(self.version + 1)
     }
 
-    fn plan_rule(&self, alloc: Global, text: RuleText) -> Result<Ready, AllocError>
+    fn plan_rule(&self, text: RuleText) -> Result<Ready, AllocError>
         requires { IsAccepted self.now.grammar (edit.AddRule text) }
         ensures plan { IfOk result (λ ready. IsPlanFor self.now.grammar (edit.AddRule text) ready.plan) }
         ensures touch { IfOk result (λ ready. IsTouchOf self.now.grammar (edit.AddRule text) ready.touch) }
     {
-        let mut fresh = Vec::new(alloc);
-        let live = rule_in(alloc, &self.symbols, &mut fresh, self.next_number(), &text)?;
+        let mut fresh = Vec::new(self.alloc);
+        let live = rule_in(
+            self.alloc,
+            &self.symbols,
+            &mut fresh,
+            self.next_number(),
+            &text,
+        )?;
         let touch = Touch {
             left: Some(live.left),
             gone_rule: None,
             scan: makes_live(&fresh, &self.uses, &self.literals, live.right.as_slice()),
-            gone_defs: DefIds::from_vec(Vec::new(alloc)),
+            gone_defs: DefIds::from_vec(Vec::new(self.alloc)),
         };
         Ok(Ready {
             plan: Plan::AddRule(NewRule { text, live, fresh }),
@@ -128,7 +134,7 @@ impl Grammar {
         })
     }
 
-    fn plan_rule_end(&self, alloc: Global, text: RuleText) -> Result<Ready, AllocError>
+    fn plan_rule_end(&self, text: RuleText) -> Result<Ready, AllocError>
         requires { IsAccepted self.now.grammar (edit.DropRule text) }
         ensures plan { IfOk result (λ ready. IsPlanFor self.now.grammar (edit.DropRule text) ready.plan) }
         ensures touch { IfOk result (λ ready. IsTouchOf self.now.grammar (edit.DropRule text) ready.touch) }
@@ -139,7 +145,12 @@ impl Grammar {
         let Some(live) = rule_of(&self.rules, number) else {
             unreachable!()
         };
-        let gone = ended(alloc, &self.uses, &self.literals, live.right.as_slice())?;
+        let gone = ended(
+            self.alloc,
+            &self.uses,
+            &self.literals,
+            live.right.as_slice(),
+        )?;
         let touch = Touch {
             left: Some(live.left),
             gone_rule: Some(number),
@@ -152,30 +163,25 @@ impl Grammar {
         })
     }
 
-    fn plan_definition(
-        &self,
-        alloc: Global,
-        definition: DefText,
-        is_skip: bool,
-    ) -> Result<Ready, AllocError>
+    fn plan_definition(&self, definition: DefText, is_skip: bool) -> Result<Ready, AllocError>
         requires { IsAccepted self.now.grammar (adds is_skip definition) }
         ensures plan { IfOk result (λ ready. IsPlanFor self.now.grammar (adds is_skip definition) ready.plan) }
         ensures touch { IfOk result (λ ready. IsTouchOf self.now.grammar (adds is_skip definition) ready.touch) }
     {
         let DefText { name, expression } = definition;
-        let mut fresh = Vec::new(alloc);
+        let mut fresh = Vec::new(self.alloc);
         let symbol = number_in(
-            alloc,
+            self.alloc,
             &self.symbols,
             &mut fresh,
             &Symbol::Named(name.clone()?),
         )?;
-        let live = named(alloc, self.next_number(), symbol, is_skip, expression)?;
+        let live = named(self.alloc, self.next_number(), symbol, is_skip, expression)?;
         let touch = Touch {
             left: None,
             gone_rule: None,
             scan: true,
-            gone_defs: DefIds::from_vec(Vec::new(alloc)),
+            gone_defs: DefIds::from_vec(Vec::new(self.alloc)),
         };
         Ok(Ready {
             plan: Plan::AddDefinition(NewDefinition { name, live, fresh }),
@@ -183,12 +189,7 @@ impl Grammar {
         })
     }
 
-    fn plan_definition_end(
-        &self,
-        alloc: Global,
-        name: Name,
-        is_skip: bool,
-    ) -> Result<Ready, AllocError>
+    fn plan_definition_end(&self, name: Name, is_skip: bool) -> Result<Ready, AllocError>
         requires { IsAccepted self.now.grammar (drops is_skip name) }
         ensures plan { IfOk result (λ ready. IsPlanFor self.now.grammar (drops is_skip name) ready.plan) }
         ensures touch { IfOk result (λ ready. IsTouchOf self.now.grammar (drops is_skip name) ready.touch) }
@@ -196,7 +197,7 @@ impl Grammar {
         let Some(number) = live_number(&self.definition_numbers, &name) else {
             unreachable!()
         };
-        let gone = Vec::from_slice(alloc, &[DefId::Named(number)])?;
+        let gone = Vec::from_slice(self.alloc, &[DefId::Named(number)])?;
         let touch = Touch {
             left: None,
             gone_rule: None,
@@ -209,24 +210,24 @@ impl Grammar {
         })
     }
 
-    fn plan(&self, alloc: Global, edit: Edit) -> Result<Ready, AllocError>
+    fn plan(&self, edit: Edit) -> Result<Ready, AllocError>
         requires { IsAccepted self.now.grammar edit }
         ensures plan { IfOk result (λ ready. IsPlanFor self.now.grammar edit ready.plan) }
         ensures touch { IfOk result (λ ready. IsTouchOf self.now.grammar edit ready.touch) }
     {
         match edit {
-            Edit::AddRule(text) => self.plan_rule(alloc, text),
-            Edit::DropRule(text) => self.plan_rule_end(alloc, text),
-            Edit::AddToken(definition) => self.plan_definition(alloc, definition, false),
-            Edit::DropToken(name) => self.plan_definition_end(alloc, name, false),
-            Edit::AddSkip(definition) => self.plan_definition(alloc, definition, true),
-            Edit::DropSkip(name) => self.plan_definition_end(alloc, name, true),
+            Edit::AddRule(text) => self.plan_rule(text),
+            Edit::DropRule(text) => self.plan_rule_end(text),
+            Edit::AddToken(definition) => self.plan_definition(definition, false),
+            Edit::DropToken(name) => self.plan_definition_end(name, false),
+            Edit::AddSkip(definition) => self.plan_definition(definition, true),
+            Edit::DropSkip(name) => self.plan_definition_end(name, true),
         }
     }
 
     /// Takes all the memory that the edit of the entry needs. The history stays as it is, and what was
     /// prepared before stays ready.
-    pub fn prepare(&mut self, alloc: Global, entry: &Entry) -> Result<Ready, NoMemory>
+    pub fn prepare(&mut self, entry: &Entry) -> Result<Ready, NoMemory>
         requires { (edit : AnEdit) × (entry.now.words ≡ entry_of edit) × IsAccepted self.old.grammar edit }
         ensures history { self.new.grammar ≡ self.old.grammar }
         ensures ready { IfOk result (λ ready. (edit : AnEdit) → entry.now.words ≡ entry_of edit
@@ -234,11 +235,11 @@ impl Grammar {
         ensures stays { (edit : AnEdit) (ready : IsReady) → IsReadyFor self.old edit ready → IsReadyFor self.new edit ready }
     {
         // The entry is that of an edit, so only memory can be missing.
-        let Ok(edit) = decode(alloc, &entry.words) else {
+        let Ok(edit) = decode(self.alloc, &entry.words) else {
             return Err(AllocError);
         };
         self.reserve()?;
-        let ready = self.plan(alloc, edit)?;
+        let ready = self.plan(edit)?;
         self.reserve_touched(&ready.touch)?;
         Ok(ready)
     }

@@ -52,7 +52,7 @@ fn take(alloc: Global, grammar: &mut Grammar, edit: &Edit) -> Result<Entry, Refu
     requires { IsProper edit.now }
 {
     let entry = may(alloc, grammar, edit)?;
-    let ready = grammar.prepare(alloc, &entry)?;
+    let ready = grammar.prepare(&entry)?;
     grammar.apply(ready);
     Ok(entry)
 }
@@ -228,7 +228,7 @@ fn tell_touch(alloc: Global, touch: &Touch) -> Result<String, AllocError> {
 fn touched(alloc: Global, grammar: &mut Grammar, line: &str) -> Result<String, Refusal> {
     let edit = proper(alloc, line)?;
     let entry = may(alloc, grammar, &edit)?;
-    let ready = grammar.prepare(alloc, &entry)?;
+    let ready = grammar.prepare(&entry)?;
     Ok(tell_touch(alloc, &ready.touch())?)
 }
 

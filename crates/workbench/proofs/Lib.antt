@@ -1,6 +1,7 @@
 pub mod LiteralFacts
 pub mod LiteralLinks
 pub mod LiteralSearch
+pub mod KeptLiterals
 pub mod MatchedPieces
 pub mod ScanSteps
 pub mod OneScan
@@ -9,3 +10,4 @@ pub mod ScriptFacts
 pub mod RunSteps
 pub mod OneOutput
 pub mod RunEnds
+pub mod RunCauses

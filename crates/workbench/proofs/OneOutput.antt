@@ -16,7 +16,7 @@ use Rattle.script_text.specs.declared.command.Block.{Block}
 use Rattle.script_text.specs.declared.command.Block.TheVariants.{Alone, Par}
 use Rattle.script_text.specs.declared.command.Script.{Script}
 use Rattle.script_text.proofs.ScriptLaws.{one_script, not_both, one_bad}
-use Rattle.workbench.specs.Pieces.{TakesPrefix}
+use Rattle.workbench.specs.Pieces.{TakesPrefix, TakesPart}
 use Rattle.workbench.specs.Replies.{clash_line, exists_line, full_line, no_token_line, too_many_line, name_of, forest_text, bad_line}
 use Rattle.workbench.specs.Scans.{kinds_of}
 use Rattle.workbench.specs.Output.{IsReply, taken, clash, exists, absent, full, no_token, too_many, too_large, forest, no_sentence, grammar_after, AreReplies, none, more, IsOutput, replies, refusal, TakesFront, of_replies, of_refusal}
@@ -137,6 +137,10 @@ front_of_part old new part whole on prefix =
     let long : prefix.0 ≤ length whole = omega (arith, ap length on.is, length-append part on.behind, few) in
     (prefix.0, long, subst (Takes old new) (sym same) prefix.2)
 
+-- a part is a front
+pub part_is_front : (old new : Option (List ℕ)) (bytes : List ℕ) → TakesPart old new bytes → TakesPrefix old new bytes
+part_is_front old new bytes part = let less = part.1 in (part.0, omega (arith, less), part.2)
+
 pub front_of_output : (script : List ℕ) (old new : Option (List ℕ)) → TakesFront old new script → (output : List ℕ) → IsOutput script output → TakesPrefix old new output
 front_of_output script old new (of_replies read spelled first) output (replies other short spelled' are) =
     let same = one_script script other read spelled' spelled in
@@ -144,8 +148,8 @@ front_of_output script old new (of_replies read spelled first) output (replies o
     let whole = front empty_grammar first.first first.others first.output output first.replies (subst (λ bs. AreReplies empty_grammar bs output) blocks are) in
     front_of_part old new first.output output whole first.taken
 front_of_output script old new (of_replies read spelled first) output (refusal bad short is) = absurd (not_both script read bad spelled is)
-front_of_output script old new (of_refusal bad is prefix) output (replies read short spelled are) = absurd (not_both script read bad spelled is)
-front_of_output script old new (of_refusal bad is prefix) _ (refusal other short is') = subst (TakesPrefix old new) (ap bad_line (one_bad script bad other is is')) prefix
+front_of_output script old new (of_refusal bad is part) output (replies read short spelled are) = absurd (not_both script read bad spelled is)
+front_of_output script old new (of_refusal bad is part) _ (refusal other short is') = subst (TakesPrefix old new) (ap bad_line (one_bad script bad other is is')) (part_is_front old new (bad_line bad) part)
 
 -- nothing taken is a front of anything
 pub nothing_taken : (old new : Option (List ℕ)) (output : List ℕ) → new ≡ old → TakesPrefix old new output

@@ -21,7 +21,7 @@ use Rattle.script_text.specs.declared.bad_script.BadScript.{BadScript}
 use Rattle.script_text.specs.declared.limits.TheConstants.{SCRIPT_LIMIT}
 use Rattle.script_text.specs.Scripts.{SpellsScript, IsFirstBad}
 use Rattle.bench_io.specs.Known.{Takes, IsKnownAs}
-use Rattle.workbench.specs.Pieces.{TakesPrefix}
+use Rattle.workbench.specs.Pieces.{TakesPrefix, TakesPart}
 use Rattle.workbench.specs.Replies.{version_line, clash_line, exists_line, absent_line, full_line, no_token_line, too_many_line, too_large_line, no_sentence_line, name_of, forest_text, bad_line}
 use Rattle.workbench.specs.Scans.{kinds_of}
 
@@ -133,10 +133,10 @@ pub record TakesFirst (old new : Option (List ℕ)) (blocks : List Block) : Type
   pub replies : AreReplies empty_grammar first output
   pub taken : TakesPrefix old new output
 
--- the sink took a front of the script's output
+-- the sink took a front of the script's output, and of the line for a first bad line not all
 pub data TakesFront (old new : Option (List ℕ)) (script : List ℕ) : Type 0 where
   of_replies : (read : Script) → SpellsScript script read → TakesFirst old new read.blocks → TakesFront old new script
-  of_refusal : (bad : BadScript) → IsFirstBad script bad → TakesPrefix old new (bad_line bad) → TakesFront old new script
+  of_refusal : (bad : BadScript) → IsFirstBad script bad → TakesPart old new (bad_line bad) → TakesFront old new script
 
 -- the source was read to its end, and gave this script, which is not too long
 pub record IsReadWhole (left_old left_new : Option (List ℕ)) (script : List ℕ) : Type 0 where

@@ -1,5 +1,5 @@
 -- What a call that reads or writes piece by piece did in all.
-use Rattle.std.specs.Prelude.{◌≡◌, ℕ, ◌≤◌, List, length, take, Option}
+use Rattle.std.specs.Prelude.{◌≡◌, ℕ, ◌<◌, ◌≤◌, List, length, take, Option, Some}
 use Rattle.bench_io.specs.Known.{Gives, Takes}
 
 -- the source gave so many bytes
@@ -9,3 +9,11 @@ GivesCount old new n = (bytes : List ℕ) × (length bytes ≡ n) × Gives old n
 -- the sink took a prefix of these bytes
 abbrev pub TakesPrefix : Option (List ℕ) → Option (List ℕ) → List ℕ → Type 0
 TakesPrefix old new bytes = (n : ℕ) × (n ≤ length bytes) × Takes old new (take n bytes)
+
+-- the sink took a prefix of these bytes, and not all of them
+abbrev pub TakesPart : Option (List ℕ) → Option (List ℕ) → List ℕ → Type 0
+TakesPart old new bytes = (n : ℕ) × (n < length bytes) × Takes old new (take n bytes)
+
+-- the source tells what it has left, or the sink what it has taken
+abbrev pub IsTold : Option (List ℕ) → Type 0
+IsTold known = (bytes : List ℕ) × (known ≡ Some bytes)

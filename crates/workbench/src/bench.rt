@@ -1,5 +1,5 @@
 // What is kept from command to command, and the answers to commands.
-ghost use Rattle.std.specs.Prelude.{◌≡◌, ◌≢◌, Some, IfOk, OnOk};
+ghost use Rattle.std.specs.Prelude.{◌≡◌, ◌≢◌, Some, None, IfOk, OnOk, if◌then◌else◌};
 ghost use Rattle.grammar_text.specs.declared.edit.Edit.{Edit as AnEdit};
 ghost use Rattle.script_text.specs.declared.command.Command.TheVariants.{Edit as an_edit, Parse as a_text};
 ghost use Rattle.edit_log.specs.History.{Grammar as TheGrammar, empty_grammar};
@@ -16,7 +16,7 @@ use script_text::{Block, Command};
 use std::alloc::{AllocError, Global};
 use std::marker::Model;
 
-/// The grammar, and its live literals where they were asked for since the last edit.
+/// The grammar, and its live literals where they were asked for since an edit last changed them.
 #[derive(Drop)]
 pub struct Bench {
     grammar: Grammar,
@@ -61,6 +61,16 @@ fn put_refusal(out: &mut Vec<u8>, refusal: &Refusal) -> Result<(), AllocError>
     }
 }
 
+/// What is left of literals over an edit: nothing where it changes which definitions are live, and else all.
+fn kept_over(changes: bool, literals: Option<Literals>) -> Option<Literals>
+    ensures { result ≡ (if changes then None else literals) }
+{
+    if changes {
+        return None;
+    }
+    literals
+}
+
 impl Bench {
     /// With the empty grammar.
     pub fn new(alloc: Global) -> Result<Bench, AllocError>
@@ -86,14 +96,14 @@ impl Bench {
                 return Ok(());
             }
         };
-        let ready = self.grammar.prepare(alloc, &entry)?;
+        let ready = self.grammar.prepare(&entry)?;
+        self.literals = kept_over(ready.touch().scan, self.literals.take());
         self.grammar.apply(ready);
-        self.literals = None;
         put_version(out, self.grammar.version())?;
         Ok(())
     }
 
-    /// Answers a text. The literals are made anew where an edit was taken since the last text.
+    /// Answers a text. The literals are made anew where an edit has changed them since the last text.
     fn parse(&mut self, alloc: Global, text: &[u8], out: &mut Vec<u8>) -> Result<(), AllocError>
         ensures same { OnOk result (self.new ≡ self.old) }
         ensures replied { OnOk result (RepliesWith self.old (a_text text.now) out.old.items out.new.items) }

@@ -1,5 +1,5 @@
 // Reads a source to its end.
-ghost use Rattle.std.specs.Prelude.{◌≡◌, ◌≢◌, ◌+◌, ◌^◌, ◌<◌, ◌≤◌, ◌++◌, [], length, vec_len, IfOk, IfSome, IsErrOf};
+ghost use Rattle.std.specs.Prelude.{◌≡◌, ◌≢◌, ℕ, ◌+◌, ◌^◌, ◌<◌, ◌≤◌, ◌++◌, [], length, vec_len, IfOk, IfSome, IsErrOf};
 ghost use Rattle.bench_io.specs.Faults.{HasRisen};
 ghost use Rattle.bench_io.specs.Known.{Gives, IsKnownAs};
 ghost use Rattle.workbench.specs.Pieces.{GivesCount};
@@ -43,6 +43,8 @@ pub fn read_all<S: Source>(
     ensures within { IfOk result (λ bytes. vec_len bytes ≤ limit) }
     ensures too_long { IsErrOf result ReadError.TooLong
         → GivesCount (S.left source.old) (S.left source.new) (limit + 1) }
+    ensures cut_short { IsErrOf result ReadError.Failed
+        → (n : ℕ) × (n ≤ limit) × GivesCount (S.left source.old) (S.left source.new) n }
     ensures counted { S.faults source.old ≤ S.faults source.new }
     ensures failed { IsErrOf result ReadError.Failed
         → HasRisen (S.faults source.old) (S.faults source.new) }
@@ -70,6 +72,7 @@ fn read_piece<S: Source>(
         × Gives (S.left source.old) (S.left source.new) xs) }
     ensures fits { IfOk result (λ n. n ≤ length piece.old) }
     ensures ends { IfOk result (λ n. n ≡ 0 → IfSome (S.left source.old) (λ rest. rest ≡ [])) }
+    ensures refused { IsErrOf result ReadError.Failed → S.left source.new ≡ S.left source.old }
     ensures not_long { result ≢ Err ReadError.TooLong }
     ensures counted { S.faults source.old ≤ S.faults source.new }
     ensures failed { IsErrOf result ReadError.Failed

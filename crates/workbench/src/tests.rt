@@ -77,6 +77,11 @@ fn edits(rt: HostRuntime) -> Result<(), Fail> {
             "version 1\nparse 1 forest 1 nodes 1 splits\nnode START 0 1\nrule 1 at 0 1\nversion 2\nparse 2 no token at 0\n",
         ),
         (
+            "rule START ::= \"a\"\nparse a\nrule START ::= START START\nparse aa\n",
+            "version 1\nparse 1 forest 1 nodes 1 splits\nnode START 0 1\nrule 1 at 0 1\nversion 2\nparse 2 forest 3 nodes 3 splits\n\
+node START 0 1\nrule 1 at 0 1\nnode START 0 2\nrule 2 at 0 1 2\nnode START 1 2\nrule 1 at 1 2\n",
+        ),
+        (
             "rule START ::= \"a\" \"b\"\nrule START ::= \"ab\"\nparse ab\nparse aab\nparse aba\n",
             "version 1\nversion 2\nparse 2 forest 1 nodes 1 splits\nnode START 0 1\nrule 2 at 0 1\nparse 2 no sentence\nparse 2 no sentence\n",
         ),
@@ -116,7 +121,9 @@ fn bad_scripts(rt: HostRuntime) -> Result<(), Fail> {
             "rule START ::= \"a\"\nfrob\n",
             "bad script line 2: unknown command\n",
         ),
+        ("frob\n", "bad script line 1: unknown command\n"),
         ("rule 1E ::=\n", "bad script line 1: bad edit\n"),
+        ("parse \\q\n", "bad script line 1: bad text\n"),
         (
             "# a comment\n\nparse \\q\n",
             "bad script line 3: bad text\n",
@@ -166,6 +173,19 @@ fn long_scripts(rt: HostRuntime) -> Result<(), Fail> {
         assert_eq!(rt; status, wanted);
         assert_eq!(rt; written.len(), 0);
     }
+    Ok(())
+}
+
+#[test]
+fn takes_no_edit_more(rt: HostRuntime) -> Result<(), Fail> {
+    let alloc = rt.alloc();
+    let there_and_back = b"rule START ::= \"a\"\ndrop rule START ::= \"a\"\n";
+    let mut script = repeated(alloc, b"", there_and_back, 8192)?;
+    script.extend_from_slice(b"rule START ::= \"a\"\nparse a\n")?;
+    let (status, written) = outcome(alloc, &script)?;
+    assert_eq!(rt; status, Status::Done);
+    let end = b"\nversion 16384\nrefused full 16384\nparse 16384 no token at 0\n";
+    assert_eq!(rt; written.ends_with(end), true);
     Ok(())
 }
 

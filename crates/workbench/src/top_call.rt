@@ -10,7 +10,7 @@ ghost use Rattle.script_text.specs.Scripts.{SpellsScript, IsFirstBad};
 ghost use Rattle.workbench.specs.declared.top_call.TheConstants.{PIECE};
 ghost use Rattle.workbench.specs.Ends.{IsLate, IsFree, EndsBy, IsSilent, StopsBeforeEnd};
 ghost use Rattle.workbench.specs.Output.{IsAnswerableBlock, TakesReplies, TakesFirst, TakesFront, IsOutput, IsBadScript, RunsWhole, RunsBad, StopsEarly};
-ghost use Rattle.workbench.specs.Pieces.{TakesPrefix, GivesCount};
+ghost use Rattle.workbench.specs.Pieces.{TakesPrefix, TakesPart, GivesCount, IsTold};
 ghost use Rattle.workbench.specs.Replies.{bad_line};
 
 use crate::bench::Bench;
@@ -81,7 +81,7 @@ fn answer_all<K: Sink>(alloc: Global, blocks: &[Block], sink: &mut K) -> Result<
 /// Writes the line for a bad script.
 fn refuse<K: Sink>(alloc: Global, bad: BadScript, sink: &mut K) -> Result<(), Fault>
     ensures whole { OnOk result (Takes (K.taken sink.old) (K.taken sink.new) (bad_line bad)) }
-    ensures front { OnErr result (TakesPrefix (K.taken sink.old) (K.taken sink.new) (bad_line bad)) }
+    ensures front { OnErr result (TakesPart (K.taken sink.old) (K.taken sink.new) (bad_line bad)) }
     ensures counted { K.faults sink.old ≤ K.faults sink.new }
     ensures failed { IsErrOf result Fault.Failed → HasRisen (K.faults sink.old) (K.faults sink.new) }
 {
@@ -155,6 +155,12 @@ pub fn run<S: Source, K: Sink>(
         → IfSome (S.left source.old) (λ script. IsBadScript script → ⊥) }
     ensures too_long { result ≡ Status.ScriptTooLong
         → GivesCount (S.left source.old) (S.left source.new) (SCRIPT_LIMIT + 1) }
+
+    // Where the bytes are told, a bad script and one that is too long are called so.
+    ensures only_bad_script { IsTold (S.left source.old) → IsTold (K.taken sink.old)
+        → RunsBad (S.left source.old) (S.left source.new) (K.taken sink.old) (K.taken sink.new) → result ≡ Status.BadScript }
+    ensures only_too_long { IsTold (S.left source.old) → GivesCount (S.left source.old) (S.left source.new) (SCRIPT_LIMIT + 1)
+        → (result ≡ Status.ScriptTooLong) ⊎ (result ≡ Status.NoMemory) }
 
     // A fault comes only where it was counted.
     ensures read_fault { result ≡ Status.ReadFault

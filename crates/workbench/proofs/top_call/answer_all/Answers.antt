@@ -2,7 +2,8 @@ use Rattle.std.proofs.Common.{◌≡◌, ◌+◌, ◌++◌, ◌∷◌, [], take,
 use Rattle.std.proofs.lemmas.List.{take-append-drop}
 use Rattle.bench_io.specs.Known.{Takes}
 use Rattle.edit_log.specs.History.{empty_grammar}
-use Rattle.workbench.specs.Pieces.{TakesPrefix}
+use Rattle.workbench.specs.Pieces.{TakesPart}
+use Rattle.workbench.proofs.OneOutput.{part_is_front}
 use Rattle.workbench.proofs.RunSteps.{IsAnswered, answered_none, answered_more, answered_flushed, answered_stop, answered_refused, answered_whole, on_err, answerable_at, front_more}
 use Rattle.workbench.proofs.top_call.answer_all.Goals as goal
 
@@ -55,11 +56,12 @@ pub returns-in_err-write_all-clause-front : goal.returns-in_err-write_all-clause
 returns-in_err-write_all-clause-front g c =
     let blocks = c.args.blocks.now in
     let i = c.loop-block.block-index in
-    let refused : TakesPrefix (g.K.Sink.taken c.loop-block.sink) (g.K.Sink.taken c.write_all.new.sink) c.loop-block.out.items =
-    subst (TakesPrefix (g.K.Sink.taken c.loop-block.sink) (g.K.Sink.taken c.write_all.new.sink)) c.deref.ensures.value c.in_err-write_all.ensures.refused in
+    let refused : TakesPart (g.K.Sink.taken c.loop-block.sink) (g.K.Sink.taken c.write_all.new.sink) c.loop-block.out.items =
+    subst (TakesPart (g.K.Sink.taken c.loop-block.sink) (g.K.Sink.taken c.write_all.new.sink)) c.deref.ensures.value c.in_err-write_all.ensures.refused in
     on_err c.from_residual-in_err-write_all.result
     (answered_refused (g.K.Sink.taken c.args.sink.now) (g.K.Sink.taken c.loop-block.sink) (g.K.Sink.taken c.write_all.new.sink) blocks (take i blocks) (drop i blocks)
-    c.loop-block.bench c.loop-block.out.items (sym (take-append-drop i blocks)) c.loop-block.invariant.answered refused)
+    c.loop-block.bench c.loop-block.out.items (sym (take-append-drop i blocks)) c.loop-block.invariant.answered
+    (part_is_front (g.K.Sink.taken c.loop-block.sink) (g.K.Sink.taken c.write_all.new.sink) c.loop-block.out.items refused))
 
 pub returns-clause-whole : goal.returns-clause-whole
 returns-clause-whole g c =

@@ -1,4 +1,4 @@
-use Rattle.std.proofs.Common.{◌+◌, ◌≤◌, List, ℕ, length, inl, inr, subst, sym, rules}
+use Rattle.std.proofs.Common.{◌+◌, ◌≤◌, List, ℕ, length, inl, inr, subst, sym, arith, rules}
 use Rattle.bench_io.specs.Known.{IsKnownAs}
 use Rattle.script_text.specs.declared.limits.TheConstants.{SCRIPT_LIMIT}
 use Rattle.workbench.specs.Pieces.{TakesPrefix, GivesCount}
@@ -6,6 +6,7 @@ use Rattle.workbench.specs.Ends.{without_memory}
 use Rattle.workbench.specs.Output.{IsOutput, replies, IsBadScript}
 use Rattle.workbench.proofs.OneOutput.{if_known}
 use Rattle.workbench.proofs.RunEnds.{not_bad, front_at_end, ends_by, ends_too_long}
+use Rattle.workbench.proofs.RunCauses.{no_count, other_count, silent_not_bad, only_bad}
 use Rattle.workbench.proofs.top_call.run.Goals as goal
 
 pub returns-in-Ok-clause-done : goal.returns-in-Ok-clause-done
@@ -73,3 +74,35 @@ pub returns-in-Err-TooLong-clause-complete : goal.returns-in-Err-TooLong-clause-
 returns-in-Err-TooLong-clause-complete g c = λ one free_source free_sink script told.
     let gives : GivesCount (g.S.Source.left c.args.source.now) (g.S.Source.left c.read_all.new.source) (SCRIPT_LIMIT + 1) = search rules in
     ends_too_long (g.S.Source.left c.args.source.now) (g.S.Source.left c.read_all.new.source) script gives told
+
+-- ---- where the bytes are told
+
+pub returns-then-words-gt1-clause-only_bad_script : goal.returns-then-words-gt1-clause-only_bad_script
+returns-then-words-gt1-clause-only_bad_script g c = λ told_left told_taken runs.
+    absurd (silent_not_bad (g.S.Source.left c.args.source.now) (g.S.Source.left c.args.source.now) (g.K.Sink.taken c.args.sink.now) told_taken runs)
+
+pub returns-then-words-gt1-clause-only_too_long : goal.returns-then-words-gt1-clause-only_too_long
+returns-then-words-gt1-clause-only_too_long g c = λ told gives. absurd (no_count (g.S.Source.left c.args.source.now) (SCRIPT_LIMIT + 1) (omega arith) told gives)
+
+pub returns-in-Ok-clause-only_bad_script : goal.returns-in-Ok-clause-only_bad_script
+returns-in-Ok-clause-only_bad_script g c =
+    let left = g.S.Source.left c.args.source.now in
+    let known : IsKnownAs left c.deref.result.now = subst (IsKnownAs left) (sym c.deref.ensures.value) c.in-Ok.ensures.whole in
+    only_bad left (g.S.Source.left c.read_all.new.source) (g.K.Sink.taken c.args.sink.now) (g.K.Sink.taken c.run_script.new.sink) c.deref.result.now c.run_script.result known c.run_script.ensures.late
+    (λ is. let whole = c.run_script.ensures.done is in (whole.0, whole.1)) c.run_script.ensures.stopped c.run_script.ensures.no_memory
+
+pub returns-in-Err-Failed-clause-only_bad_script : goal.returns-in-Err-Failed-clause-only_bad_script
+returns-in-Err-Failed-clause-only_bad_script g c = λ told_left told_taken runs.
+    absurd (silent_not_bad (g.S.Source.left c.args.source.now) (g.S.Source.left c.read_all.new.source) (g.K.Sink.taken c.args.sink.now) told_taken runs)
+
+pub returns-in-Err-Failed-clause-only_too_long : goal.returns-in-Err-Failed-clause-only_too_long
+returns-in-Err-Failed-clause-only_too_long g c = λ told gives.
+    let old = g.S.Source.left c.args.source.now in
+    let new = g.S.Source.left c.read_all.new.source in
+    let few : (n : ℕ) × (n ≤ SCRIPT_LIMIT) × GivesCount old new n = search rules in
+    let within = few.1 in
+    absurd (other_count old new few.0 (SCRIPT_LIMIT + 1) (omega (arith, within)) told few.2 gives)
+
+pub returns-in-Err-NoMemory-clause-only_bad_script : goal.returns-in-Err-NoMemory-clause-only_bad_script
+returns-in-Err-NoMemory-clause-only_bad_script g c = λ told_left told_taken runs.
+    absurd (silent_not_bad (g.S.Source.left c.args.source.now) (g.S.Source.left c.read_all.new.source) (g.K.Sink.taken c.args.sink.now) told_taken runs)

@@ -1,8 +1,10 @@
-use Rattle.std.proofs.Common.{◌≡◌, ◌∙◌, ◌++◌, ◌+◌, None, ap, sym}
+use Rattle.std.proofs.Common.{◌≡◌, ◌∙◌, ◌++◌, ◌+◌, None, IfSome, ap, sym, subst}
 use Rattle.edit_log.specs.History.{Grammar, after}
 use Rattle.edit_log.specs.Verdict.{verdict}
+use Rattle.workbench.specs.Literals.{HoldsLiterals}
 use Rattle.workbench.specs.Replies.{version_line}
 use Rattle.workbench.specs.Output.{taken}
+use Rattle.workbench.proofs.KeptLiterals.{kept_next}
 use Rattle.workbench.proofs.ReplySteps.{plain_after, version_after, taken_next}
 use Rattle.workbench.proofs.bench.Bench.edit.Goals as goal
 
@@ -11,14 +13,24 @@ invariant_of-self-in_err-put_version c =
     let before = c.self.inside.grammar.grammar in
     let edit = c.args.edit.now in
     let next : c.apply.new.self.grammar ≡ after before edit = c.apply.ensures edit (c.in_ok-ready.ensures.ready edit c.in-Ok.ensures.entry c.in-Ok.ensures.taken) ∙ ap (λ g. after g edit) c.in_ok-ready.ensures.history in
-    record { plain = ap (λ (g : Grammar). g.definitions) next ∙ plain_after before edit c.requires.of_rule c.self.invariant.plain; literals = tt }
+    let touch = c.touch.ensures c.prepare.new.self edit (c.in_ok-ready.ensures.ready edit c.in-Ok.ensures.entry c.in-Ok.ensures.taken) in
+    let held = subst (λ kept. IfSome kept (HoldsLiterals before)) (sym c.take.ensures.value) c.self.invariant.literals in
+    record {
+      plain = ap (λ (g : Grammar). g.definitions) next ∙ plain_after before edit c.requires.of_rule c.self.invariant.plain;
+      literals = kept_next before c.prepare.new.self.grammar c.apply.new.self.grammar edit c.touch.result.now.scan c.take.result c.kept_over.result c.in_ok-ready.ensures.history next touch.scan held c.kept_over.ensures;
+    }
 
 pub invariant_of-self-2 : goal.invariant_of-self-2
 invariant_of-self-2 c =
     let before = c.self.inside.grammar.grammar in
     let edit = c.args.edit.now in
     let next : c.apply.new.self.grammar ≡ after before edit = c.apply.ensures edit (c.in_ok-ready.ensures.ready edit c.in-Ok.ensures.entry c.in-Ok.ensures.taken) ∙ ap (λ g. after g edit) c.in_ok-ready.ensures.history in
-    record { plain = ap (λ (g : Grammar). g.definitions) next ∙ plain_after before edit c.requires.of_rule c.self.invariant.plain; literals = tt }
+    let touch = c.touch.ensures c.prepare.new.self edit (c.in_ok-ready.ensures.ready edit c.in-Ok.ensures.entry c.in-Ok.ensures.taken) in
+    let held = subst (λ kept. IfSome kept (HoldsLiterals before)) (sym c.take.ensures.value) c.self.invariant.literals in
+    record {
+      plain = ap (λ (g : Grammar). g.definitions) next ∙ plain_after before edit c.requires.of_rule c.self.invariant.plain;
+      literals = kept_next before c.prepare.new.self.grammar c.apply.new.self.grammar edit c.touch.result.now.scan c.take.result c.kept_over.result c.in_ok-ready.ensures.history next touch.scan held c.kept_over.ensures;
+    }
 
 pub returns-clause-next : goal.returns-clause-next
 returns-clause-next c =
