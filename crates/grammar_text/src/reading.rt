@@ -10,11 +10,12 @@ ghost use Rattle.grammar_text.specs.Reading.{Gives, word_at, name_at, literal_fr
 
 use crate::bad_edit::BadEdit;
 use crate::canonical::written_len;
-use crate::cursor::{Cursor, is_blank_led};
+use crate::cursor::Cursor;
 use crate::edit::{DefText, Edit, RuleText};
 use crate::limits::{EDIT_LIMIT, SYMBOL_LIMIT};
 use crate::literal::literal_of;
 use crate::name::{Name, is_name};
+use crate::pieces::is_blank_led;
 use crate::symbol::{Symbol, Symbols};
 use crate::text::Text;
 use std::alloc::Global;

@@ -4,7 +4,7 @@ ghost use Rattle.std.specs.Prelude.{◌≡◌, drop};
 ghost use Rattle.script_text.specs.Forms.{is_comment, form_by, form_of};
 ghost use Rattle.script_text.specs.Seen.{form_seen};
 
-use crate::pieces::{split_piece, trimmed};
+use grammar_text::{split_piece, trimmed};
 
 /// What a command line asks for.
 #[derive(Clone, Copy, Debug)]

@@ -7,7 +7,6 @@ mod form;
 mod laws;
 mod limits;
 mod lines;
-mod pieces;
 mod progress;
 mod reading;
 mod script;

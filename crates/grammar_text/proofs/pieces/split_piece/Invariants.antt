@@ -1,6 +1,6 @@
 use Rattle.std.proofs.Common.{◌≡◌, ◌≤◌, ◌++◌, ◌-◌, length, take, drop}
 use Rattle.grammar_text.specs.Pieces.{piece_of, behind_piece}
-use Rattle.script_text.proofs.pieces.split_piece.Given as goal
+use Rattle.grammar_text.proofs.pieces.split_piece.Given as goal
 
 abbrev pub invariant-loop-end : goal.invariant-loop-end
 invariant-loop-end l = record {

@@ -1,6 +1,6 @@
 use Rattle.std.proofs.Common.{◌≡◌, ◌≤◌, length}
 use Rattle.grammar_text.specs.Pieces.{trimmed}
-use Rattle.grammar_text.proofs.cursor.trimmed.Given as goal
+use Rattle.grammar_text.proofs.pieces.trimmed.Given as goal
 
 abbrev pub invariant-loop-left : goal.invariant-loop-left
 invariant-loop-left l = record {
