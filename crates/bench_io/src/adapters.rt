@@ -1,7 +1,8 @@
-// std's readers and writers as a source and a sink.
-//
-// They tell no content as a source and a sink, since a file or a terminal has none that a contract could
-// name. What a reader or a writer tells of its own is handed on as it is.
+//! std's readers and writers as a source and a sink.
+//!
+//! They tell no content as a source and a sink, since a file or a terminal has none that a contract could
+//! name. What a reader or a writer tells of its own is handed on as it is.
+
 ghost use Rattle.std.specs.Prelude.{◌≡◌, ◌≢◌, ◌<◌, ◌≤◌, length, IfOk, OnOk, OnErr};
 ghost use Rattle.std.specs.Io.KnownBytes.{ReadConsumes, WriteAppends};
 ghost use Rattle.bench_io.specs.Faults.{count_after};

@@ -1,4 +1,5 @@
-// Why a read or a write was refused.
+//! Why a read or a write was refused.
+
 ghost use Rattle.std.specs.Prelude.{◌≡◌};
 ghost use Rattle.bench_io.specs.declared.fault.Fault.TheVariants.{NoMemory as no_memory};
 

@@ -1,4 +1,5 @@
-// A sink in memory that takes a few bytes at a time and fails when it is told to.
+//! A sink in memory that takes a few bytes at a time and fails when it is told to.
+
 ghost use Rattle.std.specs.Prelude.{◌≡◌, ◌↔◌, ◌<◌, ◌≤◌, ◌++◌, [], length, min, take, IfOk, OnErr, IsErrOf};
 ghost use Rattle.bench_io.specs.Supply.{Intake};
 ghost use Rattle.bench_io.specs.Turns.{Fails, new_turns, after_call, after_failure};

@@ -1,4 +1,5 @@
-// A source in memory that gives a few bytes at a time and fails when it is told to.
+//! A source in memory that gives a few bytes at a time and fails when it is told to.
+
 ghost use Rattle.std.specs.Prelude.{◌≡◌, ◌≢◌, ◌↔◌, ◌<◌, ◌≤◌, ◌++◌, [], length, min, take, drop, IfOk, OnErr};
 ghost use Rattle.bench_io.specs.Supply.{Supply};
 ghost use Rattle.bench_io.specs.Turns.{Fails, new_turns, after_call, after_failure};

@@ -1,4 +1,5 @@
-// A source and a sink in memory that never fail.
+//! A source and a sink in memory that never fail.
+
 ghost use Rattle.std.specs.Prelude.{◌≡◌, ◌≢◌, ◌<◌, ◌++◌, [], length, min, take, drop, IfOk, OnOk, OnErr};
 
 use crate::plan::copy_front;
@@ -6,7 +7,7 @@ use crate::{Fault, NoMemory, Sink, Source};
 use std::alloc::Global;
 use std::marker::Model;
 
-// The room of a new sink, in bytes.
+/// The room of a new sink, in bytes.
 pub(crate) const FIRST_ROOM: usize = 4096;
 
 /// The bytes of a `Vec`, each of which is read once, in order. It never fails. Contracts see it as the

@@ -1,5 +1,6 @@
-// What the sources and sinks in memory have in common: which calls fail, how much one moves, and a copy of
-// the front of some bytes.
+//! What the sources and sinks in memory have in common: which calls fail, how much one moves, and a copy of
+//! the front of some bytes.
+
 ghost use Rattle.std.specs.Prelude.{◌≡◌, ◌↔◌, ◌≤◌, ◌++◌, length, min, take, drop, IsTrue, Contains};
 ghost use Rattle.std.specs.Bool.{OnTrue, OnFalse};
 ghost use Rattle.bench_io.specs.Turns.{Fails, new_turns, after_call, after_failure};
@@ -11,7 +12,7 @@ use std::marker::Model;
 pub(crate) struct Plan {
     most: usize,
     failing: Vec<u64>,
-    // Wider than the numbers in `failing`, so that no call after the last of those has one of them.
+    /// Wider than the numbers in `failing`, so that no call after the last of those has one of them.
     calls: u128,
     faults: u64,
 }
@@ -47,7 +48,7 @@ impl Plan {
         self.most
     }
 
-    // Counts a call, and says whether it is to fail.
+    /// Counts a call, and says whether it is to fail.
     pub(crate) fn begin(&mut self) -> bool
         ensures fails { IsTrue result ↔ Fails self.old }
         ensures failed { OnTrue result (self.new ≡ after_failure self.old) }
@@ -63,7 +64,7 @@ impl Plan {
     }
 }
 
-// Whether the number of a call is one of these.
+/// Whether the number of a call is one of these.
 fn is_listed(numbers: &[u64], call: u128) -> bool
     ensures { IsTrue result ↔ Contains numbers.now call }
 {
@@ -75,7 +76,7 @@ fn is_listed(numbers: &[u64], call: u128) -> bool
     false
 }
 
-// Copies the front of `from` over the front of `into`, at most `most` bytes, and returns how many.
+/// Copies the front of `from` over the front of `into`, at most `most` bytes, and returns how many.
 pub(crate) fn copy_front(from: &[u8], most: usize, into: &mut [u8]) -> usize
     ensures amount { result ≡ min most (min (length into.old) (length from.now)) }
     ensures copied { into.new ≡ take result from.now ++ drop result into.old }

@@ -1,4 +1,5 @@
-// What bytes are read from.
+//! What bytes are read from.
+
 ghost use Rattle.std.specs.Prelude.{◌≡◌, ◌↔◌, ℕ, ◌<◌, ◌≤◌, List, [], length, take, IfOk, OnErr, IfSome, IsErrOf, Option};
 ghost use Rattle.bench_io.specs.Faults.{HasRisen};
 ghost use Rattle.bench_io.specs.Known.{Gives};

@@ -5,7 +5,7 @@ use std::io;
 use std::io::{Error, ErrorKind, Read, Write};
 use std::test::Fail;
 
-// A read and a write through the bound.
+/// A read and a write through the bound.
 fn read_by<S: Source>(source: &mut S, into: &mut [u8]) -> Result<usize, Fault>
     requires { 0 < length into.old }
 {

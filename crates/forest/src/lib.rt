@@ -29,7 +29,7 @@ mod tests {
         })
     }
 
-    // Two nodes of START, the second with two splits, and one of symbol 3 with none.
+    /// Two nodes of START, the second with two splits, and one of symbol 3 with none.
     fn forest(alloc: Global) -> Result<Forest, Fail> {
         let first = Splits::from_vec(Vec::from_array(alloc, [split(alloc, 2, &[0, 1])?])?);
         let both = [split(alloc, 1, &[0, 1, 2])?, split(alloc, 3, &[0, 2])?];

@@ -1,5 +1,6 @@
-// The calls stand apart from the type, since their clauses name what a loan
-// means and the type's own file cannot.
+//! The calls stand apart from the type, since their clauses name what a loan
+//! means and the type's own file cannot.
+
 ghost use Rattle.std.specs.Prelude.{◌≡◌, ◌+◌, ◌-◌, ◌/◌, ◌<◌, IfOk};
 ghost use Rattle.lend.specs.Loans.{value_of, age_of, parts_of, whole};
 

@@ -1,4 +1,5 @@
-// How a table is made, and how its memory is given back.
+//! How a table is made, and how its memory is given back.
+
 ghost use Rattle.std.specs.Prelude.{◌≡◌, IfOk};
 ghost use Rattle.pin_rule.specs.Views.{whole};
 ghost use Rattle.pin_rule.specs.Steps.{first_view};

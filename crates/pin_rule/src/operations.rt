@@ -1,4 +1,5 @@
-// The operations on one word. Each leads to the view that its caller picked.
+//! The operations on one word. Each leads to the view that its caller picked.
+
 ghost use Rattle.std.specs.Prelude.{◌≡◌, ◌<◌, ◌≤◌, ◌==◌, ◌≢◌, ℕ};
 ghost use prog.Atomic.{either};
 ghost use Rattle.pin_rule.specs.Layout.{claim_word};

@@ -1,4 +1,5 @@
-// What an operation tells its hand.
+//! What an operation tells its hand.
+
 ghost use Rattle.std.specs.Prelude.{◌≡◌, ◌<◌, ◌≤◌, ℕ};
 ghost use Rattle.pin_rule.specs.Layout.{claim_word};
 ghost use Rattle.pin_rule.specs.Steps.{after_split, split_off, after_join, spent_view};

@@ -1,4 +1,5 @@
-// How hands of one table are split and joined. Both load word 0.
+//! How hands of one table are split and joined. Both load word 0.
+
 ghost use Rattle.std.specs.Prelude.{◌≡◌, ◌≢◌, ◌≤◌};
 ghost use Rattle.pin_rule.specs.Steps.{after_split, split_off, after_join, spent_view};
 ghost use Rattle.pin_rule.specs.Keeps.{KeepsSplit, KeepsJoin, law_of};

@@ -1,4 +1,5 @@
-// Which word of the table a step names.
+//! Which word of the table a step names.
+
 ghost use Rattle.std.specs.Prelude.{◌≡◌, ◌<◌};
 ghost use Rattle.pin_rule.specs.Layout.{claim_word, place_word, row_word, word_count, full_sizes};
 ghost use Rattle.pin_rule.specs.Spots.{word_of, IsIn};

@@ -1,4 +1,5 @@
-// The steps of one hand on one word.
+//! The steps of one hand on one word.
+
 ghost use Rattle.std.specs.Prelude.{◌≡◌, ◌<◌, ◌≤◌, ◌==◌, ◌+◌, ◌≢◌, ℕ};
 ghost use prog.Atomic.{either};
 ghost use Rattle.pin_rule.specs.Layout.{claim_word, place_word, row_word};

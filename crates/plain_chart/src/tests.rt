@@ -17,7 +17,7 @@ struct Case {
 /// A node, as its symbol, its ends and its splits.
 type Shape = (u32, u32, u32, &'static [(u32, &'static [u32])]);
 
-// E is 1, `+` is 2 and `a` is 3
+/// E is 1, `+` is 2 and `a` is 3
 const SUMS: &[(u32, u32, &[u32])] = &[(1, 0, &[1]), (2, 1, &[1, 2, 1]), (3, 1, &[3])];
 
 fn rules_of(rt: &impl Abort, alloc: Global, case: &Case) -> Result<Rules, AllocError> {
@@ -374,7 +374,7 @@ fn agrees_with_all_cuts(rt: HostRuntime) -> Result<(), Fail> {
     Ok(())
 }
 
-// START is 0, A is 1, B is 2, `a` is 5, `b` is 6, and 9 is a name with no rules
+/// START is 0, A is 1, B is 2, `a` is 5, `b` is 6, and 9 is a name with no rules
 const GRAMMARS: &[(&[(u32, u32, &[u32])], &[u32])] = &[
     (&[], &[]),
     (&[], &[5]),

@@ -1,4 +1,5 @@
-// How a free row is claimed.
+//! How a free row is claimed.
+
 ghost use Rattle.std.specs.Prelude.{◌≡◌, ◌≤◌, None};
 ghost use Rattle.pin_rule.specs.Hands.{view_of, table_of};
 ghost use Rattle.slot_store.specs.Walks.{IsAtWork, Claims};

@@ -1,4 +1,5 @@
-// Whether a row of the page has a key.
+//! Whether a row of the page has a key.
+
 ghost use Rattle.std.specs.Prelude.{◌≡◌, ◌<◌, Some, IsTrue};
 ghost use Rattle.pin_rule.specs.Hands.{view_of, table_of};
 ghost use Rattle.pin_rule.specs.Steps.{version_of};

@@ -1,4 +1,5 @@
-// The path of a key through a page.
+//! The path of a key through a page.
+
 ghost use Rattle.std.specs.Prelude.{◌≡◌, ◌<◌, ◌+◌, ℕ, List};
 ghost use Rattle.pin_rule.specs.Rows.{on_path, hashed};
 

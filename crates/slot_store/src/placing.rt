@@ -1,4 +1,5 @@
-// How an own row comes into the page.
+//! How an own row comes into the page.
+
 ghost use Rattle.std.specs.Prelude.{◌≡◌, ◌≤◌, ◌<◌, ◌+◌, ℕ, List, length};
 ghost use Rattle.pin_rule.specs.Hands.{view_of, table_of};
 ghost use Rattle.slot_store.specs.Keys.{row_of};

@@ -1,4 +1,5 @@
-// A pinned user as a page.
+//! A pinned user as a page.
+
 ghost use Rattle.std.specs.Prelude.{◌≡◌};
 
 use crate::claiming::claim_row;

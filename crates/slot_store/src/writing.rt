@@ -1,4 +1,5 @@
-// How an own row is written.
+//! How an own row is written.
+
 ghost use Rattle.std.specs.Prelude.{◌≡◌, ◌≤◌, ◌<◌, ◌+◌, length};
 ghost use Rattle.pin_rule.specs.Hands.{view_of, table_of};
 ghost use Rattle.slot_store.specs.Keys.{row_of};

@@ -1,4 +1,5 @@
-// What is kept from command to command, and the answers to commands.
+//! What is kept from command to command, and the answers to commands.
+
 ghost use Rattle.std.specs.Prelude.{◌≡◌, ◌≢◌, Some, None, IfOk, OnOk, if◌then◌else◌};
 ghost use Rattle.grammar_text.specs.declared.edit.Edit.{Edit as AnEdit};
 ghost use Rattle.script_text.specs.declared.command.Command.TheVariants.{Edit as an_edit, Parse as a_text};

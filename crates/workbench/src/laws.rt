@@ -1,4 +1,5 @@
-// What the definition of the output says.
+//! What the definition of the output says.
+
 ghost use Rattle.std.specs.Prelude.{◌≡◌, ◌≤◌, ◌⊎◌, List, ℕ, length};
 ghost use Rattle.script_text.specs.declared.command.Script.{Script};
 ghost use Rattle.script_text.specs.declared.bad_script.BadScript.{BadScript};

@@ -1,4 +1,5 @@
-// The live literals of a grammar, by their first bytes.
+//! The live literals of a grammar, by their first bytes.
+
 ghost use Rattle.std.specs.Prelude.{◌≡◌, ◌<◌, ◌++◌, ◌∷◌, [], length, IfOk, IfSome, IfNone, OnOk};
 ghost use Rattle.std.specs.List.Sorted.{IsNonDecreasingBy};
 ghost use Rattle.edit_log.specs.Live.{IsLive};

@@ -3,7 +3,9 @@
 //! there is none. For a script with a bad line it writes one line.
 #![tactic(auto)]
 
-ghost use Rattle.std.specs.Prelude.{◌≡◌};
+ghost use Rattle.std.specs.Prelude.{◌≡◌, ◌≢◌};
+ghost use Rattle.std.specs.IoError.{error_kind};
+ghost use Rattle.std.specs.declared.io.ErrorKind.TheVariants.{InvalidData};
 ghost use Rattle.workbench.specs.Ends.{exit_number};
 
 mod bench;
@@ -42,7 +44,10 @@ fn start(rt: &HostRuntime) -> io::Result<Status> {
 
 /// The status where the words of the command line could not be read: one of them is no text, or there was
 /// no memory.
-fn status_of(error: &io::Error) -> Status {
+fn status_of(error: &io::Error) -> Status
+    ensures no_text { error_kind error.now ≡ InvalidData → result ≡ Status.BadWords }
+    ensures no_memory { error_kind error.now ≢ InvalidData → result ≡ Status.NoMemory }
+{
     match error.kind() {
         io::ErrorKind::InvalidData => Status::BadWords,
         _ => Status::NoMemory,

@@ -1,4 +1,5 @@
-// The lines that answer a command.
+//! The lines that answer a command.
+
 ghost use Rattle.std.specs.Prelude.{◌≡◌, ◌∷◌, [], ◌++◌, ◌+◌, ℕ, List, OnOk, decimal, codes, length};
 ghost use Rattle.std.specs.List.{flat_map};
 ghost use Rattle.workbench.specs.Replies.{version_line, parse_head, no_token_line, too_many_line, too_large_line, no_sentence_line, cut_text, split_line, span_line, node_text, count_line};

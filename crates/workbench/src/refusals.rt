@@ -1,4 +1,5 @@
-// The lines that refuse an edit or a script.
+//! The lines that refuse an edit or a script.
+
 ghost use Rattle.std.specs.Prelude.{◌≡◌, ◌++◌, OnOk};
 ghost use Rattle.workbench.specs.Replies.{clash_line, exists_line, absent_line, full_line, words_of, bad_line};
 

@@ -1,4 +1,5 @@
-// The reply to a text.
+//! The reply to a text.
+
 ghost use Rattle.std.specs.Prelude.{◌≡◌, ◌≤◌, ◌<◌, ◌^◌, ◌++◌, [], ℕ, List, length, OnOk, Contains};
 ghost use Rattle.forest.specs.declared.nodes.Node.{Node as TheNode};
 ghost use Rattle.forest.specs.declared.symbols.Token.{Token as TheToken};

@@ -1,4 +1,5 @@
-// The tokens of a text.
+//! The tokens of a text.
+
 ghost use Rattle.std.specs.Prelude.{◌≡◌, ◌<◌, ◌≤◌, [], ◌^◌, length, IfOk};
 ghost use Rattle.forest.specs.Derivation.{AreTerminals};
 ghost use Rattle.edit_log.specs.Facts.{IsWellFormed};

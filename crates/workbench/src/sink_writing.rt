@@ -1,4 +1,5 @@
-// Writes a slice whole.
+//! Writes a slice whole.
+
 ghost use Rattle.std.specs.Prelude.{◌≤◌, OnOk, OnErr, IsErrOf};
 ghost use Rattle.bench_io.specs.Faults.{HasRisen};
 ghost use Rattle.bench_io.specs.Known.{Takes};

@@ -1,4 +1,5 @@
-// Reads a source to its end.
+//! Reads a source to its end.
+
 ghost use Rattle.std.specs.Prelude.{◌≡◌, ◌≢◌, ℕ, ◌+◌, ◌^◌, ◌<◌, ◌≤◌, ◌++◌, [], length, vec_len, IfOk, IfSome, IsErrOf};
 ghost use Rattle.bench_io.specs.Faults.{HasRisen};
 ghost use Rattle.bench_io.specs.Known.{Gives, IsKnownAs};
@@ -7,7 +8,7 @@ ghost use Rattle.workbench.specs.Pieces.{GivesCount};
 use bench_io::{Fault, Source};
 use std::alloc::{AllocError, Global};
 
-// How many bytes are read at most at a time.
+/// How many bytes are read at most at a time.
 const PIECE: usize = 16384;
 
 /// Why a source was not read to its end.
@@ -60,7 +61,7 @@ pub fn read_all<S: Source>(
     Err(ReadError::TooLong)
 }
 
-// One read, whose bytes are put behind `bytes`. Returns how many they were.
+/// One read, whose bytes are put behind `bytes`. Returns how many they were.
 fn read_piece<S: Source>(
     source: &mut S,
     piece: &mut [u8],

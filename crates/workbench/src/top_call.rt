@@ -1,4 +1,5 @@
-// The top call: a script from a source, and the replies to a sink.
+//! The top call: a script from a source, and the replies to a sink.
+
 ghost use Rattle.std.specs.Prelude.{◌≡◌, ◌≢◌, ◌≤◌, ◌<◌, ◌+◌, ◌↔◌, ◌⊎◌, ◌++◌, [], ℕ, List, length, Some, OnOk, OnErr, IfSome, IsErrOf};
 ghost use Rattle.std.specs.List.{AllByRecursion};
 ghost use Rattle.bench_io.specs.Faults.{HasRisen};
