@@ -49,3 +49,5 @@ pub type NoMemory = AllocError;
 mod entry_tests;
 #[cfg(test)]
 mod tests;
+#[cfg(test)]
+mod token_tests;

@@ -129,7 +129,7 @@ fn take_line(alloc: Global, grammar: &mut Grammar, line: &str) -> Result<(), Ref
 }
 
 /// The grammar after an edit a line.
-fn grammar_from(alloc: Global, lines: &str) -> Result<Grammar, Refusal> {
+pub(crate) fn grammar_from(alloc: Global, lines: &str) -> Result<Grammar, Refusal> {
     let mut grammar = Grammar::empty(alloc)?;
     for line in lines.split('\n') {
         take_line(alloc, &mut grammar, line)?;
