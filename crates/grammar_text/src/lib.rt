@@ -22,7 +22,9 @@ pub use bad_edit::BadEdit;
 pub use canonical::written_len;
 pub use edit::{DefText, Edit, RuleText};
 pub use laws::{canonical_is_spelled, never_memory, one_edit, reads_back};
-pub use limits::{EDIT_LIMIT, LINE_LIMIT, LITERAL_LIMIT, NAME_LIMIT, SYMBOL_LIMIT};
+pub use limits::{
+    EDIT_LIMIT, LINE_LIMIT, LITERAL_LIMIT, NAME_LIMIT, SYMBOL_LIMIT, limits_of_edits,
+};
 pub use name::Name;
 pub use pieces::{split_piece, trimmed};
 pub use reading::read_edit;

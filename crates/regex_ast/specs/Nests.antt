@@ -12,6 +12,7 @@ use Rattle.regex_ast.specs.declared.lexer.Mode.{Mode}
 use Rattle.regex_ast.specs.declared.lexer.Mode.TheVariants.{Between, Escaped, Opened, Inside}
 use Rattle.regex_ast.specs.declared.lexer.Step.{Step}
 use Rattle.regex_ast.specs.declared.lexer.Step.TheVariants.{Refuse, Go, Done}
+use Rattle.regex_ast.specs.declared.limits.TheConstants.{DEPTH_LIMIT, POSITION_LIMIT}
 
 -- a level of open parentheses: the branches before the last bar, and the factors before the last one
 abbrev pub Layer : Type 0
@@ -82,8 +83,8 @@ is_nil (x ∷ xs) = false
 
 -- the findings after a piece that begins at this offset, inside so many parentheses
 abbrev pub noted : Piece → (depth at : ℕ) → Findings → Findings
-noted (OneOf set) depth at f = record { classes = f.classes + 1; empty = first_of f.empty (is_nil set) at; deep = f.deep; many = first_of f.many (nat_le 200 f.classes) at }
-noted Open depth at f = record { classes = f.classes; empty = f.empty; deep = first_of f.deep (nat_le 64 depth) at; many = f.many }
+noted (OneOf set) depth at f = record { classes = f.classes + 1; empty = first_of f.empty (is_nil set) at; deep = f.deep; many = first_of f.many (nat_le POSITION_LIMIT f.classes) at }
+noted Open depth at f = record { classes = f.classes; empty = f.empty; deep = first_of f.deep (nat_le DEPTH_LIMIT depth) at; many = f.many }
 noted Close depth at f = f
 noted Bar depth at f = f
 noted StarSign depth at f = f

@@ -5,6 +5,7 @@ use Rattle.regex_ast.specs.Spelling.{Cut, text_of, SpellsInCuts, SpellsExpressio
 use Rattle.regex_ast.specs.declared.bad_regex.BadRegex.{BadRegex}
 use Rattle.regex_ast.specs.declared.bad_regex.BadRegex.TheVariants.{Shape, EmptyClass, TooDeep, TooManyPositions, NoMemory}
 use Rattle.regex_ast.specs.declared.lexer.Piece.TheVariants.{OneOf, Open, Close}
+use Rattle.regex_ast.specs.declared.limits.TheConstants.{DEPTH_LIMIT, POSITION_LIMIT}
 
 -- some text after this one makes it an expression
 abbrev pub HasContinuation : List ℕ → Type 0
@@ -36,13 +37,13 @@ depth_after cuts = count_by is_opening cuts - count_by is_closing cuts
 abbrev pub IsEmptyClass : List Cut → Cut → Type 0
 IsEmptyClass before cut = cut.1 ≡ OneOf []
 
--- it opens a parenthesis inside 64 others
+-- it opens a parenthesis inside as many others as may stand open
 abbrev pub IsTooDeep : List Cut → Cut → Type 0
-IsTooDeep before cut = (cut.1 ≡ Open) × (64 ≤ depth_after before)
+IsTooDeep before cut = (cut.1 ≡ Open) × (DEPTH_LIMIT ≤ depth_after before)
 
--- it is a class after 200 others
+-- it is a class after as many others as there may be
 abbrev pub IsOneTooMany : List Cut → Cut → Type 0
-IsOneTooMany before cut = (is_class cut ≡ true) × (200 ≤ count_by is_class before)
+IsOneTooMany before cut = (is_class cut ≡ true) × (POSITION_LIMIT ≤ count_by is_class before)
 
 -- no cut is as Bad says
 abbrev pub NoPlace : (List Cut → Cut → Type 0) → List Cut → Type 0

@@ -2,12 +2,7 @@ ghost use Rattle.std.specs.Prelude.{◌≡◌, ◌<◌, ◌+◌, ◌^◌, ◌≤
 ghost use Rattle.regex_ast.specs.Nests.{noted};
 
 use crate::lexer::Piece;
-
-/// How many parentheses may stand open.
-const MOST_OPEN: usize = 64;
-
-/// How many classes an expression may have.
-const MOST_CLASSES: u32 = 200;
+use crate::limits::{DEPTH_LIMIT, POSITION_LIMIT};
 
 /// Where a text leaves the limits, while its shape is read to the end.
 #[derive(Clone, Copy, Debug)]
@@ -45,13 +40,13 @@ impl Findings {
                 if self.empty.is_none() && set.is_empty() {
                     self.empty = Some(at);
                 }
-                if self.many.is_none() && self.classes >= MOST_CLASSES {
+                if self.many.is_none() && self.classes >= POSITION_LIMIT {
                     self.many = Some(at);
                 }
                 self.classes += 1;
             }
             Piece::Open => {
-                if self.deep.is_none() && depth >= MOST_OPEN {
+                if self.deep.is_none() && depth >= DEPTH_LIMIT {
                     self.deep = Some(at);
                 }
             }

@@ -1,4 +1,5 @@
 ghost use Rattle.std.specs.Prelude.{◌≡◌, ℕ, ◌+◌, ◌≤◌, ◌<◌, ◌||◌, ◌&&◌, length};
+ghost use Rattle.regex_ast.specs.declared.limits.TheConstants.{POSITION_LIMIT};
 ghost use Rattle.regex_ast.specs.Bytes.{has};
 ghost use Rattle.regex_ast.specs.Expressions.{tree_of, class_count};
 ghost use Rattle.regex_ast.specs.Links.{nullable, firsts, lasts, follows, row};
@@ -21,7 +22,7 @@ pub(crate) struct Part {
 /// the positions that follow it in the part.
 pub(crate) fn link(regex: &Regex, base: usize, rows: &mut [ByteSet]) -> Part
     requires fits { base + class_count (tree_of regex.now) ≤ length rows.old }
-    requires few { length rows.old ≤ 200 }
+    requires few { length rows.old ≤ POSITION_LIMIT }
     ensures next { result.next ≡ base + class_count (tree_of regex.now) }
     ensures nullable { result.nullable ≡ nullable (tree_of regex.now) }
     ensures first { (p : ℕ) → has result.first p ≡ firsts base (tree_of regex.now) p }
@@ -67,7 +68,7 @@ pub(crate) fn link(regex: &Regex, base: usize, rows: &mut [ByteSet]) -> Part
 
 /// Adds each of `next` to the row of each of `before`.
 fn connect(rows: &mut [ByteSet], before: &ByteSet, next: &ByteSet)
-    requires { length rows.old ≤ 200 }
+    requires { length rows.old ≤ POSITION_LIMIT }
     ensures { (q p : ℕ) → q < length rows.old → has (row rows.new q) p ≡ (has (row rows.old q) p || (has before.now q && has next.now p)) }
 {
     for position in 0..rows.len() {

@@ -1,4 +1,5 @@
 ghost use Rattle.std.specs.Prelude.{◌≡◌, ℕ, ◌+◌, ◌≤◌, ◌<◌, ◌++◌, [], length, filter, map, replicate, IfOk, OnOk, Some, slice_get};
+ghost use Rattle.regex_ast.specs.declared.limits.TheConstants.{POSITION_LIMIT};
 ghost use Rattle.regex_ast.specs.Bytes.{has, numbers_from, only};
 ghost use Rattle.regex_ast.specs.Expressions.{tree_of, class_count, classes_of};
 ghost use Rattle.regex_ast.specs.Links.{next_below};
@@ -26,20 +27,20 @@ pub struct Positions {
 
 impl Model for Positions {
     ghost use Rattle.std.specs.Prelude.{◌≡◌, length, ◌≤◌};
-    ghost use Rattle.regex_ast.specs.Links.{next_below};
     ghost use Rattle.regex_ast.specs.Positions.{Table};
+    ghost use Rattle.regex_ast.specs.declared.limits.TheConstants.{POSITION_LIMIT};
 
     ghost Value = { Table };
 
     ghost view = { λ p. record { nullable = p.nullable; first = p.first; last = p.last; follow = p.follow; classes = p.classes } };
 
-    ghost invariant = { λ p. (length p.follow ≡ length p.classes) × (length p.classes ≤ 200) };
+    ghost invariant = { λ p. (length p.follow ≡ length p.classes) × (length p.classes ≤ POSITION_LIMIT) };
 }
 
 impl Positions {
     /// The positions of an expression of at most 200 classes.
     pub fn of(alloc: Global, regex: &Regex) -> Result<Positions, NoMemory>
-        requires { class_count (tree_of regex.now) ≤ 200 }
+        requires { class_count (tree_of regex.now) ≤ POSITION_LIMIT }
         ensures { IfOk result (λ positions. ArePositionsOf (tree_of regex.now) positions) }
     {
         let classes = classes_of(alloc, regex)?;
@@ -158,7 +159,7 @@ fn no_links(alloc: Global, count: usize) -> Result<Vec<ByteSet>, NoMemory>
 
 /// Each row as a list.
 fn ascending_rows(alloc: Global, rows: &[ByteSet]) -> Result<Items<Items<u32>>, NoMemory>
-    requires { length rows.now ≤ 200 }
+    requires { length rows.now ≤ POSITION_LIMIT }
     ensures { IfOk result (λ lists. lists ≡ map (λ row. filter (has row) (numbers_from 0 (length rows.now))) rows.now) }
 {
     let mut lists = Vec::with_capacity(alloc, rows.len())?;
@@ -170,7 +171,7 @@ fn ascending_rows(alloc: Global, rows: &[ByteSet]) -> Result<Items<Items<u32>>, 
 
 /// The numbers below `count` that are in the set.
 fn ascending(alloc: Global, set: &ByteSet, count: usize) -> Result<Items<u32>, NoMemory>
-    requires { count ≤ 200 }
+    requires { count ≤ POSITION_LIMIT }
     ensures { IfOk result (λ numbers. numbers ≡ filter (has set.now) (numbers_from 0 count)) }
 {
     let mut numbers = Vec::new(alloc);

@@ -1,4 +1,5 @@
 ghost use Rattle.std.specs.Prelude.{◌≡◌, ◌<◌, ◌≤◌, ◌+◌, ◌^◌, ◌⊎◌, Some, Ok, Err, length, IfOk, IfErr, MatchResult};
+ghost use Rattle.regex_ast.specs.declared.limits.TheConstants.{REGEX_LIMIT, POSITION_LIMIT};
 ghost use Rattle.regex_ast.specs.Expressions.{Expression, tree_of, class_count};
 ghost use Rattle.regex_ast.specs.Nests.{first_state, after_byte, after_bytes, answer_of, judged, StopsAt, Stops};
 ghost use Rattle.regex_ast.specs.Held.{state_of};
@@ -115,12 +116,12 @@ fn within_limits(regex: Regex, findings: Findings) -> Result<Regex, BadRegex>
 /// A text spells one expression at most. `Then` and `Or` group to the left. No call recurses on
 /// the text: what is read so far stands on a stack with a level for each open parenthesis.
 pub fn read_regex(alloc: Global, text: &[u8]) -> Result<Regex, BadRegex>
-    requires { length text.now ≤ 248 }
+    requires { length text.now ≤ REGEX_LIMIT }
     ensures found { IfOk result (λ regex. SpellsWithinLimits text.now (tree_of regex)) }
     ensures only { (e : Expression) → SpellsWithinLimits text.now e →
         MatchResult result (λ regex. tree_of regex ≡ e) (λ refusal. refusal ≡ BadRegex.NoMemory) }
     ensures exact { IfErr result (λ refusal. IsCause text.now refusal) }
-    ensures few { IfOk result (λ regex. class_count (tree_of regex) ≤ 200) }
+    ensures few { IfOk result (λ regex. class_count (tree_of regex) ≤ POSITION_LIMIT) }
 {
     let reader = read_bytes(alloc, text)?;
     reader.finish(alloc, text.len() as u32)
@@ -128,7 +129,7 @@ pub fn read_regex(alloc: Global, text: &[u8]) -> Result<Regex, BadRegex>
 
 /// Reads each byte of the text.
 fn read_bytes(alloc: Global, text: &[u8]) -> Result<Reader, BadRegex>
-    requires { length text.now ≤ 248 }
+    requires { length text.now ≤ REGEX_LIMIT }
     ensures stands { IfOk result (λ reader. after_bytes first_state 0 text.now ≡ Some (state_of reader)) }
     ensures stops { IfErr result (λ refusal. Stops text.now refusal) }
 {

@@ -9,7 +9,7 @@ use bench_io::{Fault, Source};
 use std::alloc::{AllocError, Global};
 
 /// How many bytes are read at most at a time.
-const PIECE: usize = 16384;
+const READ_SIZE: usize = 16384;
 
 /// Why a source was not read to its end.
 #[derive(Clone, Copy, Debug, PartialEq, Eq)]
@@ -50,10 +50,10 @@ pub fn read_all<S: Source>(
     ensures failed { IsErrOf result ReadError.Failed
         → HasRisen (S.faults source.old) (S.faults source.new) }
 {
-    let mut piece = [0; PIECE];
+    let mut piece = [0; READ_SIZE];
     let mut bytes = Vec::new(alloc);
     'pieces: while bytes.len() <= limit {
-        let room = (limit - bytes.len() + 1).min(PIECE);
+        let room = (limit - bytes.len() + 1).min(READ_SIZE);
         if read_piece(source, &mut piece[..room], &mut bytes)? == 0 {
             return Ok(bytes);
         }

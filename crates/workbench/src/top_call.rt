@@ -8,7 +8,7 @@ ghost use Rattle.script_text.specs.declared.command.Script.{Script as AScript};
 ghost use Rattle.script_text.specs.declared.bad_script.BadScript.{BadScript as ABadScript};
 ghost use Rattle.script_text.specs.declared.limits.TheConstants.{SCRIPT_LIMIT};
 ghost use Rattle.script_text.specs.Scripts.{SpellsScript, IsFirstBad};
-ghost use Rattle.workbench.specs.declared.top_call.TheConstants.{PIECE};
+ghost use Rattle.workbench.specs.declared.top_call.TheConstants.{WRITE_SIZE};
 ghost use Rattle.workbench.specs.Ends.{IsLate, IsFree, EndsBy, IsSilent, StopsBeforeEnd};
 ghost use Rattle.replies.specs.Replies.{IsAnswerableBlock};
 ghost use Rattle.workbench.specs.Runs.{TakesReplies, TakesFirst, TakesFront, RunsWhole, RunsBad, StopsEarly};
@@ -24,7 +24,7 @@ use script_text::{BadScript, Block, SCRIPT_LIMIT, ScriptError, read_script};
 use std::alloc::Global;
 
 /// How many bytes of replies are gathered before they are written.
-const PIECE: usize = 65_536;
+const WRITE_SIZE: usize = 65_536;
 
 /// How a run ended. The number is the program's exit status.
 #[derive(Clone, Copy, Debug, PartialEq, Eq)]
@@ -49,12 +49,12 @@ pub enum Status {
 fn flush_full<K: Sink>(sink: &mut K, out: &mut Vec<u8>) -> Result<(), Fault>
     ensures written { OnOk result ((gone : List ℕ) × Takes (K.taken sink.old) (K.taken sink.new) gone
         × (out.old.items ≡ gone ++ out.new.items)) }
-    ensures little { OnOk result (length out.new.items < PIECE) }
+    ensures little { OnOk result (length out.new.items < WRITE_SIZE) }
     ensures refused { OnErr result (TakesPrefix (K.taken sink.old) (K.taken sink.new) out.old.items) }
     ensures counted { K.faults sink.old ≤ K.faults sink.new }
     ensures failed { IsErrOf result Fault.Failed → HasRisen (K.faults sink.old) (K.faults sink.new) }
 {
-    if out.len() < PIECE {
+    if out.len() < WRITE_SIZE {
         return Ok(());
     }
     write_all(sink, out)?;
@@ -147,6 +147,7 @@ pub fn run<S: Source, K: Sink>(
 
     // Only the program's name may stand in the words.
     ensures bad_words { (result ≡ Status.BadWords) ↔ (1 < length words.now) }
+    ensures unread { result ≡ Status.BadWords → source.new ≡ source.old }
 
     // A run to the end.
     ensures done { result ≡ Status.Done

@@ -1,6 +1,4 @@
-//! Reads a script from standard input, and writes the reply to each command to standard output: a version
-//! for each edit of the grammar that is taken, and for each text its shared packed forest or the reason why
-//! there is none. For a script with a bad line it writes one line.
+//! The program: it runs the script on standard input, and writes its output to standard output.
 #![tactic(auto)]
 
 ghost use Rattle.std.specs.Prelude.{◌≡◌, ◌≢◌};
@@ -8,18 +6,10 @@ ghost use Rattle.std.specs.IoError.{error_kind};
 ghost use Rattle.std.specs.declared.io.ErrorKind.TheVariants.{InvalidData};
 ghost use Rattle.workbench.specs.Ends.{exit_number};
 
-mod laws;
-mod sink_writing;
-mod source_reading;
-#[cfg(test)]
-mod tests;
-mod top_call;
-
 use bench_io::{StdSink, StdSource};
-pub use laws::{good_or_bad, one_output};
 use std::process::ExitCode;
 use std::{env, io};
-pub use top_call::{Status, run};
+use workbench::{Status, run};
 
 /// Runs over the words of the command line, standard input and standard output.
 fn start(rt: &HostRuntime) -> io::Result<Status> {

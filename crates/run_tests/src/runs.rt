@@ -2,10 +2,10 @@
 
 ghost use Rattle.std.specs.Prelude.{◌≤◌};
 
-use super::*;
 use bench_io::{MemSink, MemSource, PlainSink, PlainSource};
 use std::alloc::{AllocError, Global};
 use std::test::Fail;
+use workbench::{Status, run};
 
 /// How a run over this script ends, and what it writes.
 fn outcome(alloc: Global, script: &[u8]) -> Result<(Status, Vec<u8>), AllocError> {

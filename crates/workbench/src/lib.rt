@@ -1,0 +1,13 @@
+//! The top call: it runs a script from a source, and writes the reply to each command to a sink.
+//!
+//! The reply to an edit of the grammar is its version or why it is refused, and to a text its shared packed forest
+//! or the reason why there is none. For a script with a bad line one line is written.
+#![tactic(auto)]
+
+mod laws;
+mod sink_writing;
+mod source_reading;
+mod top_call;
+
+pub use laws::{good_or_bad, one_output};
+pub use top_call::{Status, run};
