@@ -1,3 +1,5 @@
+//! Sources and sinks in memory, and the adapters, call by call.
+
 ghost use Rattle.std.specs.Prelude.{◌<◌, length};
 
 use super::*;

@@ -1,3 +1,5 @@
+//! The shared packed forest of a text, and how a node of it is found.
+
 ghost use Rattle.std.specs.Prelude.{◌≡◌, IfSome, IfNone, Contains, sum_by, length};
 ghost use Rattle.std.specs.List.Sorted.{IsStrictlySortedBy};
 ghost use Rattle.std.proofs.lemmas.Map.Keys.{IsStrictlySortedBy-prop};

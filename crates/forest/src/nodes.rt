@@ -1,3 +1,5 @@
+//! Nodes of a forest with their splits.
+
 ghost use Rattle.std.specs.Prelude.{◌≡◌};
 
 use crate::rules::RuleId;

@@ -1,3 +1,5 @@
+//! Symbols by number, right sides, and tokens.
+
 ghost use Rattle.std.specs.Prelude.{◌≡◌};
 
 use std::marker::Model;

@@ -4,11 +4,12 @@ ghost use Rattle.std.specs.Prelude.{◌≡◌};
 ghost use Rattle.grammar_text.specs.declared.bad_edit.BadEdit.TheVariants.{NoMemory};
 
 use std::alloc::{AllocError, AllocFailed};
+use std::fmt;
 use thiserror::Error;
 
 /// Why a line is no edit: what is wrong with the leftmost piece that is wrong. An offset counts the bytes
 /// of the line before a place.
-#[derive(Clone, Copy, Debug, PartialEq, Eq, Error)]
+#[derive(Clone, Copy, PartialEq, Eq, Error)]
 pub enum BadEdit {
     /// The line ends where a piece should come, and the offset is its length. Or a piece comes that is not
     /// the word that should stand there, or that follows a whole edit, and the offset is where it begins.
@@ -33,6 +34,13 @@ pub enum BadEdit {
     /// Memory ran out.
     #[error("out of memory")]
     NoMemory,
+}
+
+impl fmt::Debug for BadEdit {
+    /// Writes the message, as `Display` does.
+    fn fmt<W: fmt::Write>(&self, f: &mut fmt::Formatter<W>) -> fmt::Result {
+        fmt::Display::fmt(self, f)
+    }
 }
 
 impl From<AllocError> for BadEdit {

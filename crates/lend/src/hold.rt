@@ -1,3 +1,5 @@
+//! A part of the right to one value, over the raw tokens.
+
 ghost use Rattle.std.specs.Prelude.{◌≡◌, ℕ, ◌+◌, ◌-◌, ◌/◌, ◌<◌};
 ghost use denote.RawPtr.{Ptr};
 ghost use Rattle.lend.specs.Parts.{hold_owns, hold_shares, ptr_coded};

@@ -1,3 +1,5 @@
+//! A value on the heap that is lent.
+
 ghost use Rattle.std.specs.Prelude.{◌≡◌, ℕ};
 ghost use Rattle.lend.specs.Parts.{lent_owns};
 

@@ -1,3 +1,5 @@
+//! A value on the heap that nobody is lent yet, or any more.
+
 ghost use Rattle.std.specs.Prelude.{◌≡◌};
 ghost use Rattle.std_alloc.specs.Box.Ownership.{box_owns};
 

@@ -1,3 +1,5 @@
+//! Loans over two threads, and one that is dropped.
+
 ghost use Rattle.std.specs.Prelude.{◌≡◌};
 ghost use Rattle.lend.specs.Loans.{value_of, age_of, parts_of};
 

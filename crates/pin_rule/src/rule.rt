@@ -1,3 +1,5 @@
+//! The rule of the table, as `atomic_table` asks for it.
+
 use crate::content::Content;
 use crate::sizes::Sizes;
 use crate::view::View;

@@ -1,3 +1,5 @@
+//! Sizes of the table, and hands over two threads.
+
 ghost use Rattle.std.specs.Prelude.{◌≡◌, None};
 ghost use Rattle.pin_rule.specs.Hands.{view_of, table_of};
 

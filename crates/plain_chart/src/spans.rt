@@ -11,7 +11,7 @@ use std::marker::Model;
 pub const PLACES: usize = 65;
 
 /// A symbol with the tokens that it derives. Spans compare as the nodes of a forest do.
-#[derive(Clone, Copy, PartialEq, Eq, PartialOrd, Ord, Debug)]
+#[derive(Clone, Copy, PartialEq, Eq, PartialOrd, Ord)]
 pub struct Span {
     pub from: u32,
     pub to: u32,

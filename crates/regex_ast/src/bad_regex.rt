@@ -1,12 +1,15 @@
+//! Why a text is not read as an expression.
+
+use std::fmt;
 use thiserror::Error;
 
 /// Why a text is not read as an expression. Offsets count bytes from 0.
 ///
 /// The refusals are tried in this order.
-#[derive(Clone, Copy, Debug, Error, PartialEq, Eq)]
+#[derive(Clone, Copy, Error, PartialEq, Eq)]
 pub enum BadRegex {
     /// The text is no expression. The offset is that of the first byte with which no expression
-    /// can go on, or the length of a text that is the front of one.
+    /// can go on, or the length of a text that is a prefix of one.
     #[error("byte {offset}: no expression goes on like this")]
     Shape { offset: u32 },
     /// A class has no byte. The offset is that of the bracket that opens the first such class.
@@ -22,4 +25,11 @@ pub enum BadRegex {
     /// Memory ran out.
     #[error("memory ran out")]
     NoMemory,
+}
+
+impl fmt::Debug for BadRegex {
+    /// Writes the message, as `Display` does.
+    fn fmt<W: fmt::Write>(&self, f: &mut fmt::Formatter<W>) -> fmt::Result {
+        fmt::Display::fmt(self, f)
+    }
 }

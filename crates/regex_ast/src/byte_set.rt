@@ -1,3 +1,5 @@
+//! Sets of bytes.
+
 ghost use Rattle.std.specs.Prelude.{◌≡◌, ◌↔◌, ◌<◌, ℕ, [], IsTrue, ◌||◌};
 ghost use Rattle.regex_ast.specs.Bytes.{has, only, with_range, complement};
 

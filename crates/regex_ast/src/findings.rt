@@ -1,3 +1,5 @@
+//! Where a text leaves the limits.
+
 ghost use Rattle.std.specs.Prelude.{◌≡◌, ◌<◌, ◌+◌, ◌^◌, ◌≤◌, None};
 ghost use Rattle.regex_ast.specs.Nests.{noted};
 
@@ -5,7 +7,7 @@ use crate::lexer::Piece;
 use crate::limits::{DEPTH_LIMIT, POSITION_LIMIT};
 
 /// Where a text leaves the limits, while its shape is read to the end.
-#[derive(Clone, Copy, Debug)]
+#[derive(Clone, Copy)]
 pub(crate) struct Findings {
     /// How many classes there are so far.
     pub(crate) classes: u32,

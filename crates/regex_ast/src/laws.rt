@@ -1,3 +1,5 @@
+//! What is true of expressions, whatever reads them.
+
 ghost use Rattle.std.specs.Prelude.{ℕ, List, ◌↔◌};
 ghost use Rattle.regex_ast.specs.Expressions.{Expression, classes_of};
 ghost use Rattle.regex_ast.specs.Matching.{Matches, IsMarkedWord, HoldBytes};

@@ -1,3 +1,5 @@
+//! The pieces of an expression's text, from left to right.
+
 ghost use Rattle.std.specs.Prelude.{◌≡◌};
 ghost use Rattle.regex_ast.specs.Spelling.{escape_of, is_special_in_class};
 ghost use Rattle.regex_ast.specs.Lexing.{lexed, after_piece, after_bracket, at_start, at_byte, at_dash, in_class};
@@ -5,7 +7,7 @@ ghost use Rattle.regex_ast.specs.Lexing.{lexed, after_piece, after_bracket, at_s
 use crate::byte_set::ByteSet;
 
 /// A piece of an expression's text.
-#[derive(Debug, Drop)]
+#[derive(Drop)]
 pub(crate) enum Piece {
     /// An atom, a class or a dot: one byte of the set.
     OneOf(ByteSet),
@@ -18,7 +20,7 @@ pub(crate) enum Piece {
 }
 
 /// How far a member of a class is read.
-#[derive(Clone, Copy, Debug)]
+#[derive(Clone, Copy)]
 pub(crate) enum Place {
     /// A member may begin.
     Start,
@@ -33,7 +35,7 @@ pub(crate) enum Place {
 }
 
 /// How far a piece is read.
-#[derive(Debug, Drop)]
+#[derive(Drop)]
 pub(crate) enum Mode {
     /// A piece may begin.
     Between,
@@ -50,7 +52,7 @@ pub(crate) enum Mode {
 }
 
 /// What one byte does.
-#[derive(Debug, Drop)]
+#[derive(Drop)]
 pub(crate) enum Step {
     /// No piece goes on like this.
     Refuse,

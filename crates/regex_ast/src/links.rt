@@ -1,3 +1,5 @@
+//! Which positions begin, end and follow one another, part by part.
+
 ghost use Rattle.std.specs.Prelude.{◌≡◌, ℕ, ◌+◌, ◌≤◌, ◌<◌, ◌||◌, ◌&&◌, length};
 ghost use Rattle.regex_ast.specs.declared.limits.TheConstants.{POSITION_LIMIT};
 ghost use Rattle.regex_ast.specs.Bytes.{has};
@@ -9,7 +11,7 @@ use crate::regex::Regex;
 
 /// What a part of an expression shows to the parts around it. A set of positions is a set of
 /// bytes here, since there are fewer than 256.
-#[derive(Debug, Drop)]
+#[derive(Drop)]
 pub(crate) struct Part {
     /// The number of the next class after the part.
     pub(crate) next: usize,

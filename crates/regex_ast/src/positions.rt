@@ -1,3 +1,5 @@
+//! The positions of an expression, as a table.
+
 ghost use Rattle.std.specs.Prelude.{◌≡◌, ℕ, ◌+◌, ◌≤◌, ◌<◌, ◌++◌, [], length, filter, map, replicate, IfOk, OnOk, Some, slice_get};
 ghost use Rattle.regex_ast.specs.declared.limits.TheConstants.{POSITION_LIMIT};
 ghost use Rattle.regex_ast.specs.Bytes.{has, numbers_from, only};

@@ -1,3 +1,5 @@
+//! Reading an expression from its text.
+
 ghost use Rattle.std.specs.Prelude.{◌≡◌, ◌<◌, ◌≤◌, ◌+◌, ◌^◌, ◌⊎◌, Some, Ok, Err, length, IfOk, IfErr, MatchResult};
 ghost use Rattle.regex_ast.specs.declared.limits.TheConstants.{REGEX_LIMIT, POSITION_LIMIT};
 ghost use Rattle.regex_ast.specs.Expressions.{Expression, tree_of, class_count};
@@ -13,7 +15,7 @@ use crate::stack::Stack;
 use std::alloc::Global;
 
 /// A text that is read byte by byte.
-#[derive(Debug, Drop)]
+#[derive(Drop)]
 pub(crate) struct Reader {
     pub(crate) mode: Mode,
     pub(crate) stack: Stack,

@@ -1,3 +1,5 @@
+//! Expressions as trees.
+
 use crate::byte_set::ByteSet;
 
 /// What a call answers where memory runs out.

@@ -1,3 +1,5 @@
+//! The levels of an expression that is being read, one for each open parenthesis.
+
 ghost use Rattle.std.specs.Prelude.{◌≡◌, [], None, Some, IfOk, length};
 ghost use Rattle.std.specs.Option.{option_map};
 ghost use Rattle.regex_ast.specs.Expressions.{tree_of};
@@ -9,7 +11,7 @@ use crate::regex::Regex;
 use std::alloc::{AllocError, Global};
 
 /// The expression so far at one level of parentheses.
-#[derive(Debug, Drop)]
+#[derive(Drop)]
 pub(crate) struct Level {
     /// The branches before the last bar.
     pub(crate) choice: Option<Regex>,
@@ -18,7 +20,7 @@ pub(crate) struct Level {
 }
 
 /// What is read so far. Signs apply to the last factor, so it stands apart from its branch.
-#[derive(Debug, Drop)]
+#[derive(Drop)]
 pub(crate) struct Stack {
     /// The levels around this one, the innermost last.
     pub(crate) outer: Vec<Level>,

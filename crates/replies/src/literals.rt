@@ -23,14 +23,14 @@ pub fn name(grammar: &Grammar, symbol: SymbolId) -> &[u8]
 }
 
 /// A live literal with its length.
-#[derive(Clone, Copy, Debug)]
+#[derive(Clone, Copy)]
 struct Measured {
     len: usize,
     symbol: SymbolId,
 }
 
 /// A live literal, and the place of the last one before it that begins with the same byte.
-#[derive(Clone, Copy, Debug)]
+#[derive(Clone, Copy)]
 struct Link {
     symbol: SymbolId,
     shorter: Option<usize>,
@@ -38,7 +38,7 @@ struct Link {
 
 /// The live literals of a grammar. No shorter one follows a longer one, and for each byte the last literal
 /// that begins with it is known. So those that begin with a byte are met from the longest on.
-#[derive(Debug, Drop)]
+#[derive(Drop)]
 pub struct Literals {
     links: Vec<Link>,
     last: [Option<usize>; 256],

@@ -12,7 +12,7 @@ use forest::SymbolId;
 use std::alloc::{AllocError, Global};
 
 /// What a scan gives.
-#[derive(Debug, Drop)]
+#[derive(Drop)]
 pub enum Scanned {
     /// The kinds of the text's tokens.
     Kinds(Vec<SymbolId>),

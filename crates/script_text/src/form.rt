@@ -7,7 +7,7 @@ ghost use Rattle.script_text.specs.Seen.{form_seen};
 use grammar_text::{split_piece, trimmed};
 
 /// What a command line asks for.
-#[derive(Clone, Copy, Debug)]
+#[derive(Clone, Copy)]
 pub(crate) enum Ask<'a> {
     /// A change of the grammar.
     Edit,
@@ -16,7 +16,7 @@ pub(crate) enum Ask<'a> {
 }
 
 /// A line of a script.
-#[derive(Clone, Copy, Debug)]
+#[derive(Clone, Copy)]
 pub(crate) enum Line<'a> {
     /// Blanks alone, or a comment.
     PassedOver,

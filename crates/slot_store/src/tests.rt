@@ -1,3 +1,5 @@
+//! Users of one table, on one thread and on two.
+
 ghost use Rattle.std.specs.Prelude.{◌≤◌};
 
 use crate::opening::open_still;
