@@ -1,6 +1,3 @@
-pub mod EntryBytes
-pub mod EntryLaws
-pub mod EntryPacking
 pub mod PlainLists
 pub mod Places
 pub mod FirstPlaces

@@ -3,8 +3,6 @@ use Rattle.std.proofs.Common.{◌≡◌, ◌<◌, ◌≤◌, ◌+◌, ℕ, zero,
 use Rattle.std.specs.List.{AllByRecursion}
 use Rattle.std.specs.declared.alloc.Global.{Global}
 use Rattle.edit_log.specs.declared.definitions.DefId.{DefId}
-use Rattle.edit_log.specs.declared.bad_entry.BadEntry.{BadEntry}
-use Rattle.edit_log.specs.declared.bad_entry.BadEntry.TheVariants.{NoMemory}
 use Rattle.edit_log.specs.Lookups.{rule_of}
 use Rattle.edit_log.proofs.PlainLists.{each_contained, found, find_only, distinct_map, sorted_keys}
 use Rattle.std.proofs.lemmas.Bool.{eqb-true, eq-eqb, ne_eqb}
@@ -219,8 +217,3 @@ prepared middle new edit ready same grows has accepted planned touch count room 
       };
       touch = new_touch;
     }
-
--- the edit that was read of an entry is its edit
-pub one_of_two : {read edit : Edit} → ◌≡◌ {A = Result Edit BadEntry} (Ok read) (Ok edit) ⊎ ◌≡◌ {A = Result Edit BadEntry} (Ok read) (Err NoMemory) → read ≡ edit
-one_of_two (inl same) = cc
-one_of_two (inr never) = absurd cc

@@ -1,5 +1,5 @@
-pub mod Entries
-pub mod Refusals
+pub use Rattle.edit_entry.specs.Entries
+pub use Rattle.edit_entry.specs.BadEntries as Refusals
 pub mod Symbols
 pub mod History
 pub mod Live

@@ -4,7 +4,7 @@ ghost use Rattle.std.specs.Prelude.{◌≡◌, ◌+◌, ◌≤◌, ◌↔◌, �
 ghost use Rattle.grammar_text.specs.declared.edit.Edit.{Edit as AnEdit};
 ghost use Rattle.grammar_text.specs.declared.edit.Edit.TheVariants as edit;
 ghost use Rattle.edit_log.specs.declared.ready.Ready.{Ready as IsReady};
-ghost use Rattle.edit_log.specs.Entries.{entry_of};
+ghost use Rattle.edit_entry.specs.Entries.{entry_of};
 ghost use Rattle.edit_log.specs.Replicas.{IsReadyFor, IsPlanFor, IsNoMoreThan, HasRoom, HasRoomAt, symbols_in, adds, drops};
 ghost use Rattle.std.specs.List.{list_any};
 ghost use Rattle.edit_log.specs.Live.{is_literal};
@@ -13,9 +13,7 @@ ghost use Rattle.edit_log.specs.Touches.{IsTouchOf};
 ghost use Rattle.edit_log.specs.Verdict.{IsAccepted};
 
 use crate::NoMemory;
-use crate::decoding::decode;
 use crate::definitions::{DefId, DefIds};
-use crate::entry::Entry;
 use crate::fresh::{FreshSymbol, has_literal, number_in, rule_in};
 use crate::grammar::Grammar;
 use crate::named::named;
@@ -24,6 +22,7 @@ use crate::ready::{NewDefinition, NewRule, OldDefinition, OldRule, Plan, Ready};
 use crate::rules::rule_of;
 use crate::touch::Touch;
 use crate::uses::{ended, wakes};
+use edit_entry::{Entry, read_entry};
 use forest::{RuleId, SymbolId};
 use grammar_text::{DefText, Edit, Name, RuleText, Symbol};
 use regex_ast::Positions;
@@ -234,10 +233,7 @@ impl Grammar {
             → IsAccepted self.old.grammar edit → IsReadyFor self.new edit ready) }
         ensures stays { (edit : AnEdit) (ready : IsReady) → IsReadyFor self.old edit ready → IsReadyFor self.new edit ready }
     {
-        // The entry is that of an edit, so only memory can be missing.
-        let Ok(edit) = decode(self.alloc, &entry.words) else {
-            return Err(AllocError);
-        };
+        let edit = read_entry(self.alloc, &entry.words)?;
         self.reserve()?;
         let ready = self.plan(edit)?;
         self.reserve_touched(&ready.touch)?;
