@@ -17,8 +17,8 @@ use Rattle.grammar_text.specs.declared.edit.Edit.TheVariants.{AddRule, DropRule,
 use Rattle.forest.specs.declared.symbols.SymbolId.{SymbolId}
 use Rattle.forest.specs.declared.rules.RuleId.{RuleId}
 use Rattle.forest.specs.declared.rules.Rule.{Rule}
-use Rattle.edit_log.specs.declared.fresh.FreshSymbol.{FreshSymbol}
-use Rattle.edit_log.specs.declared.named.NamedDefinition.{NamedDefinition}
+use Rattle.edit_log.specs.declared.fresh_symbols.FreshSymbol.{FreshSymbol}
+use Rattle.edit_log.specs.declared.named_definitions.NamedDefinition.{NamedDefinition}
 use Rattle.edit_log.specs.declared.ready.Ready.{Ready}
 use Rattle.edit_log.specs.declared.ready.Plan.TheVariants as plan
 use Rattle.edit_log.specs.Symbols.{place_of, number_of, with_symbol, with_symbols, numbered}
@@ -140,9 +140,7 @@ definition_end_planned g false name number there = (refl, there)
 room_stays : (old new : Room) → IsNoMoreThan old new → HasRoom old → HasRoom new
 room_stays old new grows has = record {
   symbols = omega (arith, grows.symbols, has.symbols);
-  lefts = omega (arith, grows.lefts, has.lefts);
-  uses = omega (arith, grows.uses, has.uses);
-  literals = omega (arith, grows.literals, has.literals);
+  rows = omega (arith, grows.rows, has.rows);
   live = omega (arith, grows.live, has.live);
   rules = omega (arith, grows.rules, has.rules);
   rule_numbers = omega (arith, grows.rule_numbers, has.rule_numbers);

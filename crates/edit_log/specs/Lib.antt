@@ -11,5 +11,6 @@ pub mod Tokens
 pub mod Replicas
 pub mod Sizes
 pub mod Lists
+pub mod Rows
 pub mod Kept
 pub mod Agreement

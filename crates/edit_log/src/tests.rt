@@ -1,16 +1,36 @@
-ghost use Rattle.std.specs.Prelude.{◌≡◌, ◌≤◌, IfOk, OnOk, length};
+ghost use Rattle.std.specs.Prelude.{◌≡◌, ◌==◌, ◌≤◌, IfOk, OnOk, length, not};
+ghost use Rattle.std.specs.List.{list_all};
 ghost use Rattle.grammar_text.specs.Limits.{IsSound};
 ghost use Rattle.regex_ast.specs.Expressions.{Expression};
 ghost use Rattle.regex_ast.specs.Refusals.{SpellsWithinLimits};
 ghost use Rattle.edit_log.specs.Verdict.{IsProper, HasExpression};
 
 use super::*;
-use crate::entry_tests::read;
 use forest::{Rule, RuleId, SymbolId, Symbols};
-use grammar_text::{Edit, Symbol, Text};
+use grammar_text::{BadEdit, EDIT_LIMIT, Edit, Symbol, Text, read_edit};
 use regex_ast::read_regex;
 use std::alloc::{AllocError, Global};
 use std::test::Fail;
+
+fn is_line(bytes: &[u8]) -> bool
+    ensures { result ≡ list_all (λ byte. not (byte == 10)) bytes.now }
+{
+    bytes.iter().all(|byte| *byte != b'\n')
+}
+
+/// The edit of a line.
+fn read(alloc: Global, line: &str) -> Result<Edit, BadEdit>
+    ensures { IfOk result IsSound }
+{
+    let bytes = line.as_bytes();
+    if bytes.len() > EDIT_LIMIT {
+        return Err(BadEdit::NoMemory);
+    }
+    if !is_line(bytes) {
+        return Err(BadEdit::NoMemory);
+    }
+    read_edit(alloc, bytes)
+}
 
 fn check_expression(alloc: Global, expression: &Text) -> Result<(), AllocError>
     requires { length expression.now ≤ 248 }

@@ -9,8 +9,8 @@ ghost use Rattle.edit_log.specs.Verdict.{IsProper, IsAccepted, verdict, rule_fou
 
 use crate::grammar::Grammar;
 use crate::limits::LOG_LIMIT;
-use crate::named::{NamedDefinition, definition_of};
-use crate::numbers::live_number;
+use crate::named_definitions::{NamedDefinition, definition_of};
+use crate::live_numbers::live_number;
 use crate::refusal::Refusal;
 use edit_entry::{Entry, encode};
 use forest::RuleId;
@@ -41,8 +41,8 @@ impl Grammar {
         ensures { IfOk result (λ answer. answer ≡ is_left self.now.grammar name.now) }
     {
         let symbol = Symbol::Named(name.clone()?);
-        match self.symbols.get_index_of(&symbol) {
-            Some(place) => Ok(!self.lefts[place].is_empty()),
+        match self.table.symbols.get_index_of(&symbol) {
+            Some(place) => Ok(!self.table.rows[place].rules.is_empty()),
             None => Ok(false),
         }
     }
