@@ -51,3 +51,6 @@ use_counts f none rows new symbol within is place =
 -- as many left sides as rows
 pub same_count : (new old : List Row) → lefts_in new ≡ lefts_in old → length new ≡ length old
 same_count new old same = omega (arith, ap length same, length-map new (λ (row : Row). row.rules), length-map old (λ (row : Row). row.rules))
+
+pub same_uses : (new old : List Row) → lefts_in new ≡ lefts_in old → length (uses_in new) ≡ length (uses_in old)
+same_uses new old same = omega (arith, same_count new old same, length-map new (λ (row : Row). row.uses), length-map old (λ (row : Row). row.uses))

@@ -12,13 +12,6 @@ use Rattle.edit_log.proofs.RowLists.{column_stays, column_get}
 use Rattle.edit_log.proofs.Unders.{under_get, under_within, under_changed}
 use Rattle.edit_log.proofs.lefts.drop_left.Goals as goal
 
--- what the row keeps is the list under the left side
-read : (c : goal.After-index_mut-row) → under (lefts_in c.args.rows.now.items) c.args.left.0 ≡ c.index_mut-row.result.now.rules.items
-read c =
-    let rows = c.args.rows.now.items in
-    let within : c.args.left.0 < length rows = omega (arith, under_within (lefts_in rows) c.args.left.0 c.args.number c.requires.there, length-map rows (λ (row : Row). row.rules)) in
-    under_get (lefts_in rows) c.args.left.0 c.index_mut-row.result.now.rules (column_get (λ (row : Row). row.rules) rows c.args.left.0 c.index_mut-row.result.now within c.index_mut-row.ensures.value)
-
 pub index_mut-row-requires : goal.index_mut-row-requires
 index_mut-row-requires c =
     let rows = c.args.rows.now.items in
@@ -31,7 +24,8 @@ returns-clause-lists c = λ place.
     let number = c.args.number in
     let old = under (lefts_in rows) left in
     let within = under_within (lefts_in rows) left number c.requires.there in
-    let same = read c.in-After-index_mut-row in
+    let row = c.index_mut-row.result.now in
+    let same : old ≡ row.rules.items = under_get (lefts_in rows) left row.rules (column_get (λ (row : Row). row.rules) rows left row (omega (arith, within, length-map rows (λ (row : Row). row.rules))) c.index_mut-row.ensures.value) in
     let at : slice_get old c.place_of-place.result ≡ Some number = ap (λ (xs : List RuleId). slice_get xs c.place_of-place.result) (same ∙ sym c.deref.ensures.value) ∙ c.place_of-place.ensures in
     let apart = sorted_keys (λ (n : RuleId). n.0) old (sorted_from_increasing (λ (n : RuleId). n.0) old c.requires.ascends) in
     let items : c.remove.new.self.items ≡ filter (λ n. not (n.0 == number.0)) old =
