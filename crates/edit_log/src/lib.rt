@@ -34,8 +34,3 @@ pub use verdict::may;
 
 /// Memory ran out.
 pub type NoMemory = AllocError;
-
-#[cfg(test)]
-mod tests;
-#[cfg(test)]
-mod token_tests;

@@ -1,8 +1,8 @@
 //! A plain, slow scanner: at each offset it tries the pieces from the longest on, and for each of them the
 //! live definitions in their order. It shows on worked texts what longest-match tokens are.
 
-use super::*;
-use crate::tests::grammar_from;
+use crate::histories::grammar_from;
+use edit_log::{DefId, DefKind, Grammar};
 use regex_ast::Positions;
 use std::alloc::{AllocError, Global};
 use std::test::Fail;
