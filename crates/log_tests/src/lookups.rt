@@ -1,8 +1,8 @@
 //! What a grammar finds.
 
 use crate::histories::{LINES, grammar_from};
-use edit_log::{DefId, Grammar};
-use forest::{RuleId, SymbolId};
+use edit_log::{DefId, DefKind, Grammar};
+use forest::{Rule, RuleId, SymbolId};
 use grammar_text::{Symbol, Text};
 use std::alloc::{AllocError, Global};
 use std::test::Fail;
@@ -18,24 +18,26 @@ fn tell_rules(alloc: Global, grammar: &Grammar, lefts: &[u32]) -> Result<String,
     Ok(all)
 }
 
-/// The rule with each of these numbers, a number a line.
-fn tell_numbers(alloc: Global, grammar: &Grammar, numbers: &[u32]) -> Result<String, AllocError> {
-    let mut all = String::new(alloc);
-    for number in numbers {
-        let rule = grammar.rule(RuleId(*number));
-        all.push_str(&format!(in alloc; "{rule:?}\n")?)?;
+fn tell_rule(alloc: Global, rule: &Rule) -> Result<String, AllocError> {
+    let right = rule.right.as_slice();
+    format!(in alloc; "{} {} {right:?}", rule.number.0, rule.left.0)
+}
+
+/// The rule with the number, by the numbers of its symbols.
+fn tell_number(alloc: Global, grammar: &Grammar, number: u32) -> Result<String, AllocError> {
+    match grammar.rule(RuleId(number)) {
+        Some(rule) => tell_rule(alloc, rule),
+        None => String::from_str(alloc, "none"),
     }
-    Ok(all)
 }
 
 #[test]
 fn finds_rules(rt: HostRuntime) -> Result<(), Fail> {
     let grammar = grammar_from(rt.alloc(), LINES)?;
-    let numbers = tell_numbers(rt.alloc(), &grammar, &[4, 2])?;
-    let rows = "Some(Rule { number: RuleId(4), left: SymbolId(3), right: Symbols { items: [SymbolId(3), SymbolId(4), SymbolId(3)] } })
-None
-";
-    assert_eq!(rt; numbers.as_str(), rows);
+    let fourth = tell_number(rt.alloc(), &grammar, 4)?;
+    assert_eq!(rt; fourth.as_str(), "4 3 [SymbolId(3), SymbolId(4), SymbolId(3)]");
+    let second = tell_number(rt.alloc(), &grammar, 2)?;
+    assert_eq!(rt; second.as_str(), "none");
     let rules = tell_rules(rt.alloc(), &grammar, &[3, 6])?;
     assert_eq!(rt; rules.as_str(), "3 [RuleId(4), RuleId(5), RuleId(6)]\n6 []\n");
     Ok(())
@@ -52,13 +54,13 @@ fn finds_each(grammar: &Grammar) -> bool {
     true
 }
 
-fn literal_found(
-    alloc: Global,
-    grammar: &Grammar,
-    bytes: &[u8],
-) -> Result<Option<SymbolId>, AllocError> {
+/// The number of the literal with these bytes, or none.
+fn tell_literal(alloc: Global, grammar: &Grammar, bytes: &[u8]) -> Result<String, AllocError> {
     let literal = Symbol::Literal(Text::from_vec(Vec::from_slice(alloc, bytes)?));
-    Ok(grammar.symbol(&literal))
+    match grammar.symbol(&literal) {
+        Some(symbol) => format!(in alloc; "{}", symbol.0),
+        None => String::from_str(alloc, "none"),
+    }
 }
 
 #[test]
@@ -66,33 +68,24 @@ fn finds_symbols(rt: HostRuntime) -> Result<(), Fail> {
     let grammar = grammar_from(rt.alloc(), LINES)?;
     assert_eq!(rt; grammar.symbols(), 6);
     assert!(rt; finds_each(&grammar));
-    assert_eq!(rt; literal_found(rt.alloc(), &grammar, b"+")?, Some(SymbolId(4)));
-    assert_eq!(rt; literal_found(rt.alloc(), &grammar, b"*")?, None);
+    let plus = tell_literal(rt.alloc(), &grammar, "+".as_bytes())?;
+    assert_eq!(rt; plus.as_str(), "4");
+    let times = tell_literal(rt.alloc(), &grammar, "*".as_bytes())?;
+    assert_eq!(rt; times.as_str(), "none");
     Ok(())
-}
-
-fn tell_kind(alloc: Global, grammar: &Grammar, def: DefId) -> Result<String, AllocError> {
-    format!(in alloc; "{def:?} {:?}\n", grammar.kind(def))
-}
-
-/// The live definitions with their kinds, a definition a line.
-fn tell_definitions(alloc: Global, grammar: &Grammar) -> Result<String, AllocError> {
-    let mut all = String::new(alloc);
-    for def in grammar.live_defs() {
-        all.push_str(&tell_kind(alloc, grammar, *def)?)?;
-    }
-    Ok(all)
 }
 
 #[test]
 fn finds_definitions(rt: HostRuntime) -> Result<(), Fail> {
     let grammar = grammar_from(rt.alloc(), LINES)?;
-    let rows = "Literal(SymbolId(4)) Some(Token(SymbolId(4)))
-Literal(SymbolId(5)) Some(Token(SymbolId(5)))
-Named(RuleId(1)) Some(Token(SymbolId(1)))
-Named(RuleId(2)) Some(Skip)
-";
-    assert_eq!(rt; tell_definitions(rt.alloc(), &grammar)?.as_str(), rows);
+    let plus = DefId::Literal(SymbolId(4));
+    let minus = DefId::Literal(SymbolId(5));
+    let name = DefId::Named(RuleId(1));
+    let space = DefId::Named(RuleId(2));
+    assert_eq!(rt; grammar.live_defs(), [plus, minus, name, space].as_slice());
+    assert_eq!(rt; grammar.kind(plus), Some(DefKind::Token(SymbolId(4))));
+    assert_eq!(rt; grammar.kind(name), Some(DefKind::Token(SymbolId(1))));
+    assert_eq!(rt; grammar.kind(space), Some(DefKind::Skip));
     assert_eq!(rt; grammar.kind(DefId::Literal(SymbolId(3))), None);
     assert_eq!(rt; grammar.kind(DefId::Named(RuleId(3))), None);
     Ok(())
