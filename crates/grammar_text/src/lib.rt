@@ -32,6 +32,3 @@ pub use writing::write_edit;
 
 /// Memory ran out.
 pub type NoMemory = AllocError;
-
-#[cfg(test)]
-mod tests;

@@ -14,8 +14,6 @@ mod derive;
 mod nodes;
 mod reach;
 mod spans;
-#[cfg(test)]
-mod tests;
 
 use crate::derive::{derived_spans, is_known};
 use crate::nodes::forest_of;

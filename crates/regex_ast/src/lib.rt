@@ -11,8 +11,6 @@ mod positions;
 mod reader;
 mod regex;
 mod stack;
-#[cfg(test)]
-mod tests;
 
 pub use bad_regex::BadRegex;
 pub use byte_set::ByteSet;

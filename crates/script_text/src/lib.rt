@@ -17,6 +17,3 @@ pub use command::{Block, Blocks, Command, Commands, Script};
 pub use laws::{has_first_bad, one_script};
 pub use limits::{COMMAND_LIMIT, SCRIPT_LIMIT, TEXT_LIMIT};
 pub use script::read_script;
-
-#[cfg(test)]
-mod tests;

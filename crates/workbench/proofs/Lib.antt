@@ -1,11 +1,3 @@
-pub mod LiteralFacts
-pub mod LiteralLinks
-pub mod LiteralSearch
-pub mod KeptLiterals
-pub mod MatchedPieces
-pub mod ScanSteps
-pub mod OneScan
-pub mod ReplySteps
 pub mod ScriptFacts
 pub mod RunSteps
 pub mod OneOutput

@@ -8,11 +8,11 @@ use Rattle.script_text.specs.declared.bad_script.BadScript.{BadScript as ABadScr
 use Rattle.script_text.specs.Scripts.{SpellsScript, IsFirstBad}
 use Rattle.script_text.proofs.ScriptLaws.{not_both, one_bad}
 use Rattle.workbench.specs.Pieces.{GivesCount, IsTold}
-use Rattle.workbench.specs.Replies.{words_of, bad_line}
+use Rattle.replies.specs.Lines.{words_of, bad_line}
 use Rattle.workbench.specs.declared.top_call.Status.{Status}
 use Rattle.workbench.specs.declared.top_call.Status.TheVariants.{Done, BadWords, ReadFault, WriteFault, NoMemory, BadScript, ScriptTooLong}
 use Rattle.workbench.specs.Ends.{IsLate}
-use Rattle.workbench.specs.Output.{TakesFront, of_replies, of_refusal, RunsBad}
+use Rattle.workbench.specs.Runs.{TakesFront, of_replies, of_refusal, RunsBad}
 
 -- ---- amounts
 

@@ -10,7 +10,8 @@ use Rattle.workbench.specs.Pieces.{TakesPrefix, GivesCount}
 use Rattle.workbench.specs.declared.top_call.Status.{Status}
 use Rattle.workbench.specs.declared.top_call.Status.TheVariants.{Done, BadWords, ReadFault, WriteFault, NoMemory, BadScript, ScriptTooLong}
 use Rattle.workbench.specs.Ends.{IsLate, StopsBeforeEnd, EndsBy, without_memory, too_long, bad, good}
-use Rattle.workbench.specs.Output.{IsOutput, IsBadScript, too_long as is_too_long, bad as is_bad, TakesFront}
+use Rattle.workbench.specs.Output.{IsOutput, IsBadScript, too_long as is_too_long, bad as is_bad}
+use Rattle.workbench.specs.Runs.{TakesFront}
 use Rattle.workbench.proofs.OneOutput.{front_of_output, nothing_taken}
 
 -- what holds after a write that failed, where the status is not that of a whole one

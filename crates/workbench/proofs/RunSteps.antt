@@ -11,7 +11,8 @@ use Rattle.script_text.specs.declared.command.Command.{Command}
 use Rattle.script_text.specs.declared.command.Block.{Block}
 use Rattle.script_text.specs.declared.command.Block.TheVariants.{Alone, Par}
 use Rattle.workbench.specs.Pieces.{TakesPrefix}
-use Rattle.workbench.specs.Output.{IsReply, grammar_after, grammar_behind, grammar_after_all, AreReplies, none, more, IsAnswerableBlock, AnswersBlock, TakesReplies, TakesFirst}
+use Rattle.replies.specs.Replies.{IsReply, grammar_after, grammar_behind, grammar_after_all, AreReplies, none, more, IsAnswerableBlock, AnswersBlock}
+use Rattle.workbench.specs.Runs.{TakesReplies, TakesFirst}
 
 -- ---- replies one after the other
 

@@ -18,7 +18,7 @@ use Rattle.script_text.specs.Lines.{before_first_line, lines_of}
 use Rattle.script_text.specs.Forms.{Sort, EditLine, OtherWord, Asks, form_by, form_of}
 use Rattle.script_text.specs.Commands.{SpellsAs, an_edit, a_text}
 use Rattle.script_text.specs.Scripts.{Read, nothing, Takes, passes, adds, TakesAll, none, more, SpellsScript}
-use Rattle.workbench.specs.Output.{IsOfRule, IsAnswerable, IsAnswerableBlock}
+use Rattle.replies.specs.Replies.{IsOfRule, IsAnswerable, IsAnswerableBlock}
 
 -- ---- lines
 

@@ -8,13 +8,7 @@ ghost use Rattle.std.specs.IoError.{error_kind};
 ghost use Rattle.std.specs.declared.io.ErrorKind.TheVariants.{InvalidData};
 ghost use Rattle.workbench.specs.Ends.{exit_number};
 
-mod bench;
 mod laws;
-mod literals;
-mod print;
-mod refusals;
-mod reply;
-mod scan;
 mod sink_writing;
 mod source_reading;
 #[cfg(test)]

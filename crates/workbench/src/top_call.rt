@@ -10,15 +10,16 @@ ghost use Rattle.script_text.specs.declared.limits.TheConstants.{SCRIPT_LIMIT};
 ghost use Rattle.script_text.specs.Scripts.{SpellsScript, IsFirstBad};
 ghost use Rattle.workbench.specs.declared.top_call.TheConstants.{PIECE};
 ghost use Rattle.workbench.specs.Ends.{IsLate, IsFree, EndsBy, IsSilent, StopsBeforeEnd};
-ghost use Rattle.workbench.specs.Output.{IsAnswerableBlock, TakesReplies, TakesFirst, TakesFront, IsOutput, IsBadScript, RunsWhole, RunsBad, StopsEarly};
+ghost use Rattle.replies.specs.Replies.{IsAnswerableBlock};
+ghost use Rattle.workbench.specs.Runs.{TakesReplies, TakesFirst, TakesFront, RunsWhole, RunsBad, StopsEarly};
+ghost use Rattle.workbench.specs.Output.{IsOutput, IsBadScript};
 ghost use Rattle.workbench.specs.Pieces.{TakesPrefix, TakesPart, GivesCount, IsTold};
-ghost use Rattle.workbench.specs.Replies.{bad_line};
+ghost use Rattle.replies.specs.Lines.{bad_line};
 
-use crate::bench::Bench;
-use crate::refusals::put_bad_script;
 use crate::sink_writing::write_all;
 use crate::source_reading::{ReadError, read_all};
 use bench_io::{Fault, Sink, Source};
+use replies::{Session, put_bad_script};
 use script_text::{BadScript, Block, SCRIPT_LIMIT, ScriptError, read_script};
 use std::alloc::Global;
 
@@ -69,10 +70,10 @@ fn answer_all<K: Sink>(alloc: Global, blocks: &[Block], sink: &mut K) -> Result<
     ensures counted { K.faults sink.old ≤ K.faults sink.new }
     ensures failed { IsErrOf result Fault.Failed → HasRisen (K.faults sink.old) (K.faults sink.new) }
 {
-    let mut bench = Bench::new(alloc)?;
+    let mut session = Session::new(alloc)?;
     let mut out = Vec::new(alloc);
     for block in blocks {
-        bench.answer_block(alloc, block, &mut out)?;
+        session.answer_block(alloc, block, &mut out)?;
         flush_full(sink, &mut out)?;
     }
     write_all(sink, &out)?;

@@ -1,7 +1,7 @@
 use Rattle.std.proofs.Common.{inr, subst, rules}
 use Rattle.script_text.specs.Scripts.{IsFirstBad}
 use Rattle.workbench.specs.declared.top_call.Status.TheVariants.{Done, BadScript, WriteFault, NoMemory}
-use Rattle.workbench.specs.Output.{TakesFirst, of_replies, of_refusal}
+use Rattle.workbench.specs.Runs.{TakesFirst, of_replies, of_refusal}
 use Rattle.grammar_text.proofs.ByteTexts.{bytes_from_places}
 use Rattle.workbench.proofs.ScriptFacts.{all_answerable}
 use Rattle.workbench.proofs.RunEnds.{after_failure}

@@ -1,0 +1,9 @@
+pub mod LiteralFacts
+pub mod LiteralLinks
+pub mod LiteralSearch
+pub mod KeptLiterals
+pub mod MatchedPieces
+pub mod ScanSteps
+pub mod OneScan
+pub mod OneReply
+pub mod ReplySteps

@@ -1,0 +1,5 @@
+pub mod Lines
+pub mod Literals
+pub mod Scans
+pub mod Replies
+pub mod Sessions

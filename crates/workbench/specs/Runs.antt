@@ -1,0 +1,63 @@
+-- What a run read and wrote.
+use Rattle.std.specs.Prelude.{◌≡◌, ◌≤◌, ℕ, List, [], ◌++◌, length, Option}
+use Rattle.bench_io.specs.Known.{Takes, IsKnownAs}
+use Rattle.edit_log.specs.History.{empty_grammar}
+use Rattle.script_text.specs.declared.command.Block.{Block}
+use Rattle.script_text.specs.declared.command.Script.{Script}
+use Rattle.script_text.specs.declared.bad_script.BadScript.{BadScript}
+use Rattle.script_text.specs.declared.limits.TheConstants.{SCRIPT_LIMIT}
+use Rattle.script_text.specs.Scripts.{SpellsScript, IsFirstBad}
+use Rattle.replies.specs.Lines.{bad_line}
+use Rattle.replies.specs.Replies.{AreReplies}
+use Rattle.workbench.specs.Pieces.{TakesPrefix, TakesPart}
+use Rattle.workbench.specs.Output.{IsOutput}
+
+-- the sink took all the replies to these blocks
+pub record TakesReplies (old new : Option (List ℕ)) (blocks : List Block) : Type 0 where
+  pub output : List ℕ
+  pub replies : AreReplies empty_grammar blocks output
+  pub taken : Takes old new output
+
+-- the sink took a prefix of the replies to these blocks, at least up to where it stopped: a prefix of the replies to the first of them
+pub record TakesFirst (old new : Option (List ℕ)) (blocks : List Block) : Type 0 where
+  pub first : List Block
+  pub others : List Block
+  pub parts : blocks ≡ first ++ others
+  pub output : List ℕ
+  pub replies : AreReplies empty_grammar first output
+  pub taken : TakesPrefix old new output
+
+-- the sink took a prefix of the script's output, and of the line for a first bad line not all
+pub data TakesFront (old new : Option (List ℕ)) (script : List ℕ) : Type 0 where
+  of_replies : (read : Script) → SpellsScript script read → TakesFirst old new read.blocks → TakesFront old new script
+  of_refusal : (bad : BadScript) → IsFirstBad script bad → TakesPart old new (bad_line bad) → TakesFront old new script
+
+-- the source was read to its end, and gave this script, which is not too long
+pub record IsReadWhole (left_old left_new : Option (List ℕ)) (script : List ℕ) : Type 0 where
+  pub given : IsKnownAs left_old script
+  pub ended : IsKnownAs left_new []
+  pub short : length script ≤ SCRIPT_LIMIT
+
+-- the source was read to its end, its script is good, and the sink took exactly its output
+pub record RunsWhole (left_old left_new taken_old taken_new : Option (List ℕ)) : Type 0 where
+  pub script : List ℕ
+  pub is_read : IsReadWhole left_old left_new script
+  pub read : Script
+  pub good : SpellsScript script read
+  pub output : List ℕ
+  pub is : IsOutput script output
+  pub taken : Takes taken_old taken_new output
+
+-- the source was read to its end, its script has a first bad line, and the sink took exactly the line for it
+pub record RunsBad (left_old left_new taken_old taken_new : Option (List ℕ)) : Type 0 where
+  pub script : List ℕ
+  pub is_read : IsReadWhole left_old left_new script
+  pub bad : BadScript
+  pub first : IsFirstBad script bad
+  pub taken : Takes taken_old taken_new (bad_line bad)
+
+-- the source was read to its end, and the sink took a prefix of its script's output
+pub record StopsEarly (left_old left_new taken_old taken_new : Option (List ℕ)) : Type 0 where
+  pub script : List ℕ
+  pub is_read : IsReadWhole left_old left_new script
+  pub taken : TakesFront taken_old taken_new script
