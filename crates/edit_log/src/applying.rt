@@ -10,8 +10,8 @@ use crate::definitions::DefId;
 use crate::grammar::Grammar;
 use crate::lefts::{drop_left, push_left};
 use crate::live;
-use crate::named_definitions::drop_definition;
 use crate::live_numbers::set_number;
+use crate::named_definitions::drop_definition;
 use crate::ready::{NewDefinition, NewRule, OldDefinition, OldRule, Plan, Ready};
 use crate::rules::{no_rules, with_rule, without_rule};
 use crate::uses::{add_uses, drop_uses};
@@ -26,11 +26,7 @@ impl Grammar {
         let number = live.number;
         self.table.add_symbols(fresh);
         push_left(&mut self.table.rows, live.left, number);
-        add_uses(
-            &mut self.table.rows,
-            &mut self.live,
-            live.right.as_slice(),
-        );
+        add_uses(&mut self.table.rows, &mut self.live, live.right.as_slice());
         set_number(&mut self.rule_numbers, text, Some(number));
         let rules = mem::replace(&mut self.rules, no_rules(self.alloc));
         self.rules = with_rule(rules, &mut self.spare_rules, live);
@@ -47,11 +43,7 @@ impl Grammar {
         self.rules = rules;
         let Some(gone) = gone else { unreachable!() };
         drop_left(&mut self.table.rows, gone.left, number);
-        drop_uses(
-            &mut self.table.rows,
-            &mut self.live,
-            gone.right.as_slice(),
-        );
+        drop_uses(&mut self.table.rows, &mut self.live, gone.right.as_slice());
         set_number(&mut self.rule_numbers, text, None);
         self.version += 1;
     }

@@ -9,8 +9,8 @@ ghost use Rattle.edit_log.specs.Verdict.{IsProper, IsAccepted, verdict, rule_fou
 
 use crate::grammar::Grammar;
 use crate::limits::LOG_LIMIT;
-use crate::named_definitions::{NamedDefinition, definition_of};
 use crate::live_numbers::live_number;
+use crate::named_definitions::{NamedDefinition, definition_of};
 use crate::refusal::Refusal;
 use edit_entry::{Entry, encode};
 use forest::RuleId;

@@ -35,11 +35,17 @@ fn tell_number(alloc: Global, grammar: &Grammar, number: u32) -> Result<String, 
 fn finds_rules(rt: HostRuntime) -> Result<(), Fail> {
     let grammar = grammar_from(rt.alloc(), LINES)?;
     let fourth = tell_number(rt.alloc(), &grammar, 4)?;
-    assert_eq!(rt; fourth.as_str(), "4 3 [SymbolId(3), SymbolId(4), SymbolId(3)]");
+    assert_eq!(rt;
+        fourth.as_str(),
+        "4 3 [SymbolId(3), SymbolId(4), SymbolId(3)]"
+    );
     let second = tell_number(rt.alloc(), &grammar, 2)?;
     assert_eq!(rt; second.as_str(), "none");
     let rules = tell_rules(rt.alloc(), &grammar, &[3, 6])?;
-    assert_eq!(rt; rules.as_str(), "3 [RuleId(4), RuleId(5), RuleId(6)]\n6 []\n");
+    assert_eq!(rt;
+        rules.as_str(),
+        "3 [RuleId(4), RuleId(5), RuleId(6)]\n6 []\n"
+    );
     Ok(())
 }
 

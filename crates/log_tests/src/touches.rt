@@ -52,6 +52,9 @@ drop token ID|None None true [Named(RuleId(1))]
 skip ID = a|None None true []
 drop skip WS|None None true [Named(RuleId(2))]
 drop rule E ::= E \"-\"|Some(SymbolId(3)) Some(RuleId(10)) true [Literal(SymbolId(5))]";
-    assert_eq!(rt; told_again(rt.alloc(), &mut grammar, rows)?.trim_end(), rows);
+    assert_eq!(rt;
+        told_again(rt.alloc(), &mut grammar, rows)?.trim_end(),
+        rows
+    );
     Ok(())
 }
