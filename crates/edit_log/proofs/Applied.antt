@@ -13,7 +13,7 @@ use Rattle.forest.specs.declared.rules.Rule.{Rule}
 use Rattle.regex_ast.specs.Positions.{Table}
 use Rattle.edit_log.specs.declared.definitions.DefId.{DefId}
 use Rattle.edit_log.specs.declared.definitions.DefId.TheVariants.{Named as named}
-use Rattle.edit_log.specs.declared.named.NamedDefinition.{NamedDefinition}
+use Rattle.edit_log.specs.declared.named_definitions.NamedDefinition.{NamedDefinition}
 use Rattle.edit_log.specs.declared.ready.OldDefinition.{OldDefinition}
 use Rattle.edit_log.specs.declared.ready.Plan.TheVariants as planned
 use Rattle.edit_log.specs.History.{Definition, Grammar, after}

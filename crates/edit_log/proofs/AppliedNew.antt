@@ -16,7 +16,7 @@ use Rattle.forest.specs.Distinct.{IsDistinct}
 use Rattle.regex_ast.specs.Positions.{Table}
 use Rattle.edit_log.specs.declared.definitions.DefId.{DefId}
 use Rattle.edit_log.specs.declared.definitions.DefId.TheVariants.{Named as named}
-use Rattle.edit_log.specs.declared.named.NamedDefinition.{NamedDefinition}
+use Rattle.edit_log.specs.declared.named_definitions.NamedDefinition.{NamedDefinition}
 use Rattle.edit_log.specs.declared.ready.NewDefinition.{NewDefinition}
 use Rattle.edit_log.specs.declared.ready.Plan.TheVariants as planned
 use Rattle.edit_log.specs.History.{Definition, Grammar, after, defined}

@@ -18,7 +18,7 @@ use Rattle.forest.specs.Orders.{rule_cmp}
 use Rattle.forest.proofs.Ascending.{contains_here, contains_there, contains_cases}
 use Rattle.regex_ast.specs.Positions.{Table}
 use Rattle.edit_log.specs.declared.definitions.DefId.{DefId}
-use Rattle.edit_log.specs.declared.named.NamedDefinition.{NamedDefinition}
+use Rattle.edit_log.specs.declared.named_definitions.NamedDefinition.{NamedDefinition}
 use Rattle.edit_log.specs.declared.ready.OldRule.{OldRule}
 use Rattle.edit_log.specs.declared.ready.Plan.TheVariants as planned
 use Rattle.edit_log.specs.History.{Definition, Grammar, after, reads}

@@ -15,7 +15,7 @@ use Rattle.edit_log.specs.declared.definitions.DefId.{DefId}
 use Rattle.edit_log.specs.declared.definitions.DefId.TheVariants.{Literal as literal, Named as named}
 use Rattle.edit_log.specs.declared.definitions.DefKind.{DefKind}
 use Rattle.edit_log.specs.declared.definitions.DefKind.TheVariants.{Token}
-use Rattle.edit_log.specs.declared.named.NamedDefinition.{NamedDefinition}
+use Rattle.edit_log.specs.declared.named_definitions.NamedDefinition.{NamedDefinition}
 use Rattle.edit_log.specs.History.{empty_grammar}
 use Rattle.edit_log.specs.Live.{IsLive, is_literal}
 use Rattle.edit_log.specs.Symbols.{symbol_at}

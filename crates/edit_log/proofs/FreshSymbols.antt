@@ -5,7 +5,7 @@ use Rattle.std.proofs.lemmas.Option.{slice_get-map, slice_get_read}
 use Rattle.grammar_text.specs.declared.symbol.Symbol.{Symbol}
 use Rattle.grammar_text.specs.Sameness.{symbol_eq}
 use Rattle.forest.specs.Distinct.{IsDistinct}
-use Rattle.edit_log.specs.declared.fresh.FreshSymbol.{FreshSymbol}
+use Rattle.edit_log.specs.declared.fresh_symbols.FreshSymbol.{FreshSymbol}
 use Rattle.edit_log.specs.Replicas.{symbols_in}
 use Rattle.edit_log.proofs.PlainLists.{distinct_middle}
 use Rattle.edit_log.proofs.Places.{not_there}

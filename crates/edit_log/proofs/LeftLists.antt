@@ -15,7 +15,7 @@ use Rattle.grammar_text.specs.declared.edit.Edit.TheVariants.{AddRule, DropRule}
 use Rattle.forest.specs.declared.symbols.SymbolId.{SymbolId}
 use Rattle.forest.specs.declared.rules.RuleId.{RuleId}
 use Rattle.forest.specs.declared.rules.Rule.{Rule}
-use Rattle.edit_log.specs.declared.fresh.FreshSymbol.{FreshSymbol}
+use Rattle.edit_log.specs.declared.fresh_symbols.FreshSymbol.{FreshSymbol}
 use Rattle.edit_log.specs.Symbols.{number_of, symbols_of, with_symbols, numbered}
 use Rattle.edit_log.specs.History.{Grammar, after}
 use Rattle.edit_log.specs.Verdict.{IsAccepted, rule_found}

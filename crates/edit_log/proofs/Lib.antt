@@ -1,12 +1,10 @@
-pub mod EntryBytes
-pub mod EntryLaws
-pub mod EntryPacking
 pub mod PlainLists
 pub mod Places
 pub mod FirstPlaces
 pub mod FreshSymbols
 pub mod NumberSearches
 pub mod Unders
+pub mod Rooms
 pub mod Texts
 pub mod SoundEdits
 pub mod WellFormed
@@ -16,6 +14,7 @@ pub mod Finders
 pub mod LeftLists
 pub mod DefinitionOrder
 pub mod UseLists
+pub mod RowLists
 pub mod LiveFacts
 pub mod NewSymbols
 pub mod LiveAfter

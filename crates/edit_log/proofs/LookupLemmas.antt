@@ -15,7 +15,7 @@ use Rattle.edit_log.specs.declared.definitions.DefId.{DefId}
 use Rattle.edit_log.specs.declared.definitions.DefId.TheVariants.{Literal as literal, Named as named}
 use Rattle.edit_log.specs.declared.definitions.DefKind.{DefKind}
 use Rattle.edit_log.specs.declared.definitions.DefKind.TheVariants.{Token}
-use Rattle.edit_log.specs.declared.named.NamedDefinition.{NamedDefinition}
+use Rattle.edit_log.specs.declared.named_definitions.NamedDefinition.{NamedDefinition}
 use Rattle.edit_log.specs.Symbols.{symbol_at}
 use Rattle.edit_log.specs.History.{Definition, Grammar}
 use Rattle.edit_log.specs.Facts.{IsWellFormed, IsNamed}
@@ -157,34 +157,6 @@ no_left symbols (r ∷ rules) left are past =
     let within = slice_get_within symbols r.left.0 (Named are.0.0) are.0.1 in
     let other : (r.left.0 == left.0) ≡ false = ne_eqb r.left.0 left.0 (λ e. omega (arith, within, past, e)) in
     rw other (no_left symbols rules left are.1 past)
-
--- ---- memory
-
--- one list of rules gets more memory
-pub under_set : (lists : List (Vec RuleId Global)) (at : ℕ) (old list : Vec RuleId Global) → old ≡ slice_index_or lists at old → room_of old ≤ room_of list
-    → (place count : ℕ) → slice_get (map room_of lists) place ≡ Some count → (more : ℕ) × (slice_get (map room_of (slice_set lists at list)) place ≡ Some more) × (count ≤ more)
-under_set [] at old list is less place count told = absurd cc
-under_set (x ∷ xs) zero old list is less zero count told =
-    let same : room_of x ≡ count = same_Some (room_of x) count told in
-    (room_of list, refl, subst (λ n. n ≤ room_of list) (ap room_of is ∙ same) less)
-under_set (x ∷ xs) zero old list is less (suc place) count told = (count, told, omega arith)
-under_set (x ∷ xs) (suc at) old list is less zero count told = (count, told, omega arith)
-under_set (x ∷ xs) (suc at) old list is less (suc place) count told = under_set xs at old list is less place count told
-
-pub count_set : (lists : List (Vec RuleId Global)) (at : ℕ) (list : Vec RuleId Global) → length (map room_of (slice_set lists at list)) ≡ length (map room_of lists)
-count_set [] at list = refl
-count_set (x ∷ xs) zero list = refl
-count_set (x ∷ xs) (suc at) list = ap suc (count_set xs at list)
-
-pub under_at : (lists : List (Vec RuleId Global)) (at : ℕ) (list : Vec RuleId Global) → 1 ≤ room_of list → IfSome (slice_get (map room_of (slice_set lists at list)) at) (λ count. 1 ≤ count)
-under_at [] at list some = tt
-under_at (x ∷ xs) zero list some = some
-under_at (x ∷ xs) (suc at) list some = under_at xs at list some
-
-pub under_past : (lists : List (Vec RuleId Global)) (at : ℕ) → length lists ≤ at → IfSome (slice_get (map room_of lists) at) (λ count. 1 ≤ count)
-under_past [] at past = tt
-under_past (x ∷ xs) zero past = absurd (omega (arith, past))
-under_past (x ∷ xs) (suc at) past = under_past xs at (omega (arith, past))
 
 -- ---- tokens and skips by name
 

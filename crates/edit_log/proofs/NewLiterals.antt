@@ -14,7 +14,7 @@ use Rattle.grammar_text.specs.declared.edit.Edit.TheVariants.{AddRule}
 use Rattle.grammar_text.specs.Sameness.{symbol_eq, symbol_eq-decides}
 use Rattle.forest.specs.declared.symbols.SymbolId.{SymbolId}
 use Rattle.forest.specs.Distinct.{IsDistinct}
-use Rattle.edit_log.specs.declared.fresh.FreshSymbol.{FreshSymbol}
+use Rattle.edit_log.specs.declared.fresh_symbols.FreshSymbol.{FreshSymbol}
 use Rattle.edit_log.specs.Symbols.{place_of, number_of, symbol_at, symbols_of, numbered}
 use Rattle.edit_log.specs.History.{Grammar, after}
 use Rattle.edit_log.specs.Live.{is_literal}

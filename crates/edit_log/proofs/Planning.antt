@@ -3,8 +3,6 @@ use Rattle.std.proofs.Common.{◌≡◌, ◌<◌, ◌≤◌, ◌+◌, ℕ, zero,
 use Rattle.std.specs.List.{AllByRecursion}
 use Rattle.std.specs.declared.alloc.Global.{Global}
 use Rattle.edit_log.specs.declared.definitions.DefId.{DefId}
-use Rattle.edit_log.specs.declared.bad_entry.BadEntry.{BadEntry}
-use Rattle.edit_log.specs.declared.bad_entry.BadEntry.TheVariants.{NoMemory}
 use Rattle.edit_log.specs.Lookups.{rule_of}
 use Rattle.edit_log.proofs.PlainLists.{each_contained, found, find_only, distinct_map, sorted_keys}
 use Rattle.std.proofs.lemmas.Bool.{eqb-true, eq-eqb, ne_eqb}
@@ -19,8 +17,8 @@ use Rattle.grammar_text.specs.declared.edit.Edit.TheVariants.{AddRule, DropRule,
 use Rattle.forest.specs.declared.symbols.SymbolId.{SymbolId}
 use Rattle.forest.specs.declared.rules.RuleId.{RuleId}
 use Rattle.forest.specs.declared.rules.Rule.{Rule}
-use Rattle.edit_log.specs.declared.fresh.FreshSymbol.{FreshSymbol}
-use Rattle.edit_log.specs.declared.named.NamedDefinition.{NamedDefinition}
+use Rattle.edit_log.specs.declared.fresh_symbols.FreshSymbol.{FreshSymbol}
+use Rattle.edit_log.specs.declared.named_definitions.NamedDefinition.{NamedDefinition}
 use Rattle.edit_log.specs.declared.ready.Ready.{Ready}
 use Rattle.edit_log.specs.declared.ready.Plan.TheVariants as plan
 use Rattle.edit_log.specs.Symbols.{place_of, number_of, with_symbol, with_symbols, numbered}
@@ -142,9 +140,7 @@ definition_end_planned g false name number there = (refl, there)
 room_stays : (old new : Room) → IsNoMoreThan old new → HasRoom old → HasRoom new
 room_stays old new grows has = record {
   symbols = omega (arith, grows.symbols, has.symbols);
-  lefts = omega (arith, grows.lefts, has.lefts);
-  uses = omega (arith, grows.uses, has.uses);
-  literals = omega (arith, grows.literals, has.literals);
+  rows = omega (arith, grows.rows, has.rows);
   live = omega (arith, grows.live, has.live);
   rules = omega (arith, grows.rules, has.rules);
   rule_numbers = omega (arith, grows.rule_numbers, has.rule_numbers);
@@ -219,8 +215,3 @@ prepared middle new edit ready same grows has accepted planned touch count room 
       };
       touch = new_touch;
     }
-
--- the edit that was read of an entry is its edit
-pub one_of_two : {read edit : Edit} → ◌≡◌ {A = Result Edit BadEntry} (Ok read) (Ok edit) ⊎ ◌≡◌ {A = Result Edit BadEntry} (Ok read) (Err NoMemory) → read ≡ edit
-one_of_two (inl same) = cc
-one_of_two (inr never) = absurd cc

@@ -17,7 +17,7 @@ use Rattle.forest.specs.declared.rules.RuleId.{RuleId}
 use Rattle.forest.specs.declared.rules.Rule.{Rule}
 use Rattle.forest.specs.Distinct.{IsDistinct}
 use Rattle.forest.specs.Orders.{rule_cmp}
-use Rattle.edit_log.specs.declared.fresh.FreshSymbol.{FreshSymbol}
+use Rattle.edit_log.specs.declared.fresh_symbols.FreshSymbol.{FreshSymbol}
 use Rattle.edit_log.specs.declared.ready.NewRule.{NewRule}
 use Rattle.edit_log.specs.declared.ready.Plan.TheVariants as plan
 use Rattle.edit_log.specs.Symbols.{place_of, number_of, numbered, with_symbols}
@@ -28,7 +28,7 @@ use Rattle.edit_log.specs.Lists.{under, occurrences, all_occurrences, IsLiveBy}
 use Rattle.regex_ast.specs.Positions.{Table}
 use Rattle.grammar_text.specs.Sameness.{rule_eq}
 use Rattle.edit_log.specs.declared.definitions.DefId.{DefId}
-use Rattle.edit_log.specs.declared.named.NamedDefinition.{NamedDefinition}
+use Rattle.edit_log.specs.declared.named_definitions.NamedDefinition.{NamedDefinition}
 use Rattle.edit_log.specs.Lookups.{ListsDefinitions}
 use Rattle.edit_log.specs.Agreement.{Agrees}
 use Rattle.edit_log.specs.Kept.{AreLefts, AreUses, AreLiterals}

@@ -15,7 +15,7 @@ use Rattle.forest.specs.declared.rules.Rule.{Rule}
 use Rattle.regex_ast.specs.Positions.{Table}
 use Rattle.edit_log.specs.declared.definitions.DefId.{DefId}
 use Rattle.edit_log.specs.declared.definitions.DefId.TheVariants.{Literal as literal, Named as named}
-use Rattle.edit_log.specs.declared.fresh.FreshSymbol.{FreshSymbol}
+use Rattle.edit_log.specs.declared.fresh_symbols.FreshSymbol.{FreshSymbol}
 use Rattle.edit_log.specs.declared.touch.Touch.{Touch}
 use Rattle.edit_log.specs.Symbols.{numbered, number_of, symbol_at, symbol_bytes, text_of}
 use Rattle.edit_log.specs.History.{Definition, Grammar, after, reads, is_named}

@@ -22,6 +22,9 @@ slice_get-set_other (x ∷ xs) (suc i) (suc k) y other = slice_get-set_other xs 
 pub under_at : (lists : List (Vec RuleId Global)) (i : ℕ) (list : Vec RuleId Global) → i < length lists → list ≡ get_or lists i list → under lists i ≡ list.items
 under_at lists i list within is = ap (λ found. option_map_or (λ (list : Vec RuleId Global). list.items) found []) (slice_get_read lists (length lists) i list refl within is)
 
+pub under_get : (lists : List (Vec RuleId Global)) (i : ℕ) (list : Vec RuleId Global) → slice_get lists i ≡ Some list → under lists i ≡ list.items
+under_get lists i list is = ap (λ found. option_map_or (λ (list : Vec RuleId Global). list.items) found []) is
+
 -- a list with an element is there
 pub under_within : (lists : List (Vec RuleId Global)) (i : ℕ) (x : RuleId) → Contains (under lists i) x → i < length lists
 under_within lists i x c = elim (slice_get_cases lists i).1 [
@@ -41,3 +44,11 @@ under_changed lists i list f within is place = elim (cases_eq place i) [
       rw (eq-eqb place i e) (ap (under (set lists i list)) e ∙ at ∙ is ∙ ap (λ n. f (under lists n)) (sym e))
   | inr other ↦ rw (ne_eqb place i other) (ap (λ found. option_map_or (λ (list : Vec RuleId Global). list.items) found []) (slice_get-set_other lists i place list other))
 ]
+
+-- one list is another with the same numbers
+pub under_same : (lists : List (Vec RuleId Global)) (i : ℕ) (list : Vec RuleId Global) → list.items ≡ under lists i → (place : ℕ) → under (set lists i list) place ≡ under lists place
+under_same [] i list is place = refl
+under_same (x ∷ xs) zero list is zero = is
+under_same (x ∷ xs) zero list is (suc place) = refl
+under_same (x ∷ xs) (suc i) list is zero = refl
+under_same (x ∷ xs) (suc i) list is (suc place) = under_same xs i list is place

@@ -6,7 +6,7 @@ use Rattle.std.proofs.lemmas.List.{get_or-set_same, get_or-set_other, take_more,
 use Rattle.std.proofs.lemmas.List.Sums.{sum_by-append, sum_by-take-le, count_by-le-length}
 use Rattle.std.proofs.lemmas.List.Elements.{Contains-append_left, Contains-push, Contains-push_cases}
 use Rattle.std.specs.List.Sorted.{IsStrictlySortedBy}
-use Rattle.std.proofs.lemmas.Option.{slice_get-get_or, slice_get_past, get_or_from_slice_get}
+use Rattle.std.proofs.lemmas.Option.{slice_get-get_or, slice_get_past, get_or_from_slice_get, same_Some}
 use Rattle.forest.specs.declared.symbols.SymbolId.{SymbolId}
 use Rattle.forest.specs.declared.rules.RuleId.{RuleId}
 use Rattle.regex_ast.specs.Positions.{Table}
@@ -17,13 +17,13 @@ use Rattle.edit_log.specs.Lists.{occurrences, HasLiteral, IsLiveBy, IsLastUse}
 
 -- ---- literals
 
-pub has_literal : (literals : List (Option Table)) (place : ℕ) (o : Option Table) → place < length literals → o ≡ get_or literals place o → is_some o ≡ true → HasLiteral literals place
-has_literal literals place None within is some = absurd cc
-has_literal literals place (Some table) within is some = (table, slice_get-get_or literals place (Some table) within ∙ ap Some (sym is))
+pub has_literal : (literals : List (Option Table)) (place : ℕ) (o : Option Table) → slice_get literals place ≡ Some o → is_some o ≡ true → HasLiteral literals place
+has_literal literals place None is some = absurd cc
+has_literal literals place (Some table) is some = (table, is)
 
-pub no_literal : (literals : List (Option Table)) (place : ℕ) (o : Option Table) → o ≡ get_or literals place o → is_some o ≡ false → HasLiteral literals place → ⊥
+pub no_literal : (literals : List (Option Table)) (place : ℕ) (o : Option Table) → slice_get literals place ≡ Some o → is_some o ≡ false → HasLiteral literals place → ⊥
 no_literal literals place o is none (table, there) =
-    let same : o ≡ Some table = is ∙ get_or_from_slice_get literals place (Some table) o there in
+    let same : o ≡ Some table = same_Some o (Some table) (sym is ∙ there) in
     let some : is_some o ≡ true = ap is_some same in
     cc
 
@@ -46,9 +46,9 @@ pub record Changes (uses new : List ℕ) (place m n : ℕ) : Type 0 where
   pub after : slice_get new place ≡ Some n
   pub others : (k : ℕ) → (k ≡ place → ⊥) → slice_get new k ≡ slice_get uses k
 
-pub changes_set : (uses : List ℕ) (place m n : ℕ) → place < length uses → m ≡ get_or uses place m → Changes uses (set uses place n) place m n
-changes_set uses place m n within is = record {
-  before = slice_get-get_or uses place m within ∙ ap Some (sym is);
+pub changes_set : (uses : List ℕ) (place n : ℕ) → place < length uses → Changes uses (set uses place n) place (get_or uses place 0) n
+changes_set uses place n within = record {
+  before = slice_get-get_or uses place 0 within;
   after = slice_get-get_or (set uses place n) place 0 (omega (arith, length-set uses place n)) ∙ ap Some (get_or-set_same uses place n 0 within);
   others = λ k other. elim (cases_lt k (length uses)) [
     | inl less ↦ slice_get-get_or (set uses place n) k 0 (omega (arith, length-set uses place n)) ∙ ap Some (get_or-set_other uses place k n 0 other) ∙ sym (slice_get-get_or uses k 0 less)
@@ -125,6 +125,24 @@ module _ (literals : List (Option Table)) (numbers : List RuleId) (symbol : Symb
       none : (count : ℕ) → slice_get new symbol.0 ≡ Some count → 0 < count → ⊥
       none count there some = let same : count ≡ n = cc (is.after) in absurd (omega arith)
 
+-- a use that is not the first, or of what is no literal
+pub live_more : (literals : List (Option Table)) (numbers : List RuleId) (symbol : SymbolId) (uses new : List ℕ) (m : ℕ) (live : List DefId) → Changes uses new symbol.0 m (m + 1)
+    → ((HasLiteral literals symbol.0 × (slice_get new symbol.0 ≡ Some 1)) → ⊥) → ListsDefinitions (IsLiveBy literals uses numbers) live → ListsDefinitions (IsLiveBy literals new numbers) live
+live_more literals numbers symbol uses new m live is other lists = live_stays literals numbers symbol uses new m (m + 1) live is (λ has. (some has (cases_eq m 0), omega arith)) lists
+  where
+    some : HasLiteral literals symbol.0 → (m ≡ 0) ⊎ (m ≡ 0 → ⊥) → 0 < m
+    some has (inl e) = absurd (other (has, is.after ∙ ap (λ n. Some (n + 1)) e))
+    some has (inr e) = omega (arith, e)
+
+-- and a use that is not the last
+pub live_less : (literals : List (Option Table)) (numbers : List RuleId) (symbol : SymbolId) (uses new : List ℕ) (m : ℕ) (live : List DefId) → Changes uses new symbol.0 m (m - 1) → 0 < m
+    → ((HasLiteral literals symbol.0 × (slice_get new symbol.0 ≡ Some 0)) → ⊥) → ListsDefinitions (IsLiveBy literals uses numbers) live → ListsDefinitions (IsLiveBy literals new numbers) live
+live_less literals numbers symbol uses new m live is used other lists = live_stays literals numbers symbol uses new m (m - 1) live is (λ has. (used, some has (cases_eq (m - 1) 0))) lists
+  where
+    some : HasLiteral literals symbol.0 → (m - 1 ≡ 0) ⊎ (m - 1 ≡ 0 → ⊥) → 0 < m - 1
+    some has (inl e) = absurd (other (has, is.after ∙ ap Some e))
+    some has (inr e) = omega (arith, e)
+
 -- ---- counts along a list
 
 -- the symbol at this place counts once, and no other
@@ -162,22 +180,23 @@ pub taken_more : (old now new : Option ℕ) (a b c : ℕ) → c ≡ a + b → no
 taken_more None now new a b c sum is more = rw (more, is) refl
 taken_more (Some m) now new a b c sum is more = rw (more, is) (ap Some (omega arith))
 
--- one count falls by one
-pub one_less : (uses : List ℕ) (symbol : SymbolId) (m : ℕ) → symbol.0 < length uses → m ≡ get_or uses symbol.0 m → (place : ℕ)
-    → slice_get (set uses symbol.0 (m - 1)) place ≡ option_map (λ n. n - occurrences (record { 0 = place }) (symbol ∷ [])) (slice_get uses place)
-one_less uses symbol m within m-is place =
-    let is = changes_set uses symbol.0 m (m - 1) within m-is in
+-- one count changes by one
+pub one_count : (f : ℕ → ℕ → ℕ) → ((n : ℕ) → f n 0 ≡ n) → (uses : List ℕ) (symbol : SymbolId) → symbol.0 < length uses → (place : ℕ)
+    → slice_get (set uses symbol.0 (f (get_or uses symbol.0 0) 1)) place ≡ option_map (λ n. f n (occurrences (record { 0 = place }) (symbol ∷ []))) (slice_get uses place)
+one_count f none uses symbol within place =
+    let m = get_or uses symbol.0 0 in
+    let is = changes_set uses symbol.0 (f m 1) within in
     elim (cases_eq symbol.0 place) [
       | inl e ↦
           let old : slice_get uses place ≡ Some m = subst (λ p. slice_get uses p ≡ Some m) e is.before in
-          let new : slice_get (set uses symbol.0 (m - 1)) place ≡ Some (m - 1) = subst (λ p. slice_get (set uses symbol.0 (m - 1)) p ≡ Some (m - 1)) e is.after in
-          new ∙ sym (ap (option_map (λ n. n - occurrences (record { 0 = place }) (symbol ∷ []))) old ∙ ap (λ k. Some (m - k)) (counted_one symbol place e))
+          let new : slice_get (set uses symbol.0 (f m 1)) place ≡ Some (f m 1) = subst (λ p. slice_get (set uses symbol.0 (f m 1)) p ≡ Some (f m 1)) e is.after in
+          new ∙ sym (ap (option_map (λ n. f n (occurrences (record { 0 = place }) (symbol ∷ [])))) old ∙ ap (λ k. Some (f m k)) (counted_one symbol place e))
       | inr other ↦ is.others place (λ e. other (sym e)) ∙ same (slice_get uses place) (occurrences (record { 0 = place }) (symbol ∷ [])) (counted_other symbol place other)
     ]
   where
-    same : (o : Option ℕ) (k : ℕ) → k ≡ 0 → o ≡ option_map (λ n. n - k) o
+    same : (o : Option ℕ) (k : ℕ) → k ≡ 0 → o ≡ option_map (λ n. f n k) o
     same None k e = refl
-    same (Some n) k e = ap Some (omega arith)
+    same (Some n) k e = ap Some (sym (ap (f n) e ∙ none n))
 
 -- ---- parts of a right side
 

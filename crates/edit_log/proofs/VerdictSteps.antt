@@ -14,7 +14,7 @@ use Rattle.edit_log.specs.declared.refusal.Refusal.{Refusal}
 use Rattle.edit_log.specs.declared.refusal.Refusal.TheVariants.{NameClash, Exists, NoSuch}
 use Rattle.edit_log.specs.History.{Definition, Grammar, has_name}
 use Rattle.edit_log.specs.Verdict.{rule_found, definition_found, is_left, is_taken, fullness, verdict}
-use Rattle.edit_log.specs.declared.named.NamedDefinition.{NamedDefinition}
+use Rattle.edit_log.specs.declared.named_definitions.NamedDefinition.{NamedDefinition}
 use Rattle.edit_log.specs.Replicas.{seen_of, of_kind, adds, drops}
 
 any_find : {X : Type 0} (test : X → Bool) (xs : List X) → list_any test xs ≡ is_some (find test xs)

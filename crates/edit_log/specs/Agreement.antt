@@ -8,7 +8,7 @@ use Rattle.forest.specs.declared.rules.RuleId.{RuleId}
 use Rattle.forest.specs.declared.rules.Rule.{Rule}
 use Rattle.regex_ast.specs.Positions.{Table}
 use Rattle.edit_log.specs.declared.definitions.DefId.{DefId}
-use Rattle.edit_log.specs.declared.named.NamedDefinition.{NamedDefinition}
+use Rattle.edit_log.specs.declared.named_definitions.NamedDefinition.{NamedDefinition}
 use Rattle.edit_log.specs.History.{Grammar}
 use Rattle.edit_log.specs.Facts.{IsWellFormed}
 use Rattle.edit_log.specs.Live.{IsLive}

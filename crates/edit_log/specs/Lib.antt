@@ -1,5 +1,5 @@
-pub mod Entries
-pub mod Refusals
+pub use Rattle.edit_entry.specs.Entries
+pub use Rattle.edit_entry.specs.BadEntries as Refusals
 pub mod Symbols
 pub mod History
 pub mod Live
@@ -11,5 +11,6 @@ pub mod Tokens
 pub mod Replicas
 pub mod Sizes
 pub mod Lists
+pub mod Rows
 pub mod Kept
 pub mod Agreement

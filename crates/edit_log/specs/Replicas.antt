@@ -12,8 +12,8 @@ use Rattle.forest.specs.declared.symbols.SymbolId.{SymbolId}
 use Rattle.regex_ast.specs.Expressions.{Expression}
 use Rattle.regex_ast.specs.Refusals.{SpellsWithinLimits}
 use Rattle.regex_ast.specs.Positions.{Table, ArePositionsOf, ArePositionsOfLiteral}
-use Rattle.edit_log.specs.declared.fresh.FreshSymbol.{FreshSymbol}
-use Rattle.edit_log.specs.declared.named.NamedDefinition.{NamedDefinition}
+use Rattle.edit_log.specs.declared.fresh_symbols.FreshSymbol.{FreshSymbol}
+use Rattle.edit_log.specs.declared.named_definitions.NamedDefinition.{NamedDefinition}
 use Rattle.edit_log.specs.declared.ready.Ready.{Ready}
 use Rattle.edit_log.specs.declared.ready.Plan.{Plan}
 use Rattle.edit_log.specs.declared.ready.Plan.TheVariants as plan
@@ -25,9 +25,7 @@ use Rattle.edit_log.specs.Touches.{IsTouchOf}
 -- for how many more there is memory: of each kind of thing, and of rules under each left side
 pub record Room : Type 0 where
   pub symbols : ℕ
-  pub lefts : ℕ
-  pub uses : ℕ
-  pub literals : ℕ
+  pub rows : ℕ
   pub live : ℕ
   pub rules : ℕ
   pub rule_numbers : ℕ
@@ -47,9 +45,7 @@ room_of list = vec_capacity list - vec_len list
 -- the first room is at most the second
 pub record IsNoMoreThan (old new : Room) : Type 0 where
   pub symbols : old.symbols ≤ new.symbols
-  pub lefts : old.lefts ≤ new.lefts
-  pub uses : old.uses ≤ new.uses
-  pub literals : old.literals ≤ new.literals
+  pub rows : old.rows ≤ new.rows
   pub live : old.live ≤ new.live
   pub rules : old.rules ≤ new.rules
   pub rule_numbers : old.rule_numbers ≤ new.rule_numbers
@@ -61,9 +57,7 @@ pub record IsNoMoreThan (old new : Room) : Type 0 where
 -- any edit brings at most 17 symbols, 17 definitions, and one rule or one token or skip
 pub record HasRoom (room : Room) : Type 0 where
   pub symbols : 17 ≤ room.symbols
-  pub lefts : 17 ≤ room.lefts
-  pub uses : 17 ≤ room.uses
-  pub literals : 17 ≤ room.literals
+  pub rows : 17 ≤ room.rows
   pub live : 17 ≤ room.live
   pub rules : 1 ≤ room.rules
   pub rule_numbers : 1 ≤ room.rule_numbers

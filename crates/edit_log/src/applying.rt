@@ -10,11 +10,10 @@ use crate::definitions::DefId;
 use crate::grammar::Grammar;
 use crate::lefts::{drop_left, push_left};
 use crate::live;
-use crate::named::drop_definition;
-use crate::numbers::set_number;
+use crate::live_numbers::set_number;
+use crate::named_definitions::drop_definition;
 use crate::ready::{NewDefinition, NewRule, OldDefinition, OldRule, Plan, Ready};
 use crate::rules::{no_rules, with_rule, without_rule};
-use crate::symbols::add_symbols;
 use crate::uses::{add_uses, drop_uses};
 use std::mem;
 
@@ -25,20 +24,9 @@ impl Grammar {
     {
         let NewRule { text, live, fresh } = plan;
         let number = live.number;
-        add_symbols(
-            &mut self.symbols,
-            &mut self.lefts,
-            &mut self.uses,
-            &mut self.literals,
-            fresh,
-        );
-        push_left(&mut self.lefts, live.left, number);
-        add_uses(
-            &mut self.uses,
-            &mut self.live,
-            &self.literals,
-            live.right.as_slice(),
-        );
+        self.table.add_symbols(fresh);
+        push_left(&mut self.table.rows, live.left, number);
+        add_uses(&mut self.table.rows, &mut self.live, live.right.as_slice());
         set_number(&mut self.rule_numbers, text, Some(number));
         let rules = mem::replace(&mut self.rules, no_rules(self.alloc));
         self.rules = with_rule(rules, &mut self.spare_rules, live);
@@ -54,13 +42,8 @@ impl Grammar {
         let (rules, gone) = without_rule(rules, number);
         self.rules = rules;
         let Some(gone) = gone else { unreachable!() };
-        drop_left(&mut self.lefts, gone.left, number);
-        drop_uses(
-            &mut self.uses,
-            &mut self.live,
-            &self.literals,
-            gone.right.as_slice(),
-        );
+        drop_left(&mut self.table.rows, gone.left, number);
+        drop_uses(&mut self.table.rows, &mut self.live, gone.right.as_slice());
         set_number(&mut self.rule_numbers, text, None);
         self.version += 1;
     }
@@ -71,13 +54,7 @@ impl Grammar {
     {
         let NewDefinition { name, live, fresh } = plan;
         let number = live.number;
-        add_symbols(
-            &mut self.symbols,
-            &mut self.lefts,
-            &mut self.uses,
-            &mut self.literals,
-            fresh,
-        );
+        self.table.add_symbols(fresh);
         self.definitions.push_reserved(live);
         set_number(&mut self.definition_numbers, name, Some(number));
         live::insert(&mut self.live, DefId::Named(number));

@@ -4,70 +4,52 @@ ghost use Rattle.std.specs.Prelude.{◌≡◌, ◌+◌, ◌≤◌, ◌↔◌, �
 ghost use Rattle.grammar_text.specs.declared.edit.Edit.{Edit as AnEdit};
 ghost use Rattle.grammar_text.specs.declared.edit.Edit.TheVariants as edit;
 ghost use Rattle.edit_log.specs.declared.ready.Ready.{Ready as IsReady};
-ghost use Rattle.edit_log.specs.Entries.{entry_of};
+ghost use Rattle.edit_entry.specs.Entries.{entry_of};
 ghost use Rattle.edit_log.specs.Replicas.{IsReadyFor, IsPlanFor, IsNoMoreThan, HasRoom, HasRoomAt, symbols_in, adds, drops};
 ghost use Rattle.std.specs.List.{list_any};
 ghost use Rattle.edit_log.specs.Live.{is_literal};
 ghost use Rattle.edit_log.specs.Lists.{Wakes};
+ghost use Rattle.edit_log.specs.Rows.{uses_in, literals_in};
 ghost use Rattle.edit_log.specs.Touches.{IsTouchOf};
 ghost use Rattle.edit_log.specs.Verdict.{IsAccepted};
 
 use crate::NoMemory;
-use crate::decoding::decode;
 use crate::definitions::{DefId, DefIds};
-use crate::entry::Entry;
-use crate::fresh::{FreshSymbol, has_literal, number_in, rule_in};
+use crate::fresh_symbols::{FreshSymbol, has_literal, number_in, rule_in};
 use crate::grammar::Grammar;
-use crate::named::named;
-use crate::numbers::live_number;
+use crate::live_numbers::live_number;
+use crate::named_definitions::named;
 use crate::ready::{NewDefinition, NewRule, OldDefinition, OldRule, Plan, Ready};
 use crate::rules::rule_of;
+use crate::symbol_table::Row;
 use crate::touch::Touch;
 use crate::uses::{ended, wakes};
+use edit_entry::{Entry, read_entry};
 use forest::{RuleId, SymbolId};
 use grammar_text::{DefText, Edit, Name, RuleText, Symbol};
-use regex_ast::Positions;
 use std::alloc::AllocError;
 
 /// The most symbols, or definitions, that one edit brings.
 const MOST_NEW: usize = 17;
 
 /// Whether a rule with this right side, once it is added with these fresh symbols, makes a literal live.
-fn makes_live(
-    fresh: &[FreshSymbol],
-    uses: &[u32],
-    literals: &[Option<Positions>],
-    right: &[SymbolId],
-) -> bool
-    requires { length literals.now ≡ length uses.now }
-    ensures { IsTrue result ↔ (IsTrue (list_any is_literal (symbols_in fresh.now)) ⊎ Wakes literals.now uses.now right.now) }
+fn makes_live(fresh: &[FreshSymbol], rows: &[Row], right: &[SymbolId]) -> bool
+    ensures { IsTrue result ↔ (IsTrue (list_any is_literal (symbols_in fresh.now)) ⊎ Wakes (literals_in rows.now) (uses_in rows.now) right.now) }
 {
     if has_literal(fresh) {
         return true;
     }
-    wakes(uses, literals, right)
+    wakes(rows, right)
 }
 
 impl Grammar {
-    /// Takes memory for the symbols that an edit may bring.
-    fn reserve_symbols(&mut self) -> Result<(), AllocError>
-        ensures grammar { self.new.grammar ≡ self.old.grammar }
-        ensures grows { IsNoMoreThan self.old.room self.new.room }
-        ensures room { OnOk result ((17 ≤ self.new.room.symbols) × (17 ≤ self.new.room.lefts) × (17 ≤ self.new.room.uses) × (17 ≤ self.new.room.literals)) }
-    {
-        self.symbols.reserve(MOST_NEW)?;
-        self.lefts.reserve(MOST_NEW)?;
-        self.uses.reserve(MOST_NEW)?;
-        self.literals.reserve(MOST_NEW)
-    }
-
     /// Takes memory for what any edit may add.
     fn reserve(&mut self) -> Result<(), AllocError>
         ensures grammar { self.new.grammar ≡ self.old.grammar }
         ensures grows { IsNoMoreThan self.old.room self.new.room }
         ensures room { OnOk result (HasRoom self.new.room) }
     {
-        self.reserve_symbols()?;
+        self.table.reserve(MOST_NEW)?;
         self.live.reserve(MOST_NEW)?;
         let rules = self.rules.rules.as_slice().len();
         self.spare_rules.reserve(rules + 1)?;
@@ -82,11 +64,7 @@ impl Grammar {
         ensures grows { IsNoMoreThan self.old.room self.new.room }
         ensures room { OnOk result (IfSome (slice_get self.new.room.under left.0) (λ count. 1 ≤ count)) }
     {
-        let place = left.0 as usize;
-        if place < self.lefts.len() {
-            self.lefts[place].reserve(1)?;
-        }
-        Ok(())
+        self.table.reserve_rule(left)
     }
 
     /// Takes memory for a rule under the left side that an edit touches.
@@ -117,7 +95,7 @@ impl Grammar {
         let mut fresh = Vec::new(self.alloc);
         let live = rule_in(
             self.alloc,
-            &self.symbols,
+            &self.table.symbols,
             &mut fresh,
             self.next_number(),
             &text,
@@ -125,7 +103,7 @@ impl Grammar {
         let touch = Touch {
             left: Some(live.left),
             gone_rule: None,
-            scan: makes_live(&fresh, &self.uses, &self.literals, live.right.as_slice()),
+            scan: makes_live(&fresh, &self.table.rows, live.right.as_slice()),
             gone_defs: DefIds::from_vec(Vec::new(self.alloc)),
         };
         Ok(Ready {
@@ -145,12 +123,7 @@ impl Grammar {
         let Some(live) = rule_of(&self.rules, number) else {
             unreachable!()
         };
-        let gone = ended(
-            self.alloc,
-            &self.uses,
-            &self.literals,
-            live.right.as_slice(),
-        )?;
+        let gone = ended(self.alloc, &self.table.rows, live.right.as_slice())?;
         let touch = Touch {
             left: Some(live.left),
             gone_rule: Some(number),
@@ -172,7 +145,7 @@ impl Grammar {
         let mut fresh = Vec::new(self.alloc);
         let symbol = number_in(
             self.alloc,
-            &self.symbols,
+            &self.table.symbols,
             &mut fresh,
             &Symbol::Named(name.clone()?),
         )?;
@@ -234,10 +207,7 @@ impl Grammar {
             → IsAccepted self.old.grammar edit → IsReadyFor self.new edit ready) }
         ensures stays { (edit : AnEdit) (ready : IsReady) → IsReadyFor self.old edit ready → IsReadyFor self.new edit ready }
     {
-        // The entry is that of an edit, so only memory can be missing.
-        let Ok(edit) = decode(self.alloc, &entry.words) else {
-            return Err(AllocError);
-        };
+        let edit = read_entry(self.alloc, &entry.words)?;
         self.reserve()?;
         let ready = self.plan(edit)?;
         self.reserve_touched(&ready.touch)?;

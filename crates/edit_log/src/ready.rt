@@ -5,14 +5,14 @@ ghost use Rattle.grammar_text.specs.declared.edit.Edit.{Edit as AnEdit};
 ghost use Rattle.edit_log.specs.Replicas.{Replica, IsReadyFor};
 ghost use Rattle.edit_log.specs.Touches.{IsTouchOf};
 
-use crate::fresh::FreshSymbol;
-use crate::named::NamedDefinition;
+use crate::fresh_symbols::FreshSymbol;
+use crate::named_definitions::NamedDefinition;
 use crate::touch::Touch;
 use forest::{Rule, RuleId};
 use grammar_text::{Name, RuleText};
 
 /// A rule to add.
-#[derive(Debug, Drop)]
+#[derive(Drop)]
 pub(crate) struct NewRule {
     pub(crate) text: RuleText,
     pub(crate) live: Rule,
@@ -20,14 +20,14 @@ pub(crate) struct NewRule {
 }
 
 /// A rule to drop.
-#[derive(Debug, Drop)]
+#[derive(Drop)]
 pub(crate) struct OldRule {
     pub(crate) text: RuleText,
     pub(crate) number: RuleId,
 }
 
 /// A token or a skip to add.
-#[derive(Debug, Drop)]
+#[derive(Drop)]
 pub(crate) struct NewDefinition {
     pub(crate) name: Name,
     pub(crate) live: NamedDefinition,
@@ -35,14 +35,14 @@ pub(crate) struct NewDefinition {
 }
 
 /// A token or a skip to drop.
-#[derive(Debug, Drop)]
+#[derive(Drop)]
 pub(crate) struct OldDefinition {
     pub(crate) name: Name,
     pub(crate) number: RuleId,
 }
 
 /// What an edit does to a grammar, with the memory for it.
-#[derive(Debug, Drop)]
+#[derive(Drop)]
 pub(crate) enum Plan {
     AddRule(NewRule),
     DropRule(OldRule),
@@ -51,7 +51,7 @@ pub(crate) enum Plan {
 }
 
 /// An edit with all the memory that it needs, for one grammar at one version.
-#[derive(Debug, Drop)]
+#[derive(Drop)]
 pub struct Ready {
     pub(crate) plan: Plan,
     pub(crate) touch: Touch,

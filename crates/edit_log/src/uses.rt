@@ -1,112 +1,130 @@
 //! How often each symbol stands on the right sides of the live rules.
 
-ghost use Rattle.std.specs.Prelude.{◌≡◌, ◌<◌, ◌≤◌, ◌+◌, ◌-◌, ◌^◌, ℕ, List, ◌∷◌, [], ◌↔◌, length, slice_get, Some, option_map, IsTrue, IfOk, vec_len, vec_capacity};
+ghost use Rattle.std.specs.Prelude.{◌≡◌, ◌<◌, ◌≤◌, ◌+◌, ◌-◌, ◌^◌, ℕ, List, ◌∷◌, [], ◌↔◌, length, slice_get, slice_set, Some, option_map, IsTrue, IfOk, vec_len, vec_capacity};
+ghost use Rattle.std.specs.List.{slice_index_or};
 ghost use Rattle.forest.specs.declared.rules.RuleId.{RuleId as ARuleId};
 ghost use Rattle.edit_log.specs.Lookups.{ListsDefinitions};
 ghost use Rattle.edit_log.specs.Lists.{occurrences, IsLiveBy, AreWithin, Wakes, IsLastUse};
-ghost use Rattle.std.specs.List.{slice_index_or};
+ghost use Rattle.edit_log.specs.Rows.{lefts_in, uses_in, literals_in, IsUsed};
 
 use crate::definitions::DefId;
 use crate::live;
+use crate::symbol_table::Row;
 use forest::SymbolId;
-use regex_ast::Positions;
 use std::alloc::{AllocError, Global};
 
-/// Counts one more use of the symbol. The first use of a literal makes it live.
-fn add_use(
-    uses: &mut Vec<u32>,
-    live: &mut Vec<DefId>,
-    literals: &[Option<Positions>],
-    symbol: SymbolId,
-)
-    requires within { symbol.0 < length uses.old.items }
-    requires same { length literals.now ≡ length uses.old.items }
-    requires few { slice_index_or uses.old.items symbol.0 0 + 1 < 2 ^ 32 }
-    requires room { vec_len live.old < vec_capacity live.old }
-    ensures len { length uses.new.items ≡ length uses.old.items }
-    ensures counts { (place : ℕ) → slice_get uses.new.items place ≡ option_map (λ n. n + occurrences (record { 0 = place }) (symbol ∷ [])) (slice_get uses.old.items place) }
-    ensures live { (numbers : List ARuleId) → ListsDefinitions (IsLiveBy literals.now uses.old.items numbers) live.old.items
-        → ListsDefinitions (IsLiveBy literals.now uses.new.items numbers) live.new.items }
-    ensures room { vec_capacity live.old - vec_len live.old ≤ vec_capacity live.new - vec_len live.new + 1 }
+/// Whether the symbol is a literal that stands so often on right sides.
+fn is_used(rows: &[Row], symbol: SymbolId, count: usize) -> bool
+    ensures { IsTrue result ↔ IsUsed rows.now symbol count }
 {
     let place = symbol.0 as usize;
-    if uses[place] == 0 && literals[place].is_some() {
+    if place >= rows.len() {
+        return false;
+    }
+    let row = &rows[place];
+    if row.uses as usize != count {
+        return false;
+    }
+    row.positions.is_some()
+}
+
+/// Counts one more use of the symbol.
+fn count_more(rows: &mut Vec<Row>, symbol: SymbolId)
+    requires within { symbol.0 < length rows.old.items }
+    requires few { slice_index_or (uses_in rows.old.items) symbol.0 0 + 1 < 2 ^ 32 }
+    ensures uses { uses_in rows.new.items ≡ slice_set (uses_in rows.old.items) symbol.0 (slice_index_or (uses_in rows.old.items) symbol.0 0 + 1) }
+    ensures lefts { lefts_in rows.new.items ≡ lefts_in rows.old.items }
+    ensures literals { literals_in rows.new.items ≡ literals_in rows.old.items }
+{
+    rows[symbol.0 as usize].uses += 1;
+}
+
+/// Counts one use of the symbol less.
+fn count_less(rows: &mut Vec<Row>, symbol: SymbolId)
+    requires within { symbol.0 < length rows.old.items }
+    requires some { 0 < slice_index_or (uses_in rows.old.items) symbol.0 0 }
+    ensures uses { uses_in rows.new.items ≡ slice_set (uses_in rows.old.items) symbol.0 (slice_index_or (uses_in rows.old.items) symbol.0 0 - 1) }
+    ensures lefts { lefts_in rows.new.items ≡ lefts_in rows.old.items }
+    ensures literals { literals_in rows.new.items ≡ literals_in rows.old.items }
+{
+    rows[symbol.0 as usize].uses -= 1;
+}
+
+/// Counts one more use of the symbol. The first use of a literal makes it live.
+fn add_use(rows: &mut Vec<Row>, live: &mut Vec<DefId>, symbol: SymbolId)
+    requires within { symbol.0 < length rows.old.items }
+    requires few { slice_index_or (uses_in rows.old.items) symbol.0 0 + 1 < 2 ^ 32 }
+    requires room { vec_len live.old < vec_capacity live.old }
+    ensures lefts { lefts_in rows.new.items ≡ lefts_in rows.old.items }
+    ensures literals { literals_in rows.new.items ≡ literals_in rows.old.items }
+    ensures counts { (place : ℕ) → slice_get (uses_in rows.new.items) place
+        ≡ option_map (λ n. n + occurrences (record { 0 = place }) (symbol ∷ [])) (slice_get (uses_in rows.old.items) place) }
+    ensures live { (numbers : List ARuleId) → ListsDefinitions (IsLiveBy (literals_in rows.old.items) (uses_in rows.old.items) numbers) live.old.items
+        → ListsDefinitions (IsLiveBy (literals_in rows.old.items) (uses_in rows.new.items) numbers) live.new.items }
+    ensures room { vec_capacity live.old - vec_len live.old ≤ vec_capacity live.new - vec_len live.new + 1 }
+{
+    count_more(rows, symbol);
+    if is_used(rows, symbol, 1) {
         live::insert(live, DefId::Literal(symbol));
     }
-    uses[place] += 1;
 }
 
 /// Counts the symbols of a right side that is added.
-pub(crate) fn add_uses(
-    uses: &mut Vec<u32>,
-    live: &mut Vec<DefId>,
-    literals: &[Option<Positions>],
-    right: &[SymbolId],
-)
-    requires within { AreWithin right.now (length uses.old.items) }
-    requires same { length literals.now ≡ length uses.old.items }
-    requires few { (place : ℕ) → slice_index_or uses.old.items place 0 + length right.now < 2 ^ 32 }
+pub(crate) fn add_uses(rows: &mut Vec<Row>, live: &mut Vec<DefId>, right: &[SymbolId])
+    requires within { AreWithin right.now (length rows.old.items) }
+    requires few { (place : ℕ) → slice_index_or (uses_in rows.old.items) place 0 + length right.now < 2 ^ 32 }
     requires room { length right.now ≤ vec_capacity live.old - vec_len live.old }
-    ensures len { length uses.new.items ≡ length uses.old.items }
-    ensures counts { (place : ℕ) → slice_get uses.new.items place ≡ option_map (λ n. n + occurrences (record { 0 = place }) right.now) (slice_get uses.old.items place) }
-    ensures live { (numbers : List ARuleId) → ListsDefinitions (IsLiveBy literals.now uses.old.items numbers) live.old.items
-        → ListsDefinitions (IsLiveBy literals.now uses.new.items numbers) live.new.items }
+    ensures lefts { lefts_in rows.new.items ≡ lefts_in rows.old.items }
+    ensures literals { literals_in rows.new.items ≡ literals_in rows.old.items }
+    ensures counts { (place : ℕ) → slice_get (uses_in rows.new.items) place
+        ≡ option_map (λ n. n + occurrences (record { 0 = place }) right.now) (slice_get (uses_in rows.old.items) place) }
+    ensures live { (numbers : List ARuleId) → ListsDefinitions (IsLiveBy (literals_in rows.old.items) (uses_in rows.old.items) numbers) live.old.items
+        → ListsDefinitions (IsLiveBy (literals_in rows.old.items) (uses_in rows.new.items) numbers) live.new.items }
 {
     for part in right {
-        add_use(uses, live, literals, *part);
+        add_use(rows, live, *part);
     }
 }
 
 /// Counts one use of the symbol less. A literal without a use is no longer live.
-fn drop_use(
-    uses: &mut Vec<u32>,
-    live: &mut Vec<DefId>,
-    literals: &[Option<Positions>],
-    symbol: SymbolId,
-)
-    requires within { symbol.0 < length uses.old.items }
-    requires same { length literals.now ≡ length uses.old.items }
-    requires some { 0 < slice_index_or uses.old.items symbol.0 0 }
-    ensures len { length uses.new.items ≡ length uses.old.items }
-    ensures counts { (place : ℕ) → slice_get uses.new.items place ≡ option_map (λ n. n - occurrences (record { 0 = place }) (symbol ∷ [])) (slice_get uses.old.items place) }
-    ensures live { (numbers : List ARuleId) → ListsDefinitions (IsLiveBy literals.now uses.old.items numbers) live.old.items
-        → ListsDefinitions (IsLiveBy literals.now uses.new.items numbers) live.new.items }
+fn drop_use(rows: &mut Vec<Row>, live: &mut Vec<DefId>, symbol: SymbolId)
+    requires within { symbol.0 < length rows.old.items }
+    requires some { 0 < slice_index_or (uses_in rows.old.items) symbol.0 0 }
+    ensures lefts { lefts_in rows.new.items ≡ lefts_in rows.old.items }
+    ensures literals { literals_in rows.new.items ≡ literals_in rows.old.items }
+    ensures counts { (place : ℕ) → slice_get (uses_in rows.new.items) place
+        ≡ option_map (λ n. n - occurrences (record { 0 = place }) (symbol ∷ [])) (slice_get (uses_in rows.old.items) place) }
+    ensures live { (numbers : List ARuleId) → ListsDefinitions (IsLiveBy (literals_in rows.old.items) (uses_in rows.old.items) numbers) live.old.items
+        → ListsDefinitions (IsLiveBy (literals_in rows.old.items) (uses_in rows.new.items) numbers) live.new.items }
 {
-    let place = symbol.0 as usize;
-    uses[place] -= 1;
-    if uses[place] == 0 && literals[place].is_some() {
+    count_less(rows, symbol);
+    if is_used(rows, symbol, 0) {
         live::remove(live, DefId::Literal(symbol));
     }
 }
 
 /// Counts the symbols of a right side that is dropped.
-pub(crate) fn drop_uses(
-    uses: &mut Vec<u32>,
-    live: &mut Vec<DefId>,
-    literals: &[Option<Positions>],
-    right: &[SymbolId],
-)
-    requires within { AreWithin right.now (length uses.old.items) }
-    requires same { length literals.now ≡ length uses.old.items }
-    requires some { (place count : ℕ) → slice_get uses.old.items place ≡ Some count → occurrences (record { 0 = place }) right.now ≤ count }
-    ensures len { length uses.new.items ≡ length uses.old.items }
-    ensures counts { (place : ℕ) → slice_get uses.new.items place ≡ option_map (λ n. n - occurrences (record { 0 = place }) right.now) (slice_get uses.old.items place) }
-    ensures live { (numbers : List ARuleId) → ListsDefinitions (IsLiveBy literals.now uses.old.items numbers) live.old.items
-        → ListsDefinitions (IsLiveBy literals.now uses.new.items numbers) live.new.items }
+pub(crate) fn drop_uses(rows: &mut Vec<Row>, live: &mut Vec<DefId>, right: &[SymbolId])
+    requires within { AreWithin right.now (length rows.old.items) }
+    requires some { (place count : ℕ) → slice_get (uses_in rows.old.items) place ≡ Some count → occurrences (record { 0 = place }) right.now ≤ count }
+    ensures lefts { lefts_in rows.new.items ≡ lefts_in rows.old.items }
+    ensures literals { literals_in rows.new.items ≡ literals_in rows.old.items }
+    ensures counts { (place : ℕ) → slice_get (uses_in rows.new.items) place
+        ≡ option_map (λ n. n - occurrences (record { 0 = place }) right.now) (slice_get (uses_in rows.old.items) place) }
+    ensures live { (numbers : List ARuleId) → ListsDefinitions (IsLiveBy (literals_in rows.old.items) (uses_in rows.old.items) numbers) live.old.items
+        → ListsDefinitions (IsLiveBy (literals_in rows.old.items) (uses_in rows.new.items) numbers) live.new.items }
 {
     for part in right {
-        drop_use(uses, live, literals, *part);
+        drop_use(rows, live, *part);
     }
 }
 
 /// Whether a rule with this right side, once it is added, makes a literal live that has a number already.
-pub(crate) fn wakes(uses: &[u32], literals: &[Option<Positions>], right: &[SymbolId]) -> bool
-    requires { length literals.now ≡ length uses.now }
-    ensures { IsTrue result ↔ Wakes literals.now uses.now right.now }
+pub(crate) fn wakes(rows: &[Row], right: &[SymbolId]) -> bool
+    ensures { IsTrue result ↔ Wakes (literals_in rows.now) (uses_in rows.now) right.now }
 {
     for part in right {
-        let place = part.0 as usize;
-        if place < uses.len() && uses[place] == 0 && literals[place].is_some() {
+        if is_used(rows, *part, 0) {
             return true;
         }
     }
@@ -130,18 +148,14 @@ fn occurrences(symbol: SymbolId, parts: &[SymbolId]) -> usize
 /// The literals that are no longer live once a rule with this right side is dropped.
 pub(crate) fn ended(
     alloc: Global,
-    uses: &[u32],
-    literals: &[Option<Positions>],
+    rows: &[Row],
     right: &[SymbolId],
 ) -> Result<Vec<DefId>, AllocError>
-    requires same { length literals.now ≡ length uses.now }
-    requires within { AreWithin right.now (length uses.now) }
-    ensures { IfOk result (λ gone. ListsDefinitions (IsLastUse literals.now uses.now right.now) gone.items) }
+    ensures { IfOk result (λ gone. ListsDefinitions (IsLastUse (literals_in rows.now) (uses_in rows.now) right.now) gone.items) }
 {
     let mut gone = Vec::with_capacity(alloc, right.len())?;
     for part in right {
-        let place = part.0 as usize;
-        if literals[place].is_some() && uses[place] as usize == occurrences(*part, right) {
+        if is_used(rows, *part, occurrences(*part, right)) {
             live::insert(&mut gone, DefId::Literal(*part));
         }
     }

@@ -2,18 +2,17 @@
 
 ghost use Rattle.std.specs.Prelude.{◌≡◌, ◌⊎◌, None, Some, Bool, find, option_map, IfOk, IfErr, OnOk};
 ghost use Rattle.grammar_text.specs.declared.edit.Edit.TheVariants as edit;
-ghost use Rattle.edit_log.specs.Entries.{entry_of};
+ghost use Rattle.edit_entry.specs.Entries.{entry_of};
 ghost use Rattle.edit_log.specs.History.{has_name};
 ghost use Rattle.edit_log.specs.Replicas.{seen_of, of_kind, adds, drops};
 ghost use Rattle.edit_log.specs.Verdict.{IsProper, IsAccepted, verdict, rule_found, definition_found, is_left, fullness};
 
-use crate::encoding::encode;
-use crate::entry::Entry;
 use crate::grammar::Grammar;
 use crate::limits::LOG_LIMIT;
-use crate::named::{NamedDefinition, definition_of};
-use crate::numbers::live_number;
+use crate::live_numbers::live_number;
+use crate::named_definitions::{NamedDefinition, definition_of};
 use crate::refusal::Refusal;
+use edit_entry::{Entry, encode};
 use forest::RuleId;
 use grammar_text::{DefText, Edit, Name, RuleText, Symbol};
 use std::alloc::{AllocError, Global};
@@ -42,8 +41,8 @@ impl Grammar {
         ensures { IfOk result (λ answer. answer ≡ is_left self.now.grammar name.now) }
     {
         let symbol = Symbol::Named(name.clone()?);
-        match self.symbols.get_index_of(&symbol) {
-            Some(place) => Ok(!self.lefts[place].is_empty()),
+        match self.table.symbols.get_index_of(&symbol) {
+            Some(place) => Ok(!self.table.rows[place].rules.is_empty()),
             None => Ok(false),
         }
     }

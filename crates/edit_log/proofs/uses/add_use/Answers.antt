@@ -1,24 +1,35 @@
-use Rattle.std.proofs.Common.{◌+◌, sym, ◌∙◌, arith}
-use Rattle.edit_log.proofs.UseLists.{changes_set, live_started, live_stays, has_literal, no_literal}
+use Rattle.std.proofs.Common.{◌≡◌, ◌+◌, ◌<◌, ℕ, List, get_or, slice_get, Option, Some, true, false, sym, ap, ◌∙◌, refl, subst, arith}
+use Rattle.regex_ast.specs.Positions.{Table}
+use Rattle.edit_log.specs.declared.symbol_table.Row.{Row}
+use Rattle.edit_log.specs.Lists.{HasLiteral}
+use Rattle.edit_log.specs.Rows.{uses_in, literals_in, IsUsed}
+use Rattle.edit_log.proofs.RowLists.{use_changes, use_counts}
+use Rattle.edit_log.proofs.UseLists.{live_started, live_more}
 use Rattle.edit_log.proofs.uses.add_use.Goals as goal
-use Rattle.edit_log.proofs.uses.add_use.Goals.{then-index-eq0+then-is_some, else-index-eq0, else-index-eq0-via-then-index-eq0+else-is_some, else-index-eq0-via-else-index-eq0}
 
-pub returns-clause-live : goal.returns-clause-live
-returns-clause-live c = λ numbers lists.
-    let uses = c.args.uses.now.items in
-    let literals = c.args.literals.now in
+pub returns-then-is_used-clause-counts : goal.returns-then-is_used-clause-counts
+returns-then-is_used-clause-counts c = use_counts (λ (n k : ℕ). n + k) (λ n. omega arith) c.args.rows.now.items (uses_in c.count_more.new.rows.items) c.args.symbol c.requires.within c.count_more.ensures.uses
+
+pub returns-else-is_used-clause-counts : goal.returns-else-is_used-clause-counts
+returns-else-is_used-clause-counts c = use_counts (λ (n k : ℕ). n + k) (λ n. omega arith) c.args.rows.now.items (uses_in c.count_more.new.rows.items) c.args.symbol c.requires.within c.count_more.ensures.uses
+
+pub returns-then-is_used-clause-live : goal.returns-then-is_used-clause-live
+returns-then-is_used-clause-live c = λ numbers lists.
+    let rows = c.args.rows.now.items in
     let place = c.args.symbol.0 in
-    let new = c.index_mut.result.now + 1 in
-    let changes = changes_set uses place c.index.result.now new c.requires.within c.index.ensures in
-    elim c.if-index-eq0.branch [
-      | then-index-eq0+then-is_some w ↦
-          let has = has_literal literals place w.index-literals-place.result (omega arith) w.index-literals-place.is (sym w.is_some.ensures ∙ w.if-is_some.true) in
-          rw w.live-is (live_started literals numbers c.args.symbol uses _ c.index.result.now new c.args.live.now.items w.insert.new.live.items changes has (omega arith) lists (w.insert.ensures.live lists.order))
-      | else-index-eq0 w ↦ rw w.live-is (elim w.else-index-eq0.branch [
-        | else-index-eq0-via-then-index-eq0+else-is_some v ↦
-            let none = no_literal literals place v.index-literals-place.result v.index-literals-place.is (sym v.is_some.ensures ∙ v.if-is_some.false) in
-            live_stays literals numbers c.args.symbol uses _ c.index.result.now new c.args.live.now.items changes (λ has. absurd (none has)) lists
-        | else-index-eq0-via-else-index-eq0 v ↦
-            live_stays literals numbers c.args.symbol uses _ c.index.result.now new c.args.live.now.items changes (λ has. (omega (arith, v.if-index-eq0.false), omega arith)) lists
-      ])
-    ]
+    let m = get_or (uses_in rows) place 0 in
+    let new = uses_in c.count_more.new.rows.items in
+    let changes = use_changes rows new c.args.symbol (m + 1) c.requires.within c.count_more.ensures.uses in
+    let used : IsUsed c.count_more.new.rows.items c.args.symbol 1 = subst (λ (rs : List Row). IsUsed rs c.args.symbol 1) c.deref.ensures.value (c.is_used.ensures.0 c.if-is_used.true) in
+    let has : HasLiteral (literals_in rows) place = subst (λ (ls : List (Option Table)). HasLiteral ls place) c.count_more.ensures.literals used.0 in
+    live_started (literals_in rows) numbers c.args.symbol (uses_in rows) new m (m + 1) c.args.live.now.items c.insert.new.live.items changes has (omega arith) lists (c.insert.ensures.live lists.order)
+
+pub returns-else-is_used-clause-live : goal.returns-else-is_used-clause-live
+returns-else-is_used-clause-live c = λ numbers lists.
+    let rows = c.args.rows.now.items in
+    let place = c.args.symbol.0 in
+    let m = get_or (uses_in rows) place 0 in
+    let new = uses_in c.count_more.new.rows.items in
+    let changes = use_changes rows new c.args.symbol (m + 1) c.requires.within c.count_more.ensures.uses in
+    live_more (literals_in rows) numbers c.args.symbol (uses_in rows) new m c.args.live.now.items changes
+    (λ (has, at). let used = c.is_used.ensures.1 (subst (λ (rs : List Row). IsUsed rs c.args.symbol 1) (sym c.deref.ensures.value) (subst (λ (ls : List (Option Table)). HasLiteral ls place) (sym c.count_more.ensures.literals) has, at)) in absurd (let never : false ≡ true = sym c.if-is_used.false ∙ used in cc)) lists

@@ -16,7 +16,7 @@ use Rattle.edit_log.proofs.grammar.Grammar.plan_definition.Goals as goal
 
 pub returns-clause-plan : goal.returns-clause-plan
 returns-clause-plan c =
-    let g : Grammar = grammar_in c.self.inside.version c.self.inside.symbols.keys c.self.inside.rules.rules c.self.inside.definitions.items in
+    let g : Grammar = grammar_in c.self.inside.version c.self.inside.table.symbols.keys c.self.inside.rules.rules c.self.inside.definitions.items in
     let grown : g.symbols ++ symbols_in c.number_in.new.fresh.items ≡ with_symbol g.symbols (Named c.args.definition.name) =
     c.in_ok-symbol.ensures.grown ∙ ap (λ fs. with_symbol (g.symbols ++ symbols_in fs) (Named c.in_ok-clone.field-0)) c.new-fresh.ensures.items ∙ ap (λ ss. with_symbol ss (Named c.in_ok-clone.field-0)) (append-nil g.symbols) ∙ ap (λ n. with_symbol g.symbols (Named n)) c.in_ok-clone.ensures.cases in
     let each : AllByRecursion IsFresh c.number_in.new.fresh.items = c.number_in.ensures.fresh (subst (AllByRecursion IsFresh) (sym c.new-fresh.ensures.items) tt) in
@@ -27,7 +27,7 @@ returns-clause-plan c =
 
 pub returns-clause-touch : goal.returns-clause-touch
 returns-clause-touch c =
-    let g : Grammar = grammar_in c.self.inside.version c.self.inside.symbols.keys c.self.inside.rules.rules c.self.inside.definitions.items in
+    let g : Grammar = grammar_in c.self.inside.version c.self.inside.table.symbols.keys c.self.inside.rules.rules c.self.inside.definitions.items in
     let accepted : IsAccepted g (adds c.args.is_skip c.args.definition) = subst (λ (r : Replica). IsAccepted r.grammar (adds c.args.is_skip c.args.definition)) (sym c.self.view_is) c.requires in
     subst (λ (r : Replica). IsTouchOf r.grammar (adds c.args.is_skip c.args.definition) (record { left = None; gone_rule = None; scan = true; gone_defs = c.from_vec.result })) c.self.view_is
     (touch_definition_added g c.args.is_skip c.args.definition (record { left = None; gone_rule = None; scan = true; gone_defs = c.from_vec.result }) c.self.invariant.well_formed accepted refl refl refl (c.from_vec.ensures ∙ c.new.ensures.items))

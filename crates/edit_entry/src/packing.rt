@@ -1,0 +1,58 @@
+//! Bytes into words.
+
+ghost use Rattle.std.specs.Prelude.{◌≡◌, ◌<◌, ◌≤◌, ◌+◌, ◌++◌, ◌∷◌, [], length};
+ghost use Rattle.grammar_text.specs.declared.limits.TheConstants.{EDIT_LIMIT};
+ghost use Rattle.edit_entry.specs.Entries.{words_for};
+
+use std::marker::Model;
+
+/// The words of a text that grows byte by byte. A contract sees the text.
+#[derive(Drop)]
+pub(crate) struct Packer {
+    words: [u64; 32],
+}
+
+impl Model for Packer {
+    ghost use Rattle.std.specs.Prelude.{◌≡◌, List, ℕ};
+    ghost use Rattle.edit_entry.specs.Entries.{words_for, text_in};
+
+    ghost Value = { List ℕ };
+
+    ghost view = { λ p. text_in p.words };
+
+    ghost invariant = { λ p. p.words ≡ words_for (text_in p.words) };
+}
+
+impl Packer {
+    pub(crate) fn new() -> Self
+        ensures { result ≡ [] }
+    {
+        Packer { words: [0; 32] }
+    }
+
+    pub(crate) fn push(&mut self, byte: u8)
+        requires { length self.old < EDIT_LIMIT }
+        ensures { self.new ≡ self.old ++ byte ∷ [] }
+    {
+        let len = self.words[0];
+        let word = 1 + (len / 8) as usize;
+        self.words[word] |= u64::from(byte) << (len % 8 * 8);
+        self.words[0] = len + 1;
+    }
+
+    pub(crate) fn push_all(&mut self, bytes: &[u8])
+        requires { length self.old + length bytes.now ≤ EDIT_LIMIT }
+        ensures { self.new ≡ self.old ++ bytes.now }
+    {
+        for byte in bytes {
+            self.push(*byte);
+        }
+    }
+
+    /// The words of the text.
+    pub(crate) fn into_words(self) -> [u64; 32]
+        ensures { result ≡ words_for self }
+    {
+        self.words
+    }
+}

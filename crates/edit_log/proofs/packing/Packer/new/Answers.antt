@@ -1,7 +1,0 @@
-use Rattle.std.proofs.Common.{refl}
-use Rattle.edit_log.specs.Entries.{words_of, words_for}
-use Rattle.edit_log.proofs.packing.Packer.new.Goals as goal
-
-pub invariant_of-result : goal.invariant_of-result
-unfolding words_for words_of
-invariant_of-result c = refl
