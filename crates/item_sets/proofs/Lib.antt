@@ -1,0 +1,5 @@
+pub mod Chains
+pub mod Numbering
+pub mod Kernels
+pub mod ExpansionLaws
+pub mod MoveSearches
