@@ -3,3 +3,7 @@ pub mod Numbering
 pub mod Kernels
 pub mod ExpansionLaws
 pub mod MoveSearches
+pub mod DistinctLists
+pub mod Groups
+pub mod Walks
+pub mod Positions

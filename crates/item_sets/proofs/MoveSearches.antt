@@ -1,5 +1,6 @@
 -- What a binary search among moves finds.
 use Rattle.std.proofs.Common.{◌≡◌, ℕ, ◌↔◌, List, [], length, get_or, refl, sym, ◌∙◌, ap, Contains, Result, Ok, Err, IsTrue}
+use Rattle.std.proofs.lemmas.List.{get_or_default}
 use Rattle.std.proofs.lemmas.Map.Lookups.{exact_unsigned}
 use Rattle.std.specs.List.Sorted.{IsStrictlySortedBy, IsSearchInRange, IsBinarySearchResult}
 use Rattle.std.specs.Ordering.{nat_cmp}
@@ -16,7 +17,7 @@ module _ (moves : List (SymbolId × List Item)) (sorted : IsStrictlySortedBy mov
 
   pub found : (r : Result ℕ ℕ) → IsSearchInRange r (length moves) → IsBinarySearchResult (λ m. nat_cmp m.0.0 x.0) moves r → IsTrue (is_ok r) ↔ ((upper : List Item) × Contains moves (x, upper))
   found (Ok at) range h = (
-    λ t. let upper = (get_or moves at (x, [])).1 in (upper, (at, range, symbol_same (get_or moves at (x, upper)) (h (x, upper)))),
+    λ t. let m = get_or moves at (x, []) in (m.1, (at, range, get_or_default moves at (x, m.1) (x, []) range ∙ symbol_same m (h (x, [])))),
     λ c. refl,
   )
   found (Err at) range h = (

@@ -44,11 +44,11 @@ abbrev pub added_items : List RuleId → List RuleId → List Item
 added_items early numbers = map (λ number. item_at number 0) (filter (λ number. not (list_any (λ other. other.0 == number.0) early)) numbers)
 
 -- these items were met: what stands after their dots, in the order of its first coming, their shifts and their reductions
-pub record IsWalk (rules : List Rule) (items : List Item) (symbols : List SymbolId) (shifts : List Shift) (reductions : List RuleId) : Type 0 where
-  pub distinct : IsDistinct symbols
-  pub symbols : (x : SymbolId) → Contains symbols x ↔ ((item : Item) × Contains items item × (next_of rules item ≡ Some x))
-  pub shifts : shifts ≡ filter_map (shift_of rules) items
-  pub reductions : reductions ≡ filter_map (reduction_of rules) items
+pub record IsWalk (rules : List Rule) (items : List Item) (met : List SymbolId) (past : List Shift) (ended : List RuleId) : Type 0 where
+  pub distinct : IsDistinct met
+  pub symbols : (x : SymbolId) → Contains met x ↔ ((item : Item) × Contains items item × (next_of rules item ≡ Some x))
+  pub shifts : past ≡ filter_map (shift_of rules) items
+  pub reductions : ended ≡ filter_map (reduction_of rules) items
 
 -- the first list begins the second
 pub record Extends {X : Type 0} (old new : List X) : Type 0 where

@@ -3,6 +3,7 @@
 ghost use Rattle.std.specs.Prelude.{◌≡◌, ◌+◌, ◌++◌, ◌≤◌, ◌<◌, length, List, OnOk, IfOk, Contains};
 ghost use Rattle.forest.specs.declared.rules.Rule.{Rule};
 ghost use Rattle.edit_log.specs.Lookups.{numbers_of_left};
+ghost use Rattle.edit_log.specs.Facts.{IsWellFormed};
 ghost use Rattle.item_sets.specs.declared.item.Item.{Item};
 ghost use Rattle.item_sets.specs.Prefixes.{AreItems, IsItem, item_at};
 ghost use Rattle.item_sets.specs.Walks.{early_rules, added_items, IsWalk, Extends, IsClosureOf};
@@ -34,7 +35,8 @@ fn visit_kernel<L: Ledger>(
     kernel: &[Item],
     steps: &mut Steps<L>,
 ) -> Result<(), NoMemory>
-    requires { AreItems grammar.now.grammar.rules kernel.now }
+    requires formed { IsWellFormed grammar.now.grammar }
+    requires items { AreItems grammar.now.grammar.rules kernel.now }
     ensures walk { OnOk result ((items : List Item)
         → IsWalk grammar.now.grammar.rules items walk.old.symbols.keys walk.old.shifts.items walk.old.reductions.items
         → IsWalk grammar.now.grammar.rules (items ++ kernel.now) walk.new.symbols.keys walk.new.shifts.items walk.new.reductions.items) }
@@ -55,6 +57,7 @@ fn visit_rules<L: Ledger>(
     symbol: SymbolId,
     steps: &mut Steps<L>,
 ) -> Result<(), NoMemory>
+    requires { IsWellFormed grammar.now.grammar }
     ensures walk { OnOk result ((items : List Item)
         → IsWalk grammar.now.grammar.rules items walk.old.symbols.keys walk.old.shifts.items walk.old.reductions.items
         → IsWalk grammar.now.grammar.rules (items ++ added_items early.now (numbers_of_left grammar.now.grammar.rules symbol))
@@ -84,7 +87,8 @@ pub(crate) fn closure_of<L: Ledger>(
     kernel: &[Item],
     steps: &mut Steps<L>,
 ) -> Result<Walk, NoMemory>
-    requires { AreItems grammar.now.grammar.rules kernel.now }
+    requires formed { IsWellFormed grammar.now.grammar }
+    requires items { AreItems grammar.now.grammar.rules kernel.now }
     ensures closure { IfOk result (λ walk. (items : List Item) × IsClosureOf grammar.now.grammar.rules kernel.now items
         × IsWalk grammar.now.grammar.rules items walk.symbols.keys walk.shifts.items walk.reductions.items
         × (steps.new ≡ steps.old + length items)) }

@@ -1,6 +1,7 @@
 //! The expansion of a kernel.
 
 ghost use Rattle.std.specs.Prelude.{◌≡◌, ◌+◌, ◌≤◌, ℕ, IfOk, OnOk};
+ghost use Rattle.edit_log.specs.Facts.{IsWellFormed};
 ghost use Rattle.item_sets.specs.Prefixes.{AreItems};
 ghost use Rattle.item_sets.specs.Expansions.{IsExpansionOf, IsCost};
 
@@ -15,6 +16,13 @@ use std::alloc::Global;
 use std::sync::ledger::Ledger;
 use steps::Steps;
 
+/// Each grammar is well-formed. This is told to a contract, and nothing is done.
+fn is_formed(grammar: &Grammar)
+    ensures { IsWellFormed grammar.now.grammar }
+{
+    grammar.version();
+}
+
 /// The expansion of the kernel, with one step taken for each item of its closure.
 pub fn expand<L: Ledger>(
     alloc: Global,
@@ -27,6 +35,7 @@ pub fn expand<L: Ledger>(
     ensures steps { OnOk result ((cost : ℕ) × IsCost grammar.now.grammar.rules kernel.now cost × (steps.new ≡ steps.old + cost)) }
     ensures never_back { steps.old ≤ steps.new }
 {
+    is_formed(grammar);
     let mut walk = closure_of(alloc, grammar, kernel.items(), steps)?;
     walk.shifts.sort_unstable();
     walk.reductions.sort_unstable();

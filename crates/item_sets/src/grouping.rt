@@ -16,14 +16,10 @@ use std::alloc::Global;
 fn run_len(shifts: &[Shift], symbol: SymbolId) -> usize
     ensures { result ≡ length (take_while (λ shift. shift.symbol.0 == symbol.0) shifts.now) }
 {
-    let mut len = 0;
-    for shift in shifts {
-        if shift.symbol != symbol {
-            return len;
-        }
-        len += 1;
-    }
-    len
+    shifts
+        .iter()
+        .take_while(|shift| shift.symbol == symbol)
+        .count()
 }
 
 /// The kernel of the items of these shifts.

@@ -1,6 +1,7 @@
 //! A walk over the items of a closure: each is met once.
 
 ghost use Rattle.std.specs.Prelude.{◌≡◌, ◌+◌, [], ◌∷◌, ◌++◌, List, OnOk, IfOk, Contains};
+ghost use Rattle.edit_log.specs.Facts.{IsWellFormed};
 ghost use Rattle.item_sets.specs.declared.item.Item.{Item};
 ghost use Rattle.item_sets.specs.Prefixes.{IsItem, item_at};
 ghost use Rattle.item_sets.specs.Walks.{next_of, IsWalk, Extends};
@@ -61,7 +62,8 @@ impl Walk {
         item: Item,
         steps: &mut Steps<L>,
     ) -> Result<(), NoMemory>
-        requires { IsItem grammar.now.grammar.rules item }
+        requires formed { IsWellFormed grammar.now.grammar }
+        requires item { IsItem grammar.now.grammar.rules item }
         ensures walk { OnOk result ((items : List Item)
             → IsWalk grammar.now.grammar.rules items self.old.symbols.keys self.old.shifts.items self.old.reductions.items
             → IsWalk grammar.now.grammar.rules (items ++ item ∷ []) self.new.symbols.keys self.new.shifts.items self.new.reductions.items) }
