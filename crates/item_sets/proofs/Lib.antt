@@ -7,3 +7,5 @@ pub mod DistinctLists
 pub mod Groups
 pub mod Walks
 pub mod Positions
+pub mod Added
+pub mod Closures

@@ -16,7 +16,7 @@ use Rattle.item_sets.specs.Prefixes.{rule_zero, item_at, HasRight, whole, live, 
 use Rattle.item_sets.specs.Walks.{next_of}
 use Rattle.item_sets.proofs.Numbering.{IsNumbered, one_right, numbered}
 
-number_same : (a b : RuleId) → a.0 ≡ b.0 → a ≡ b
+pub number_same : (a b : RuleId) → a.0 ≡ b.0 → a ≡ b
 number_same a b e = let f : ℕ → RuleId = λ n. record { 0 = n } in ap f e
 
 module _ (rules : List Rule) (numbers : IsNumbered rules) where

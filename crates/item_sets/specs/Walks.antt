@@ -12,7 +12,7 @@ use Rattle.forest.specs.Distinct.{IsDistinct}
 use Rattle.edit_log.specs.Lookups.{numbers_of_left, rule_of}
 use Rattle.item_sets.specs.declared.item.Item.{Item}
 use Rattle.item_sets.specs.declared.walk.Shift.{Shift}
-use Rattle.item_sets.specs.Orders.{item_cmp}
+use Rattle.item_sets.specs.Orders.{item_cmp, number_eq}
 use Rattle.item_sets.specs.Prefixes.{item_at}
 use Rattle.item_sets.specs.Expansions.{InClosure}
 
@@ -41,7 +41,7 @@ early_rules kernel = map (λ item. item.rule) (filter is_early kernel)
 
 -- those of the rules that do not begin in the kernel, with the dot at 0
 abbrev pub added_items : List RuleId → List RuleId → List Item
-added_items early numbers = map (λ number. item_at number 0) (filter (λ number. not (list_any (λ other. other.0 == number.0) early)) numbers)
+added_items early numbers = map (λ number. item_at number 0) (filter (λ number. not (list_any (number_eq number) early)) numbers)
 
 -- these items were met: what stands after their dots, in the order of its first coming, their shifts and their reductions
 pub record IsWalk (rules : List Rule) (items : List Item) (met : List SymbolId) (past : List Shift) (ended : List RuleId) : Type 0 where

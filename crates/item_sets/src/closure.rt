@@ -1,10 +1,11 @@
 //! The closure of a kernel, by a work list of symbols.
 
 ghost use Rattle.std.specs.Prelude.{◌≡◌, ◌+◌, ◌++◌, ◌≤◌, ◌<◌, length, List, OnOk, IfOk, Contains};
-ghost use Rattle.forest.specs.declared.rules.Rule.{Rule};
+ghost use Rattle.std.specs.List.Sorted.{IsStrictlySortedBy};
 ghost use Rattle.edit_log.specs.Lookups.{numbers_of_left};
 ghost use Rattle.edit_log.specs.Facts.{IsWellFormed};
 ghost use Rattle.item_sets.specs.declared.item.Item.{Item};
+ghost use Rattle.item_sets.specs.Orders.{item_cmp};
 ghost use Rattle.item_sets.specs.Prefixes.{AreItems, IsItem, item_at};
 ghost use Rattle.item_sets.specs.Walks.{early_rules, added_items, IsWalk, Extends, IsClosureOf};
 
@@ -89,6 +90,7 @@ pub(crate) fn closure_of<L: Ledger>(
 ) -> Result<Walk, NoMemory>
     requires formed { IsWellFormed grammar.now.grammar }
     requires items { AreItems grammar.now.grammar.rules kernel.now }
+    requires ascends { IsStrictlySortedBy item_cmp kernel.now }
     ensures closure { IfOk result (λ walk. (items : List Item) × IsClosureOf grammar.now.grammar.rules kernel.now items
         × IsWalk grammar.now.grammar.rules items walk.symbols.keys walk.shifts.items walk.reductions.items
         × (steps.new ≡ steps.old + length items)) }
