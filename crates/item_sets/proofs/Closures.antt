@@ -88,9 +88,9 @@ pub record IsOnTheWay (rules : List Rule) (kernel : List Item) (met : List Symbo
   pub count : length items ≡ taken
 
 -- an item of a closure is an item of the rules
-pub closure_item : {rules : List Rule} {kernel : List Item} → AreItems rules kernel → {item : Item} → InClosure rules (Contains kernel) item → IsItem rules item
-closure_item are (own k) = are _ k
-closure_item are (added {r = r} c n d) = record { right = r.right; has = live d; within = omega arith }
+pub closure_item : (rules : List Rule) (kernel : List Item) → AreItems rules kernel → {item : Item} → InClosure rules (Contains kernel) item → IsItem rules item
+closure_item rules kernel are (own k) = are _ k
+closure_item rules kernel are (added {r = r} c n d) = record { right = r.right; has = live d; within = omega arith }
 
 pub begun : (rules : List Rule) (kernel : List Item) (met : List SymbolId) (past : List Shift) (ended : List RuleId) → IsStrictlySortedBy item_cmp kernel → IsWalk rules kernel met past ended → IsOnTheWay rules kernel met past ended 0 (length kernel)
 begun rules kernel met past ended ascend walk = record {
@@ -107,7 +107,7 @@ begun rules kernel met past ended ascend walk = record {
 module _ (rules : List Rule) (numbers : IsNumbered rules) (kernel : List Item) (are : AreItems rules kernel) where
   module _ (met : List SymbolId) (past : List Shift) (ended : List RuleId) (done taken : ℕ) (way : IsOnTheWay rules kernel met past ended done taken) where
     is_next : (item : Item) (x : SymbolId) → Contains way.items item → next_of rules item ≡ Some x → IsNext rules item x
-    is_next item x c e = next_to rules numbers item x (closure_item are (way.sound item c)) e
+    is_next item x c e = next_to rules numbers item x (closure_item rules kernel are (way.sound item c)) e
 
     -- no more symbols are met than stand in the rules
     pub few : length met ≤ length (universe rules)
@@ -189,3 +189,9 @@ module _ (rules : List Rule) (numbers : IsNumbered rules) (kernel : List Item) (
         ];
         count = length-append way.items (adds rules numbers kernel x) ∙ ap (λ n. n + length (adds rules numbers kernel x)) way.count;
       }
+
+-- ---- one turn of the loop
+
+-- the symbol whose turn it is
+abbrev pub symbol_at : List SymbolId → ℕ → SymbolId
+symbol_at met place = get_or met place (record { 0 = 0 })

@@ -27,6 +27,3 @@ item_equiv = and_equiv (on_equiv (λ (a : Item). a.rule.0) nat_eq_equiv) (on_equ
 
 abbrev pub number_eq : RuleId → RuleId → Bool
 number_eq = on (λ a. a.0) nat_eq
-
-pub number_equiv : IsEquivalence number_eq
-number_equiv = on_equiv (λ (a : RuleId). a.0) nat_eq_equiv

@@ -41,7 +41,7 @@ early_rules kernel = map (λ item. item.rule) (filter is_early kernel)
 
 -- those of the rules that do not begin in the kernel, with the dot at 0
 abbrev pub added_items : List RuleId → List RuleId → List Item
-added_items early numbers = map (λ number. item_at number 0) (filter (λ number. not (list_any (number_eq number) early)) numbers)
+added_items early numbers = map (λ number. item_at number 0) (filter (λ number. not (list_any (λ other. number_eq other number) early)) numbers)
 
 -- these items were met: what stands after their dots, in the order of its first coming, their shifts and their reductions
 pub record IsWalk (rules : List Rule) (items : List Item) (met : List SymbolId) (past : List Shift) (ended : List RuleId) : Type 0 where
