@@ -17,6 +17,7 @@ use Rattle.forest.specs.Distinct.{IsDistinct}
 use Rattle.forest.specs.Orders.{rule_cmp}
 use Rattle.forest.proofs.Ascending.{contains_here, contains_cases}
 use Rattle.forest.proofs.Counting.{at_most}
+use Rattle.edit_log.specs.Lookups.{numbers_of_left}
 use Rattle.edit_log.proofs.PlainLists.{each_contained, contains_at, distinct_places}
 use Rattle.edit_log.proofs.Texts.{slice_get-append}
 use Rattle.item_sets.specs.declared.item.Item.{Item}
@@ -24,7 +25,7 @@ use Rattle.item_sets.specs.declared.walk.Shift.{Shift}
 use Rattle.item_sets.specs.Orders.{item_cmp}
 use Rattle.item_sets.specs.Prefixes.{item_at, HasRight, whole, live, IsItem, AreItems, IsNext}
 use Rattle.item_sets.specs.Expansions.{InClosure, own, added}
-use Rattle.item_sets.specs.Walks.{next_of, IsWalk, Extends, IsClosureOf}
+use Rattle.item_sets.specs.Walks.{next_of, early_rules, added_items, IsWalk, Extends, IsClosureOf}
 use Rattle.item_sets.proofs.DistinctLists.{distinct_append}
 use Rattle.item_sets.proofs.Numbering.{IsNumbered}
 use Rattle.item_sets.proofs.Positions.{next_to, next_from}
@@ -66,6 +67,10 @@ in_universe {rules} d x whole e = elim (contains_cases START [] x (contains_at (
 in_universe {rules} d x (live {r = r} c) e = Contains-append_right (START ∷ []) (flat_map (λ q. q.right) rules) x (in_rights rules r x c (contains_at r.right d x e))
 
 -- ---- the closure grows
+
+-- the symbol whose turn it is
+abbrev pub symbol_at : List SymbolId → ℕ → SymbolId
+symbol_at met place = get_or met place (record { 0 = 0 })
 
 -- an item of a rule whose left side was met at a place before this one
 pub record IsMetBefore (rules : List Rule) (met : List SymbolId) (done : ℕ) (item : Item) : Type 0 where
@@ -161,7 +166,7 @@ module _ (rules : List Rule) (numbers : IsNumbered rules) (kernel : List Item) (
           let here : InClosure rules (Contains kernel) (item_at by.from.rule.number 0) = added (way.sound before there) next by.from.live in
           subst (InClosure rules (Contains kernel)) (is_item item by) here
 
-      pub turned : (past' : List Shift) (ended' : List RuleId) → IsWalk rules all new past' ended' → IsOnTheWay rules kernel new past' ended' (suc done) (taken + length (adds rules numbers kernel x))
+      pub turned : (past' : List Shift) (ended' : List RuleId) → IsWalk rules all new past' ended' → IsOnTheWay rules kernel new past' ended' (done + 1) (taken + length (adds rules numbers kernel x))
       turned past' ended' walk = record {
         items = all;
         walk = walk;
@@ -190,8 +195,10 @@ module _ (rules : List Rule) (numbers : IsNumbered rules) (kernel : List Item) (
         count = length-append way.items (adds rules numbers kernel x) ∙ ap (λ n. n + length (adds rules numbers kernel x)) way.count;
       }
 
--- ---- one turn of the loop
-
--- the symbol whose turn it is
-abbrev pub symbol_at : List SymbolId → ℕ → SymbolId
-symbol_at met place = get_or met place (record { 0 = 0 })
+    -- the same, as the loop does it
+    pub turn : (ascend : IsStrictlySortedBy rule_cmp rules) (early : List RuleId) (shown new : List SymbolId) (past' : List Shift) (ended' : List RuleId) → early ≡ early_rules kernel → shown ≡ met → done < length met → Extends met new
+        → ((items : List Item) → IsWalk rules items met past ended → IsWalk rules (items ++ added_items early (numbers_of_left rules (symbol_at shown done))) new past' ended')
+        → IsOnTheWay rules kernel new past' ended' (done + 1) (taken + length (added_items early (numbers_of_left rules (symbol_at shown done))))
+    turn ascend early shown new past' ended' e f l more walk =
+        let walks = rw (e, f) at (walk way.items way.walk) in
+        rw (e, f) (turned ascend (symbol_at met done) (slice_get-get_or met done (record { 0 = 0 }) l) new more past' ended' walks)
