@@ -39,6 +39,9 @@ behind x shifts = drop (length (run x shifts)) shifts
 abbrev pub item_of : Shift → Item
 item_of shift = shift.item
 
+abbrev pub shift_to : SymbolId → Item → Shift
+shift_to x item = record { symbol = x; item = item }
+
 pub take_run : (x : SymbolId) (shifts : List Shift) → take (length (run x shifts)) shifts ≡ run x shifts
 take_run x [] = refl
 take_run x (s ∷ shifts) = by (is_of x s) (take_run x shifts)
@@ -49,7 +52,7 @@ take_run x (s ∷ shifts) = by (is_of x s) (take_run x shifts)
 
 -- ---- the first group
 
-same_symbol : (a b : SymbolId) → a.0 ≡ b.0 → a ≡ b
+pub same_symbol : (a b : SymbolId) → a.0 ≡ b.0 → a ≡ b
 same_symbol a b e = let f : ℕ → SymbolId = λ n. record { 0 = n } in ap f e
 
 -- the first group is of the first symbol
@@ -93,7 +96,7 @@ equal : (n : ℕ) → nat_cmp n n ≡ Equal
 equal n = sym (nat_cmp_is n n Equal refl)
 
 -- of two shifts of one symbol
-of_items : (s t : Shift) → t.symbol.0 ≡ s.symbol.0 → shift_cmp s t ≡ Less → item_cmp s.item t.item ≡ Less
+pub of_items : (s t : Shift) → t.symbol.0 ≡ s.symbol.0 → shift_cmp s t ≡ Less → item_cmp s.item t.item ≡ Less
 of_items s t e less = rw (e, equal s.symbol.0) at less
 
 run_above : (x : SymbolId) (s : Shift) (shifts : List Shift) → s.symbol.0 ≡ x.0 → AllByRecursion (λ t. shift_cmp s t ≡ Less) shifts → AllByRecursion (λ item. item_cmp s.item item ≡ Less) (map item_of (run x shifts))
@@ -134,3 +137,33 @@ one_group moves new (s ∷ shifts) part rest all n group some e f g h i old =
     let is_group : group ≡ map item_of (run s.symbol (s ∷ shifts)) = h ∙ ap (λ p. map item_of p) is_part in
     let first : grouped (s ∷ shifts) ≡ (s.symbol, group) ∷ grouped rest = rw (is_group, is_rest) (first_group s shifts) in
     rw (i, append_assoc, ← first) old
+
+-- ---- the groups of shifts in order
+
+-- exactly the shifts, by symbol
+pub record AreGroups (shifts : List Shift) (groups : List (SymbolId × List Item)) : Type 0 where
+  pub order : IsStrictlySortedBy move_cmp groups
+  pub ascends : (x : SymbolId) (items : List Item) → Contains groups (x, items) → IsStrictlySortedBy item_cmp items
+  pub some : (x : SymbolId) (items : List Item) → Contains groups (x, items) → (item : Item) × Contains items item
+  pub within : (x : SymbolId) (items : List Item) (item : Item) → Contains groups (x, items) → Contains items item → Contains shifts (shift_to x item)
+  pub whole : (x : SymbolId) (items : List Item) (item : Item) → Contains groups (x, items) → Contains shifts (shift_to x item) → Contains items item
+  pub all : (x : SymbolId) (item : Item) → Contains shifts (shift_to x item) → (items : List Item) × Contains groups (x, items)
+
+-- a shift comes before another of its symbol, or of a later one
+before : (s t : Shift) → shift_cmp s t ≡ Less → s.symbol.0 ≤ t.symbol.0
+before s t e = by (nat_cmp s.symbol.0 t.symbol.0) refl e
+  where
+    by : (o : Ordering) → nat_cmp s.symbol.0 t.symbol.0 ≡ o → ordering_then o (item_cmp s.item t.item) ≡ Less → s.symbol.0 ≤ t.symbol.0
+    by Less f g = let less = nat_cmp_less s.symbol.0 t.symbol.0 f in omega arith
+    by Equal f g = let same : s.symbol.0 ≡ t.symbol.0 = exact_unsigned _ _ f in omega arith
+    by Greater f g = absurd cc
+
+pub less_of : (a b : ℕ) → a < b → nat_cmp a b ≡ Less
+less_of a b l = sym (nat_cmp_is a b Less l)
+
+module _ (s : Shift) (shifts : List Shift) (above : AllByRecursion (λ t. shift_cmp s t ≡ Less) shifts) where
+  -- a group of the later shifts is not of an earlier symbol
+  pub later : (groups : List (SymbolId × List Item)) → AreGroups shifts groups → (x : SymbolId) (items : List Item) → Contains groups (x, items) → s.symbol.0 ≤ x.0
+  later groups g x items c =
+      let (item, there) = g.some x items c in
+      before s (shift_to x item) (each_contained _ shifts (shift_to x item) above (g.within x items item c there))

@@ -9,3 +9,5 @@ pub mod Walks
 pub mod Positions
 pub mod Added
 pub mod Closures
+pub mod Expanded
+pub mod GroupFacts
