@@ -12,19 +12,23 @@ use Rattle.forest.specs.declared.rules.RuleId.{RuleId}
 use Rattle.forest.specs.declared.rules.Rule.{Rule}
 use Rattle.forest.specs.Distinct.{IsDistinct}
 use Rattle.forest.specs.Equality.{symbol_eq, symbol_equiv}
+use Rattle.forest.specs.contracts.rules.RuleIdOrd.TheImpl.Laws.{total-law as number_total, matches_eq-law as number_ties}
+use Rattle.item_sets.specs.contracts.walk.ShiftOrd.TheImpl.Laws.{total-law as shift_total, matches_eq-law as shift_ties}
 use Rattle.item_sets.specs.declared.item.Item.{Item}
+use Rattle.item_sets.specs.declared.expansion.Expansion.{Expansion}
 use Rattle.item_sets.specs.declared.walk.Shift.{Shift}
 use Rattle.item_sets.specs.Orders.{item_cmp, item_eq, item_equiv, move_cmp, reduction_cmp, number_eq}
 use Rattle.item_sets.specs.Prefixes.{item_at, HasRight, IsNext, IsItem, AreItems, IsListOf}
-use Rattle.item_sets.specs.Expansions.{InClosure, InMove, past, IsReduction, IsMoveOf}
-use Rattle.item_sets.specs.Walks.{next_of, shift_of, reduction_of, finished, shift_cmp, grouped, IsClosureOf}
-use Rattle.item_sets.proofs.DistinctLists.{makes, made, distinct_made}
+use Rattle.item_sets.specs.Expansions.{InClosure, InMove, past, IsReduction, IsMoveOf, IsExpansionOf}
+use Rattle.item_sets.specs.Walks.{next_of, shift_of, reduction_of, finished, shift_cmp, grouped, IsWalk, IsClosureOf}
+use Rattle.item_sets.proofs.DistinctLists.{makes, made, distinct_made, strictly}
 use Rattle.item_sets.proofs.Numbering.{IsNumbered, one_right}
 use Rattle.item_sets.proofs.Positions.{number_same, next_to, next_from, end_from, end_to}
 use Rattle.item_sets.proofs.Kernels.{one_list}
 use Rattle.item_sets.proofs.Walks.{symbol_exact}
 use Rattle.item_sets.proofs.Closures.{closure_item}
 use Rattle.item_sets.proofs.Groups.{shift_to, AreGroups}
+use Rattle.item_sets.proofs.GroupFacts.{are_groups}
 
 -- what a shift was made of
 record IsShiftOf (rules : List Rule) (item : Item) (x : SymbolId) (to : Item) : Type 0 where
@@ -153,3 +157,41 @@ number_equiv = on_equiv (λ (k : RuleId). k.0) nat_eq_equiv
 
 pub number_exact : (a b : RuleId) → number_eq a b ≡ true → a ≡ b
 number_exact a b e = number_same a b (eqb-true a.0 b.0 e)
+
+-- ---- the whole
+
+-- the shifts and the ends of a closure
+pub record IsWalked (rules : List Rule) (kernel : List Item) (shifts : List Shift) (ends : List RuleId) : Type 0 where
+  pub items : List Item
+  pub closure : IsClosureOf rules kernel items
+  pub shifts_is : shifts ≡ filter_map (shift_of rules) items
+  pub ends_is : ends ≡ filter_map (reduction_of rules) items
+
+pub walked : {rules : List Rule} {items : List Item} {met : List SymbolId} {shifts : List Shift} {ends : List RuleId} (shown kernel : List Item) → shown ≡ kernel → IsClosureOf rules shown items → IsWalk rules items met shifts ends
+    → IsWalked rules kernel shifts ends
+walked {rules} {items} shown kernel e closure walk = record { items = items; closure = subst (λ (k : List Item). IsClosureOf rules k items) e closure; shifts_is = walk.shifts; ends_is = walk.reductions }
+
+module _ (rules : List Rule) (numbers : IsNumbered rules) (kernel : List Item) (are : AreItems rules kernel) (past : List Shift) (ended : List RuleId) (w : IsWalked rules kernel past ended) where
+  pub shifts_ascend : (shifts : List Shift) → IsPermutation past shifts → IsSorted shift_cmp shifts → IsStrictlySortedBy shift_cmp shifts
+  shifts_ascend shifts moved sorted = strictly shift_total shift_equiv shift_ties shift_exact (filter_map (shift_of rules) w.items) shifts
+      (distinct_shifts rules numbers kernel are w.items w.closure) (subst (λ (p : List Shift). IsPermutation p shifts) w.shifts_is moved) sorted
+
+  pub ends_ascend : (ends : List RuleId) → IsPermutation ended ends → IsSorted reduction_cmp ends → IsStrictlySortedBy reduction_cmp ends
+  ends_ascend ends moved sorted = strictly number_total number_equiv number_ties number_exact (filter_map (reduction_of rules) w.items) ends
+      (distinct_ends rules numbers kernel are w.items w.closure) (subst (λ (p : List RuleId). IsPermutation p ends) w.ends_is moved) sorted
+
+  pub expanded : (shifts : List Shift) (ends : List RuleId) → IsPermutation past shifts → IsSorted shift_cmp shifts → IsPermutation ended ends → IsSorted reduction_cmp ends
+      → (expansion : Expansion) → expansion.moves ≡ grouped shifts → expansion.reductions ≡ ends → IsExpansionOf rules kernel expansion
+  expanded shifts ends moved sorted moved_ends sorted_ends expansion e f =
+      let groups = are_groups shifts (shifts_ascend shifts moved sorted) in
+      let moved_shifts = subst (λ (p : List Shift). IsPermutation p shifts) w.shifts_is moved in
+      let ends_moved = subst (λ (p : List RuleId). IsPermutation p ends) w.ends_is moved_ends in
+      record {
+        move_order = rw e groups.order;
+        moves = rw e (groups_are_moves rules numbers kernel are w.items w.closure shifts (grouped shifts) moved_shifts groups);
+        reduction_order = rw f (ends_ascend ends moved_ends sorted_ends);
+        reductions = rw f (λ k. (
+          λ c. (ends_are_reductions rules numbers kernel are w.items w.closure k).0 (Contains-permutation ends (filter_map (reduction_of rules) w.items) k (IsPermutation-sym _ _ ends_moved) c),
+          λ r. Contains-permutation (filter_map (reduction_of rules) w.items) ends k ends_moved ((ends_are_reductions rules numbers kernel are w.items w.closure k).1 r),
+        ));
+      }

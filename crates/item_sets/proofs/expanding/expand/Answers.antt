@@ -1,33 +1,39 @@
-use Rattle.std.proofs.Common.{◌≡◌, ◌+◌, List, length, rules, refl, sym, ◌∙◌, ap, subst, arith, Contains}
-use Rattle.std.specs.List.{filter_map}
-use Rattle.std.specs.List.Sorted.{IsStrictlySortedBy, IsPermutation}
-use Rattle.forest.specs.contracts.rules.RuleIdOrd.TheImpl.Laws.{total-law as number_total, matches_eq-law as number_ties}
-use Rattle.forest.specs.declared.rules.RuleId.{RuleId}
-use Rattle.item_sets.specs.contracts.walk.ShiftOrd.TheImpl.Laws.{total-law as shift_total, matches_eq-law as shift_ties}
+use Rattle.std.proofs.Common.{List, length, refl, subst, ◌∙◌, ap}
 use Rattle.item_sets.specs.declared.item.Item.{Item}
-use Rattle.item_sets.specs.declared.walk.Shift.{Shift}
-use Rattle.item_sets.specs.Orders.{reduction_cmp}
-use Rattle.item_sets.specs.Walks.{shift_of, reduction_of, shift_cmp, grouped, IsClosureOf}
-use Rattle.item_sets.proofs.DistinctLists.{strictly}
+use Rattle.item_sets.specs.Walks.{grouped, IsClosureOf}
 use Rattle.item_sets.proofs.Numbering.{numbered}
 use Rattle.item_sets.proofs.GroupFacts.{are_groups}
-use Rattle.item_sets.proofs.Expanded.{shift_equiv, shift_exact, number_equiv, number_exact, distinct_shifts, distinct_ends, groups_are_moves, ends_are_reductions}
+use Rattle.item_sets.proofs.Expanded.{walked, shifts_ascend, ends_ascend, expanded}
 use Rattle.item_sets.proofs.expanding.expand.Goals as goal
 
 pub moves_of-requires : goal.moves_of-requires
 moves_of-requires g c =
     let (items, closure, walk, count) = c.in_ok-walk.ensures.closure in
-    let closed = subst (λ (k : List Item). IsClosureOf c.args.grammar.now.grammar.rules k items) c.items.ensures.items closure in
-    let numbers = numbered c.args.grammar.now.grammar c.is_formed.ensures in
-    let moved = subst (λ (past : List Shift). IsPermutation past c.sort_unstable.new.self.items) walk.shifts c.sort_unstable.ensures.permutation in
-    rw c.deref.ensures.value (strictly shift_total shift_equiv shift_ties shift_exact (filter_map (shift_of c.args.grammar.now.grammar.rules) items) c.sort_unstable.new.self.items
-      (distinct_shifts _ numbers c.args.kernel.now c.requires items closed) moved c.sort_unstable.ensures.sorted)
+    let w = walked c.items.result.now c.args.kernel.now c.items.ensures.items closure walk in
+    let sort = c.sort_unstable.ensures in
+    rw c.deref.ensures.value (shifts_ascend _ (numbered c.args.grammar.now.grammar c.is_formed.ensures) c.args.kernel.now c.requires _ _ w c.sort_unstable.new.self.items sort.permutation sort.sorted)
 
 pub invariant_of-result : goal.invariant_of-result
-invariant_of-result g c = ?
+invariant_of-result g c =
+    let (items, closure, walk, count) = c.in_ok-walk.ensures.closure in
+    let w = walked c.items.result.now c.args.kernel.now c.items.ensures.items closure walk in
+    let numbers = numbered c.args.grammar.now.grammar c.is_formed.ensures in
+    let sort = c.sort_unstable.ensures in
+    let sort_ends = c.sort_unstable-2.ensures in
+    record {
+      moves_ascend = rw (c.from_vec.ensures, c.in_ok-moves.ensures, c.deref.ensures.value)
+          (are_groups c.sort_unstable.new.self.items (shifts_ascend _ numbers c.args.kernel.now c.requires _ _ w c.sort_unstable.new.self.items sort.permutation sort.sorted)).order;
+      reductions_ascend = rw c.from_vec-2.ensures (ends_ascend _ numbers c.args.kernel.now c.requires _ _ w c.sort_unstable-2.new.self.items sort_ends.permutation sort_ends.sorted);
+    }
 
 pub returns-clause-expansion : goal.returns-clause-expansion
-returns-clause-expansion g c = ?
+returns-clause-expansion g c =
+    let (items, closure, walk, count) = c.in_ok-walk.ensures.closure in
+    let w = walked c.items.result.now c.args.kernel.now c.items.ensures.items closure walk in
+    let sort = c.sort_unstable.ensures in
+    let sort_ends = c.sort_unstable-2.ensures in
+    expanded _ (numbered c.args.grammar.now.grammar c.is_formed.ensures) c.args.kernel.now c.requires _ _ w c.sort_unstable.new.self.items c.sort_unstable-2.new.self.items
+        sort.permutation sort.sorted sort_ends.permutation sort_ends.sorted _ (c.from_vec.ensures ∙ c.in_ok-moves.ensures ∙ ap grouped c.deref.ensures.value) c.from_vec-2.ensures
 
 pub returns-clause-steps : goal.returns-clause-steps
 returns-clause-steps g c =
