@@ -3,7 +3,6 @@
 ghost use Rattle.std.specs.Prelude.{◌≡◌, ◌<◌, ◌==◌, not, IsTrue, IfOk};
 ghost use Rattle.std.specs.List.{list_all};
 ghost use Rattle.grammar_text.specs.Limits.{IsSound};
-ghost use Rattle.item_sets.specs.Prefixes.{IsItem, AreItems};
 
 use super::*;
 use edit_log::{Grammar, Refusal, may};
@@ -57,45 +56,19 @@ fn grammar_of(alloc: Global, edits: &str) -> Result<Grammar, Refusal> {
     Ok(grammar)
 }
 
-fn is_item(grammar: &Grammar, item: Item) -> bool
-    ensures { IsTrue result → IsItem grammar.now.grammar.rules item }
-{
-    if item.rule.0 == 0 {
-        return item.dot < 2;
-    }
-    match grammar.rule(item.rule) {
-        Some(rule) => item.dot as usize <= rule.right.as_slice().len(),
-        None => false,
-    }
-}
-
-fn are_items(grammar: &Grammar, kernel: &Kernel) -> bool
-    ensures { IsTrue result → AreItems grammar.now.grammar.rules kernel.now }
-{
-    for item in kernel.items() {
-        if !is_item(grammar, *item) {
-            return false;
-        }
-    }
-    true
-}
-
-/// The expansion, with steps that nobody reads.
-fn expanded<L: Ledger>(
+/// The start kernel's expansion, with steps that nobody reads.
+fn start_expanded<L: Ledger>(
     alloc: Global,
     grammar: &Grammar,
-    kernel: &Kernel,
     blank: Blank,
 ) -> Result<Expansion, AllocError>
     requires name { blank.name ≡ L.name }
     requires parts { blank.parts ≡ L.parts }
     requires some { 0 < L.parts }
 {
-    if !are_items(grammar, kernel) {
-        return Err(AllocError);
-    }
+    let kernel = Kernel::start(alloc);
     let mut steps = Steps::<L>::new(blank);
-    expand(alloc, grammar, kernel, &mut steps)
+    expand(alloc, grammar, &kernel, &mut steps)
 }
 
 /// The moves as numbers: each symbol, the items behind it, and a row's end.
@@ -116,11 +89,21 @@ fn told(alloc: Global, expansion: &Expansion) -> Result<Vec<u32>, AllocError> {
 fn expands_the_start_kernel(rt: HostRuntime) -> Result<(), Fail> {
     let alloc = rt.alloc();
     let grammar = grammar_of(alloc, "rule START ::= E;rule E ::= E \"+\" E;rule E ::= \"a\"")?;
-    let expansion = expanded::<Brand>(alloc, &grammar, &Kernel::start(alloc), Blank::new(1))?;
+    let expansion = start_expanded::<Brand>(alloc, &grammar, Blank::new(1))?;
     let want = [0, 0, 1, END, 1, 1, 1, 2, 1, END, 3, 3, 1, END];
     assert_eq!(rt; told(alloc, &expansion)?.as_slice(), want.as_slice());
     assert_eq!(rt; expansion.reductions.as_slice().len(), 0);
     assert_eq!(rt; has_move(&expansion, SymbolId(3)), true);
     assert_eq!(rt; has_move(&expansion, SymbolId(2)), false);
+    Ok(())
+}
+
+#[test]
+fn makes_a_kernel_of_items(rt: HostRuntime) -> Result<(), Fail> {
+    let alloc = rt.alloc();
+    let start = Kernel::start(alloc);
+    let copy = Kernel::of(alloc, start.items())?;
+    assert!(rt; copy == start);
+    assert_eq!(rt; copy.items().len(), 1);
     Ok(())
 }
