@@ -1,0 +1,109 @@
+//! The expansion of a start kernel, worked out by hand.
+
+ghost use Rattle.std.specs.Prelude.{◌≡◌, ◌<◌, ◌==◌, not, IsTrue, IfOk};
+ghost use Rattle.std.specs.List.{list_all};
+ghost use Rattle.grammar_text.specs.Limits.{IsSound};
+
+use super::*;
+use edit_log::{Grammar, Refusal, may};
+use forest::SymbolId;
+use grammar_text::{BadEdit, EDIT_LIMIT, Edit, read_edit};
+use std::alloc::{AllocError, Global};
+use std::marker::Brand;
+use std::sync::ledger::{Blank, Ledger};
+use std::test::Fail;
+use steps::Steps;
+
+/// Ends the items behind a symbol.
+const END: u32 = 1000;
+
+fn is_line(bytes: &[u8]) -> bool
+    ensures { result ≡ list_all (λ byte. not (byte == 10)) bytes.now }
+{
+    bytes.iter().all(|byte| *byte != b'\n')
+}
+
+/// The edit of a line that adds or drops a rule.
+fn read(alloc: Global, line: &str) -> Result<Edit, BadEdit>
+    ensures { IfOk result IsSound }
+{
+    let bytes = line.as_bytes();
+    if bytes.len() > EDIT_LIMIT || !is_line(bytes) {
+        return Err(BadEdit::NoMemory);
+    }
+    read_edit(alloc, bytes)
+}
+
+fn take_line(alloc: Global, grammar: &mut Grammar, line: &str) -> Result<(), Refusal> {
+    let Ok(edit) = read(alloc, line) else {
+        return Err(Refusal::NoMemory);
+    };
+    let entry = match &edit {
+        Edit::AddRule(_) => may(alloc, grammar, &edit)?,
+        Edit::DropRule(_) => may(alloc, grammar, &edit)?,
+        _ => return Err(Refusal::NoSuch),
+    };
+    let ready = grammar.prepare(&entry)?;
+    grammar.apply(ready);
+    Ok(())
+}
+
+fn grammar_of(alloc: Global, edits: &str) -> Result<Grammar, Refusal> {
+    let mut grammar = Grammar::empty(alloc)?;
+    for line in edits.split(';') {
+        take_line(alloc, &mut grammar, line)?;
+    }
+    Ok(grammar)
+}
+
+/// The start kernel's expansion, with steps that nobody reads.
+fn start_expanded<L: Ledger>(
+    alloc: Global,
+    grammar: &Grammar,
+    blank: Blank,
+) -> Result<Expansion, AllocError>
+    requires name { blank.name ≡ L.name }
+    requires parts { blank.parts ≡ L.parts }
+    requires some { 0 < L.parts }
+{
+    let kernel = Kernel::start(alloc);
+    let mut steps = Steps::<L>::new(blank);
+    expand(alloc, grammar, &kernel, &mut steps)
+}
+
+/// The moves as numbers: each symbol, the items behind it, and a row's end.
+fn told(alloc: Global, expansion: &Expansion) -> Result<Vec<u32>, AllocError> {
+    let mut told = Vec::new(alloc);
+    for (symbol, kernel) in expansion.moves.as_slice() {
+        told.push(symbol.0)?;
+        for item in kernel.items() {
+            told.push(item.rule.0)?;
+            told.push(item.dot as u32)?;
+        }
+        told.push(END)?;
+    }
+    Ok(told)
+}
+
+#[test]
+fn expands_the_start_kernel(rt: HostRuntime) -> Result<(), Fail> {
+    let alloc = rt.alloc();
+    let grammar = grammar_of(alloc, "rule START ::= E;rule E ::= E \"+\" E;rule E ::= \"a\"")?;
+    let expansion = start_expanded::<Brand>(alloc, &grammar, Blank::new(1))?;
+    let want = [0, 0, 1, END, 1, 1, 1, 2, 1, END, 3, 3, 1, END];
+    assert_eq!(rt; told(alloc, &expansion)?.as_slice(), want.as_slice());
+    assert_eq!(rt; expansion.reductions.as_slice().len(), 0);
+    assert_eq!(rt; has_move(&expansion, SymbolId(3)), true);
+    assert_eq!(rt; has_move(&expansion, SymbolId(2)), false);
+    Ok(())
+}
+
+#[test]
+fn makes_a_kernel_of_items(rt: HostRuntime) -> Result<(), Fail> {
+    let alloc = rt.alloc();
+    let start = Kernel::start(alloc);
+    let copy = Kernel::of(alloc, start.items())?;
+    assert!(rt; copy == start);
+    assert_eq!(rt; copy.items().len(), 1);
+    Ok(())
+}
