@@ -1,0 +1,4 @@
+pub mod WordCuts
+pub mod MarksAreLocal
+pub mod Patterns
+pub mod PositionsAfter
