@@ -2,3 +2,4 @@ pub mod WordCuts
 pub mod MarksAreLocal
 pub mod Patterns
 pub mod PositionsAfter
+pub mod OneExpansion
