@@ -7,10 +7,13 @@
 
 use std::alloc::AllocError;
 
+mod byte_ranges;
+mod candidates;
 mod expansion;
 mod laws;
 mod mark;
 mod marks;
+mod next_marks;
 mod ranges;
 mod sameness;
 mod scan_key;

@@ -1,0 +1,7 @@
+use Rattle.isg_states.proofs.next_marks.next_marks.Goals as goal
+
+pub returns-in-Start-clause-marks : goal.returns-in-Start-clause-marks
+returns-in-Start-clause-marks g c = ?
+
+pub returns-in-Set-clause-marks : goal.returns-in-Set-clause-marks
+returns-in-Set-clause-marks g c = ?
