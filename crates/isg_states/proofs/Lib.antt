@@ -5,3 +5,5 @@ pub mod PositionsAfter
 pub mod OneExpansion
 pub mod MarkLists
 pub mod Tables
+pub mod CandidateLists
+pub mod RangeLists
