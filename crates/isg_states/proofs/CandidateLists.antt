@@ -37,17 +37,19 @@ with_push (x ∷ cs) c byte =
     with_cons x (cs ++ c ∷ []) byte ∙ ap (λ t. chosen x byte ++ t) (with_push cs c byte)
     ∙ sym (append_assoc (chosen x byte) (marks_with cs byte) (chosen c byte)) ∙ ap (λ t. t ++ chosen c byte) (sym (with_cons x cs byte))
 
-pub with_more : (cs : List Candidate) (i : ℕ) (d : Candidate) (byte : ℕ) → i < length cs → has (get_or cs i d).class.now byte ≡ true
-    → marks_with (take (i + 1) cs) byte ≡ marks_with (take i cs) byte ++ (get_or cs i d).mark ∷ []
-unfolding chosen
-with_more cs i d byte within e =
-    ap (λ t. marks_with t byte) (take_more cs i d within) ∙ with_push (take i cs) (get_or cs i d) byte ∙ ap (λ b. marks_with (take i cs) byte ++ (if b then (get_or cs i d).mark ∷ [] else [])) e
+one_more : (cs : List Candidate) (i : ℕ) (c : Candidate) (byte : ℕ) → i < length cs → c ≡ get_or cs i c → marks_with (take (i + 1) cs) byte ≡ marks_with (take i cs) byte ++ chosen c byte
+one_more cs i c byte within is =
+    ap (λ t. marks_with t byte) (take_more cs i c within) ∙ with_push (take i cs) (get_or cs i c) byte ∙ ap (λ x. marks_with (take i cs) byte ++ chosen x byte) (sym is)
 
-pub with_same : (cs : List Candidate) (i : ℕ) (d : Candidate) (byte : ℕ) → i < length cs → has (get_or cs i d).class.now byte ≡ false → marks_with (take (i + 1) cs) byte ≡ marks_with (take i cs) byte
+pub with_more : (cs : List Candidate) (i : ℕ) (c : Candidate) (byte : ℕ) → i < length cs → c ≡ get_or cs i c → has c.class.now byte ≡ true
+    → marks_with (take (i + 1) cs) byte ≡ marks_with (take i cs) byte ++ c.mark ∷ []
 unfolding chosen
-with_same cs i d byte within e =
-    ap (λ t. marks_with t byte) (take_more cs i d within) ∙ with_push (take i cs) (get_or cs i d) byte ∙ ap (λ b. marks_with (take i cs) byte ++ (if b then (get_or cs i d).mark ∷ [] else [])) e
-    ∙ append-nil (marks_with (take i cs) byte)
+with_more cs i c byte within is e = one_more cs i c byte within is ∙ ap (λ b. marks_with (take i cs) byte ++ (if b then c.mark ∷ [] else [])) e
+
+pub with_same : (cs : List Candidate) (i : ℕ) (c : Candidate) (byte : ℕ) → i < length cs → c ≡ get_or cs i c → has c.class.now byte ≡ false → marks_with (take (i + 1) cs) byte ≡ marks_with (take i cs) byte
+unfolding chosen
+with_same cs i c byte within is e =
+    one_more cs i c byte within is ∙ ap (λ b. marks_with (take i cs) byte ++ (if b then c.mark ∷ [] else [])) e ∙ append-nil (marks_with (take i cs) byte)
 
 pub marks_push : (cs : List Candidate) (c : Candidate) → marks_of (cs ++ c ∷ []) ≡ marks_of cs ++ c.mark ∷ []
 marks_push [] c = refl
@@ -115,18 +117,21 @@ to_marks (x ∷ cs) c k = elim (contains_cases x cs c k) [
 
 -- ---- order
 
+order_cons : (c : Candidate) (cs : List Candidate) (byte : ℕ) → AllByRecursion (λ y. mark_cmp c.mark y ≡ Less) (marks_of cs) → IsStrictlySortedBy mark_cmp (marks_with cs byte)
+    → (b : Bool) → IsStrictlySortedBy mark_cmp (if b then c.mark ∷ marks_with cs byte else marks_with cs byte)
+unfolding IsStrictlySortedBy
+order_cons c cs byte above sorted true = (
+  all_of _ (marks_with cs byte) (λ y k. (
+    let w = from_with cs byte y k in
+    each_of _ (marks_of cs) above y (subst (Contains (marks_of cs)) w.mark_is (to_marks cs w.candidate w.there)))),
+  sorted,
+)
+order_cons c cs byte above sorted false = sorted
+
 pub with_order : (cs : List Candidate) (byte : ℕ) → IsStrictlySortedBy mark_cmp (marks_of cs) → IsStrictlySortedBy mark_cmp (marks_with cs byte)
 unfolding IsStrictlySortedBy
 with_order [] byte sorted = tt
-with_order (c ∷ cs) byte sorted = by (has c.class.now byte) where
-  above : AllByRecursion (λ y. mark_cmp c.mark y ≡ Less) (marks_with cs byte)
-  above = all_of _ (marks_with cs byte) (λ y k. (
-    let w = from_with cs byte y k in
-    each_of _ (marks_of cs) sorted.0 y (subst (Contains (marks_of cs)) w.mark_is (to_marks cs w.candidate w.there))))
-
-  by : (b : Bool) → IsStrictlySortedBy mark_cmp (if b then c.mark ∷ marks_with cs byte else marks_with cs byte)
-  by true = (above, with_order cs byte sorted.1)
-  by false = with_order cs byte sorted.1
+with_order (c ∷ cs) byte sorted = order_cons c cs byte sorted.0 (with_order cs byte sorted.1) (has c.class.now byte)
 
 -- the candidates with the byte are the positions to which it leads
 pub with_leads : (grammar : Grammar) (key : ScanKey) (cs : List Candidate) (byte : ℕ) → ListsMarks (CanFollow grammar key) (marks_of cs) → AreClasses grammar cs

@@ -1,13 +1,14 @@
 -- Ranges as bytes come to them one by one.
-use Rattle.std.proofs.Common.{◌≡◌, ℕ, zero, suc, ◌+◌, ◌<◌, ◌≤◌, ◌⊎◌, inl, inr, ◌↔◌, List, [], ◌∷◌, ◌++◌, length, refl, sym, ap, ◌∙◌, subst, arith, append_assoc, Contains}
+use Rattle.std.proofs.Common.{◌≡◌, ℕ, zero, suc, ◌+◌, ◌-◌, ◌<◌, ◌≤◌, ◌⊎◌, inl, inr, ◌↔◌, List, [], ◌∷◌, ◌++◌, length, get_or, slice_get, slice_set, Option, Some, None, refl, sym, ap, ◌∙◌, subst, arith, append_assoc, length-append, Contains}
 use Rattle.std.proofs.lemmas.Bool.{cases_lt}
 use Rattle.std.proofs.lemmas.List.Elements.{Contains-append_left, Contains-append_right, Contains-append_cases}
+use Rattle.std.proofs.lemmas.Option.{slice_get-get_or}
 use Rattle.std.specs.List.{AllByRecursion}
 use Rattle.forest.proofs.Ascending.{contains_here, contains_there, contains_cases}
 use Rattle.edit_log.specs.History.{Grammar}
 use Rattle.isg_states.specs.declared.mark.Mark.{Mark}
 use Rattle.isg_states.specs.declared.scan_key.ScanKey.{ScanKey}
-use Rattle.isg_states.specs.declared.scan_key.ScanKey.TheVariants.{Set}
+use Rattle.isg_states.specs.declared.scan_key.ScanKey.TheVariants.{Start, Set}
 use Rattle.isg_states.specs.Marks.{ListsMarks}
 use Rattle.isg_states.specs.Expansion.{Range, LeadsTo, AreApart, AreJoined, IsScanExpansionOf}
 use Rattle.isg_states.specs.Candidates.{GoesOn, IsWithByte, TellsRange, TellsBelow}
@@ -71,6 +72,74 @@ neighbours (r ∷ ranges) last (b ∷ before) after one next e =
       | inl k ↦ inl (k.0, ap (λ x. x ∷ ranges) heads ∙ ap (λ t. b ∷ t) k.1)
       | inr k ↦ inr (record { same = ap (λ x. x ∷ ranges) heads ∙ ap (λ t. b ∷ t) k.same; end = k.end })
     ]
+
+pub last_of : (ranges : List Range) (x : Range) → slice_get ranges (length ranges - 1) ≡ Some x → (before : List Range) × (ranges ≡ before ++ x ∷ [])
+last_of [] x e = absurd cc
+last_of (y ∷ []) x e = let same : y ≡ x = cc in ([], ap (λ r. r ∷ []) same)
+last_of (y ∷ z ∷ ranges) x e =
+    let down : length (y ∷ z ∷ ranges) - 1 ≡ suc (length (z ∷ ranges) - 1) = omega arith in
+    let r = last_of (z ∷ ranges) x (subst (λ n. slice_get (y ∷ z ∷ ranges) n ≡ Some x) down e) in
+    (y ∷ r.0, ap (λ t. y ∷ t) r.1)
+
+-- the last range ends before the byte, and leads to a key
+pub goes_on_key : (ranges : List Range) (byte : ℕ) (last : Range) (key marks : List Mark) → slice_get ranges (length ranges - 1) ≡ Some last → last.2 ≡ Set key → last.1 + 1 ≡ byte
+    → (key ≡ marks → GoesOn ranges byte marks) × (GoesOn ranges byte marks → key ≡ marks)
+goes_on_key ranges byte last key marks there is touch =
+    let r = last_of ranges last there in (
+      λ e. (r.0, last.0, last.1, r.1 ∙ ap (λ k. r.0 ++ (last.0, last.1, k) ∷ []) (is ∙ ap (λ m. Set m) e), touch),
+      λ g. (let ends = two_ends r.0 g.0 last (g.1, g.2, Set marks) (sym r.1 ∙ g.3) in same_set key marks last.2 is (ap (λ (x : Range). x.2) ends.1)),
+    )
+
+-- it ends elsewhere
+pub goes_on_not : (ranges : List Range) (byte : ℕ) (last : Range) (marks : List Mark) → slice_get ranges (length ranges - 1) ≡ Some last → (last.1 + 1 ≡ byte → ⊥) → GoesOn ranges byte marks → ⊥
+goes_on_not ranges byte last marks there apart g =
+    let r = last_of ranges last there in
+    let ends = two_ends r.0 g.0 last (g.1, g.2, Set marks) (sym r.1 ∙ g.3) in
+    apart (ap (λ (x : Range). x.1 + 1) ends.1 ∙ g.4)
+
+-- it leads to no set
+pub goes_on_start : (ranges : List Range) (byte : ℕ) (last : Range) (marks : List Mark) → slice_get ranges (length ranges - 1) ≡ Some last → last.2 ≡ Start → GoesOn ranges byte marks → ⊥
+goes_on_start ranges byte last marks there is g =
+    let r = last_of ranges last there in
+    let ends = two_ends r.0 g.0 last (g.1, g.2, Set marks) (sym r.1 ∙ g.3) in
+    let key : last.2 ≡ Set marks = ap (λ (x : Range). x.2) ends.1 in
+    start_or_set last.2 marks is key where
+  start_or_set : (k : ScanKey) (m : List Mark) → k ≡ Start → k ≡ Set m → ⊥
+  start_or_set k m e f = absurd cc
+
+-- there is none
+pub goes_on_none : (ranges : List Range) (byte : ℕ) (marks : List Mark) → None ≡ slice_get ranges (length ranges - 1) → GoesOn ranges byte marks → ⊥
+goes_on_none ranges byte marks none g =
+    let len : length ranges ≡ length g.0 + 1 = ap length g.3 ∙ length-append g.0 ((g.1, g.2, Set marks) ∷ []) in
+    let within : length ranges - 1 < length ranges = omega arith in
+    no_some (slice_get ranges (length ranges - 1)) (get_or ranges (length ranges - 1) (g.1, g.2, Set marks)) (sym none) (slice_get-get_or ranges (length ranges - 1) (g.1, g.2, Set marks) within) where
+  no_some : (o : Option Range) (x : Range) → o ≡ None → o ≡ Some x → ⊥
+  no_some o x e f = absurd cc
+
+set_last : (before : List Range) (last next : Range) (k : ℕ) → k ≡ length before → slice_set (before ++ last ∷ []) k next ≡ before ++ next ∷ []
+set_last [] last next k e = subst (λ n. slice_set (last ∷ []) n next ≡ next ∷ []) (sym e) refl
+set_last (b ∷ before) last next k e = subst (λ n. slice_set (b ∷ (before ++ last ∷ [])) n next ≡ b ∷ (before ++ next ∷ [])) (sym e) (ap (λ t. b ∷ t) (set_last before last next (length before) refl))
+
+get_last : (before : List Range) (last d : Range) (k : ℕ) → k ≡ length before → get_or (before ++ last ∷ []) k d ≡ last
+get_last [] last d k e = subst (λ n. get_or (last ∷ []) n d ≡ last) (sym e) refl
+get_last (b ∷ before) last d k e = subst (λ n. get_or (b ∷ (before ++ last ∷ [])) n d ≡ last) (sym e) (get_last before last d (length before) refl)
+
+-- the last range goes on in place
+pub set_goes_on : (ranges : List Range) (byte : ℕ) (marks : List Mark) (k : ℕ) (last : Range) → GoesOn ranges byte marks → k ≡ length ranges - 1 → last ≡ get_or ranges k last
+    → IsWithByte ranges byte marks (slice_set ranges k (last.0, byte, last.2))
+set_goes_on ranges byte marks k last g place is =
+    let here : Range = (g.1, g.2, Set marks) in
+    let len : length ranges ≡ length g.0 + 1 = ap length g.3 ∙ length-append g.0 (here ∷ []) in
+    let at : k ≡ length g.0 = omega arith in
+    let same : last ≡ here = is ∙ ap (λ rs. get_or rs k last) g.3 ∙ get_last g.0 here last k at in
+    inl (
+      g.0,
+      g.1,
+      g.2,
+      g.3,
+      g.4,
+      ap (λ rs. slice_set rs k (last.0, byte, last.2)) g.3 ∙ set_last g.0 here (last.0, byte, last.2) k at ∙ ap (λ (r : Range). g.0 ++ (r.0, byte, r.2) ∷ []) same,
+    )
 
 module _ (led : ℕ → List Mark) where
   range_upto : (m n : ℕ) (range : Range) → m ≤ n → TellsRange led m range → TellsRange led n range

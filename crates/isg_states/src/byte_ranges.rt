@@ -16,11 +16,16 @@ use std::alloc::Global;
 fn goes_on(ranges: &[(u8, u8, ScanKey)], byte: u8, marks: &[Mark]) -> bool
     ensures { IsTrue result ↔ GoesOn ranges.now byte marks.now }
 {
-    match ranges.last() {
-        Some((_, high, ScanKey::Set(key))) => {
-            usize::from(*high) + 1 == usize::from(byte) && key.items() == marks
-        }
-        _ => false,
+    let Some(last) = ranges.last() else {
+        return false;
+    };
+    let high = last.1;
+    if usize::from(high) + 1 != usize::from(byte) {
+        return false;
+    }
+    match &last.2 {
+        ScanKey::Start => false,
+        ScanKey::Set(key) => key.items() == marks,
     }
 }
 
@@ -56,8 +61,9 @@ pub(crate) fn byte_ranges(
     let mut marks = Vec::with_capacity(alloc, candidates.len())?;
     for byte in 0..256usize {
         with_byte(candidates, byte as u8, &mut marks)?;
-        if !marks.is_empty() {
-            add_byte(alloc, &mut ranges, byte as u8, &marks)?;
+        let led = marks.as_slice();
+        if !led.is_empty() {
+            add_byte(alloc, &mut ranges, byte as u8, led)?;
         }
     }
     Ok(ranges)
