@@ -7,3 +7,4 @@ pub mod MarkLists
 pub mod Tables
 pub mod CandidateLists
 pub mod RangeLists
+pub mod Winners

@@ -19,8 +19,7 @@ fn goes_on(ranges: &[(u8, u8, ScanKey)], byte: u8, marks: &[Mark]) -> bool
     let Some(last) = ranges.last() else {
         return false;
     };
-    let high = last.1;
-    if usize::from(high) + 1 != usize::from(byte) {
+    if byte == 0 || last.1 != byte - 1 {
         return false;
     }
     match &last.2 {
