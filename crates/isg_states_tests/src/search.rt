@@ -2,6 +2,7 @@
 //! on worked texts which positions stand after a piece, and which definition wins it.
 
 use edit_log::{DefId, Grammar};
+use isg_states::Mark;
 use regex_ast::Positions;
 use std::alloc::{AllocError, Global};
 
@@ -58,39 +59,45 @@ fn ends(positions: &Positions, these: &[u32]) -> bool {
     these.iter().any(|position| positions.last().contains(position))
 }
 
-/// The number of the definition in marks.
-fn number_of(definition: DefId) -> u64 {
-    match definition {
-        DefId::Literal(symbol) => 2 * u64::from(symbol.0),
-        DefId::Named(number) => 2 * u64::from(number.0) + 1,
-    }
-}
-
 /// The numbers of the marks of the definition.
-fn add_numbers(
-    found: &mut Vec<u64>,
-    definition: DefId,
-    these: &[u32],
-) -> Result<(), AllocError> {
-    for position in these {
-        found.push(number_of(definition) * 256 + u64::from(*position))?;
+fn add_numbers(found: &mut Vec<u64>, def: DefId, these: &[u32]) -> Result<(), AllocError> {
+    for index in these {
+        let mark = Mark { def, index: *index };
+        found.push(mark.number())?;
     }
     Ok(())
 }
 
-/// What is told of the piece: the numbers of its marks, ascending, and the definition that wins it.
-pub(crate) fn told(alloc: Global, grammar: &Grammar, piece: &[u8]) -> Result<String, AllocError> {
+/// The numbers of the marks after the piece, ascending.
+pub(crate) fn marks(
+    alloc: Global,
+    grammar: &Grammar,
+    piece: &[u8],
+) -> Result<Vec<u64>, AllocError> {
     let mut numbers = Vec::new(alloc);
-    let mut winner = None;
     for definition in grammar.live_defs() {
         if let Some(positions) = grammar.positions(*definition) {
             let reached = reached(alloc, positions, piece)?;
             add_numbers(&mut numbers, *definition, &reached)?;
-            if winner.is_none() && ends(positions, &reached) {
-                winner = Some(*definition);
-            }
         }
     }
     numbers.sort()?;
-    format!(in alloc; "{numbers:?} {winner:?}")
+    Ok(numbers)
+}
+
+/// The first of the live definitions that match the piece.
+pub(crate) fn winner(
+    alloc: Global,
+    grammar: &Grammar,
+    piece: &[u8],
+) -> Result<Option<DefId>, AllocError> {
+    for definition in grammar.live_defs() {
+        if let Some(positions) = grammar.positions(*definition) {
+            let reached = reached(alloc, positions, piece)?;
+            if ends(positions, &reached) {
+                return Ok(Some(*definition));
+            }
+        }
+    }
+    Ok(None)
 }
