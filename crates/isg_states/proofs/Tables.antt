@@ -14,7 +14,7 @@ use Rattle.edit_log.specs.Lookups.{ArePositionsFor}
 use Rattle.isg_states.specs.declared.mark.Mark.{Mark}
 use Rattle.isg_states.specs.Marks.{ListsMarks}
 use Rattle.isg_states.specs.Patterns.{bytes, expression, HasPattern, MarkedWord, classes_in, IsMark, IsFirst, IsLast, Follows}
-use Rattle.isg_states.specs.Expansion.{CanFollow}
+use Rattle.isg_states.specs.Expansion.{Range, IsRange, AreMarks, CanFollow}
 use Rattle.isg_states.specs.declared.scan_key.ScanKey.{ScanKey}
 use Rattle.isg_states.specs.declared.scan_key.ScanKey.TheVariants.{Start, Set}
 use Rattle.isg_states.specs.Candidates.{AreSmall, OneOf, ArePositions, IsClass}
@@ -121,6 +121,13 @@ next_mark grammar (Set marks) mark f =
     let s = f.2.1 in
     let front = s.2.0 ++ f.0.index ∷ [] in
     (s.0, s.1, in_pattern s.0 front mark.index s.2.1 (subst (MarkedWord s.0) (sym (append_assoc s.2.0 (f.0.index ∷ []) (mark.index ∷ s.2.1))) s.2.2))
+
+-- the key of a range is one of the grammar
+pub range_marks : (grammar : Grammar) (key : ScanKey) (range : Range) → IsRange grammar key range → AreMarks grammar range.2
+range_marks grammar key range r =
+    let some = r.some in
+    let lists = r.leads range.0 (omega arith) some in
+    subst (AreMarks grammar) (sym r.is) (λ m c. next_mark grammar key m ((lists.members m).0 c).0)
 
 -- ---- more marks
 

@@ -1,6 +1,6 @@
 //! What is true of states and their expansions, whatever computes them.
 
-ghost use Rattle.std.specs.Prelude.{◌≡◌, ◌<◌, ◌↔◌, ℕ, List, [], ◌∷◌, ◌++◌, length};
+ghost use Rattle.std.specs.Prelude.{◌≡◌, ◌<◌, ◌↔◌, ℕ, List, [], ◌∷◌, ◌++◌, length, Contains};
 ghost use Rattle.edit_log.specs.declared.definitions.DefId.{DefId};
 ghost use Rattle.edit_log.specs.History.{Grammar};
 ghost use Rattle.edit_log.specs.Live.{IsLive};
@@ -11,7 +11,7 @@ ghost use Rattle.isg_states.specs.declared.scan_key.ScanKey.TheVariants.{Start, 
 ghost use Rattle.isg_states.specs.Marks.{ListsMarks};
 ghost use Rattle.isg_states.specs.Patterns.{IsLast};
 ghost use Rattle.isg_states.specs.After.{IsAfter, AreBytes};
-ghost use Rattle.isg_states.specs.Expansion.{Range, LeadsTo, IsScanExpansionOf, IsScanCost};
+ghost use Rattle.isg_states.specs.Expansion.{Range, AreMarks, LeadsTo, IsScanExpansionOf, IsScanCost};
 ghost use Rattle.isg_states.specs.Winners.{Accepts};
 
 /// From the start a byte leads to exactly the positions after the piece of that byte.
@@ -35,6 +35,11 @@ pub fn last_is_match()
 pub fn accepted_is_winner()
     ensures { (grammar : Grammar) (piece : List ℕ) (marks : List Mark) → 0 < length piece → AreBytes piece → ListsMarks (IsAfter grammar piece) marks
         → (definition : DefId) → Accepts grammar (Set marks) definition ↔ IsWinner grammar piece definition }
+{}
+
+/// A byte leads to a state of the grammar.
+pub fn targets_are_marks()
+    ensures { (grammar : Grammar) (key : ScanKey) (ranges : List Range) → IsScanExpansionOf grammar key ranges → (range : Range) → Contains ranges range → AreMarks grammar range.2 }
 {}
 
 /// A state has one expansion.
