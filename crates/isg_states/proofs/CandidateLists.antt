@@ -1,6 +1,5 @@
 -- Candidates, and those of them whose class has a byte.
-use Rattle.std.proofs.Common.{◌≡◌, ℕ, zero, suc, true, false, Bool, ◌+◌, ◌<◌, ◌≤◌, ◌⊎◌, inl, inr, ◌↔◌, IsTrue, if◌then◌else◌, List, [], ◌∷◌, ◌++◌, length, map, get_or, take, refl, sym, ap, ◌∙◌, subst, arith, append-nil, append_assoc, slice_index_or, Contains}
-use Rattle.std.proofs.lemmas.Bool.{cases_Bool}
+use Rattle.std.proofs.Common.{◌≡◌, ℕ, true, false, Bool, ◌+◌, ◌<◌, inl, inr, IsTrue, if◌then◌else◌, List, [], ◌∷◌, ◌++◌, length, get_or, take, refl, sym, ap, ◌∙◌, subst, append-nil, append_assoc, slice_index_or, Contains}
 use Rattle.std.proofs.lemmas.List.{take_more}
 use Rattle.std.proofs.lemmas.List.Elements.{Contains-push_cases}
 use Rattle.std.specs.declared.cmp.Ordering.TheVariants.{Less}
@@ -122,8 +121,8 @@ order_cons : (c : Candidate) (cs : List Candidate) (byte : ℕ) → AllByRecursi
 unfolding IsStrictlySortedBy
 order_cons c cs byte above sorted true = (
   all_of _ (marks_with cs byte) (λ y k. (
-    let w = from_with cs byte y k in
-    each_of _ (marks_of cs) above y (subst (Contains (marks_of cs)) w.mark_is (to_marks cs w.candidate w.there)))),
+      let w = from_with cs byte y k in
+      each_of _ (marks_of cs) above y (subst (Contains (marks_of cs)) w.mark_is (to_marks cs w.candidate w.there)))),
   sorted,
 )
 order_cons c cs byte above sorted false = sorted
@@ -140,17 +139,17 @@ with_leads grammar key cs byte lists classes = record {
   order = with_order cs byte lists.order;
   members = λ mark. (
     λ k. (
-      let w = from_with cs byte mark k in
-      let is = classes w.candidate w.there in
-      let here : CanFollow grammar key w.candidate.mark = (lists.members w.candidate.mark).0 (to_marks cs w.candidate w.there) in
-      let byte_in : HasByte grammar w.candidate.mark byte = (is.0, is.1, subst (λ set. IsTrue (has set byte)) (sym is.2) w.byte_in) in
-      subst (LeadsTo grammar key byte) w.mark_is (here, byte_in)),
+        let w = from_with cs byte mark k in
+        let is = classes w.candidate w.there in
+        let here : CanFollow grammar key w.candidate.mark = (lists.members w.candidate.mark).0 (to_marks cs w.candidate w.there) in
+        let byte_in : HasByte grammar w.candidate.mark byte = (is.0, is.1, subst (λ set. IsTrue (has set byte)) (sym is.2) w.byte_in) in
+        subst (LeadsTo grammar key byte) w.mark_is (here, byte_in)),
     λ l. (
-      let c = from_marks cs mark ((lists.members mark).1 l.0) in
-      let is = classes c.0 c.1 in
-      let at : HasByte grammar c.0.mark byte = subst (λ m. HasByte grammar m byte) (sym c.2) l.1 in
-      let set_has : IsTrue (has (slice_index_or (classes_in is.0) c.0.mark.index []) byte) =
-      subst (λ p. IsTrue (has (slice_index_or (classes_in p) c.0.mark.index []) byte)) (same_pattern at.1 is.1) at.2 in
-      subst (Contains (marks_with cs byte)) c.2 (to_with cs byte c.0 c.1 (subst (λ set. IsTrue (has set byte)) is.2 set_has))),
+        let c = from_marks cs mark ((lists.members mark).1 l.0) in
+        let is = classes c.0 c.1 in
+        let at : HasByte grammar c.0.mark byte = subst (λ m. HasByte grammar m byte) (sym c.2) l.1 in
+        let set_has : IsTrue (has (slice_index_or (classes_in is.0) c.0.mark.index []) byte) =
+        subst (λ p. IsTrue (has (slice_index_or (classes_in p) c.0.mark.index []) byte)) (same_pattern at.1 is.1) at.2 in
+        subst (Contains (marks_with cs byte)) c.2 (to_with cs byte c.0 c.1 (subst (λ set. IsTrue (has set byte)) is.2 set_has))),
   );
 }

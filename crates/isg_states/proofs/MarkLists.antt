@@ -126,10 +126,10 @@ module _ (xs : List Mark) (x : Mark) (sorted : IsStrictlySortedBy mark_cmp xs) w
         order = sorted;
         members = λ z. (λ c. inl c, λ w. elim w [ inl c ↦ c | inr e ↦ subst (Contains xs) (same ∙ sym e) there ]);
       } where
-    get_same : (ys : List Mark) (k : ℕ) (d y : Mark) → k < length ys → get_or ys k d ≡ y → get_or ys k y ≡ y
-    get_same [] k d y l e = absurd (omega arith)
-    get_same (z ∷ ys) zero d y l e = e
-    get_same (z ∷ ys) (suc k) d y l e = get_same ys k d y (omega arith) e
+        get_same : (ys : List Mark) (k : ℕ) (d y : Mark) → k < length ys → get_or ys k d ≡ y → get_or ys k y ≡ y
+        get_same [] k d y l e = absurd (omega arith)
+        get_same (z ∷ ys) zero d y l e = e
+        get_same (z ∷ ys) (suc k) d y l e = get_same ys k d y (omega arith) e
 
   module _ (at : ℕ) (within : at ≤ length xs) (result : IsBinarySearchResult (λ y. mark_cmp y x) xs (Err at)) where
     below_at : (y : Mark) → Contains (take at xs) y → mark_cmp y x ≡ Less

@@ -1,5 +1,5 @@
 -- Marked words are local: what may come after a number in them does not depend on what stands before it.
-use Rattle.std.proofs.Common.{◌≡◌, ℕ, zero, suc, ◌+◌, ◌<◌, ◌≤◌, List, [], ◌∷◌, ◌++◌, length, refl, sym, ap, ◌∙◌, subst, ◌⊎◌, inl, inr, arith, append_assoc}
+use Rattle.std.proofs.Common.{◌≡◌, ℕ, zero, suc, ◌+◌, ◌<◌, ◌≤◌, List, [], ◌∷◌, ◌++◌, length, refl, sym, ap, ◌∙◌, subst, inl, inr, arith, append_assoc}
 use Rattle.std.specs.List.{concat, AllByRecursion}
 use Rattle.regex_ast.specs.Bytes.{numbers_from}
 use Rattle.regex_ast.specs.Expressions.{Expression, class, sequence, choice, star, plus, maybe, class_count}
@@ -62,13 +62,13 @@ exchange n (sequence a b) u q v w z h k =
           ap (λ t. u ++ q ∷ t) d.after ∙ sym (append_assoc u (q ∷ d.back) k.1),
         )
         | inr d ↦ (
-          let one = in_range n a u q c.back (subst (MarksFrom n a) (sym c.word) h.2) in
-          let other = in_range (n + class_count a) b d.front q z (subst (MarksFrom (n + class_count a) b) (sym d.word) k.3) in absurd (omega arith))
+            let one = in_range n a u q c.back (subst (MarksFrom n a) (sym c.word) h.2) in
+            let other = in_range (n + class_count a) b d.front q z (subst (MarksFrom (n + class_count a) b) (sym d.word) k.3) in absurd (omega arith))
       ]
       | inr c ↦ elim (cut_two w q z k.0 k.1 k.4) [
         | inl d ↦ (
-          let one = in_range (n + class_count a) b c.front q v (subst (MarksFrom (n + class_count a) b) (sym c.word) h.3) in
-          let other = in_range n a w q d.back (subst (MarksFrom n a) (sym d.word) k.2) in absurd (omega arith))
+            let one = in_range (n + class_count a) b c.front q v (subst (MarksFrom (n + class_count a) b) (sym c.word) h.3) in
+            let other = in_range n a w q d.back (subst (MarksFrom n a) (sym d.word) k.2) in absurd (omega arith))
         | inr d ↦ (
           h.0,
           c.front ++ q ∷ z,
@@ -97,8 +97,8 @@ exchange n (plus a) u q v w z h k =
     let other = cut_pieces (MarksFrom n a) w q z (k.0 ∷ k.1) k.2 k.3 in
     let middle = exchange n a one.front q one.back other.front other.back one.piece other.piece in
     some_pieces (MarksFrom n a) (u ++ q ∷ z) one.before (one.front ++ q ∷ other.back) other.after
-        (all_joined (MarksFrom n a) one.before (one.front ++ q ∷ other.back) other.after one.each_before middle other.each_after)
-        (joined (MarksFrom n a) u q v w z one other (one.front ++ q ∷ other.back) refl)
+    (all_joined (MarksFrom n a) one.before (one.front ++ q ∷ other.back) other.after one.each_before middle other.each_after)
+    (joined (MarksFrom n a) u q v w z one other (one.front ++ q ∷ other.back) refl)
 exchange n (maybe a) u q v w z (inl h) k = absurd (cut_nil u q v h)
 exchange n (maybe a) u q v w z (inr h) (inl k) = absurd (cut_nil w q z k)
 exchange n (maybe a) u q v w z (inr h) (inr k) = inr (exchange n a u q v w z h k)

@@ -1,5 +1,5 @@
 -- A state has one expansion, one cost, and one definition that it accepts.
-use Rattle.std.proofs.Common.{◌≡◌, ℕ, zero, suc, ◌+◌, ◌<◌, ◌≤◌, List, [], ◌∷◌, ◌++◌, length, refl, sym, ap, ◌∙◌, subst, inl, inr, ◌⊎◌, arith, Contains}
+use Rattle.std.proofs.Common.{◌≡◌, ℕ, ◌+◌, ◌<◌, ◌≤◌, List, [], ◌∷◌, length, refl, sym, ap, ◌∙◌, subst, inl, inr, arith, Contains}
 use Rattle.std.proofs.lemmas.Bool.{cases_lt}
 use Rattle.std.specs.Cmp.{IsTotalOrder, on_total, nat_cmp_total}
 use Rattle.std.specs.Ordering.{nat_cmp, ordering_reverse}
@@ -112,20 +112,20 @@ module _ (grammar : Grammar) (key : ScanKey) where
         | inl e ↦ (let high : a.1 ≡ r.1 = ap (λ (x : Range). x.1) e in absurd (omega arith))
         | inr d ↦ touches xs t r d starts stops keys
       ] where
-    touches : (others : List Range) → TellsFrom grammar key from (a ∷ others) → (r : Range) → Contains others r → r.0 ≤ a.1 + 1 → a.1 + 1 ≤ r.1 → a.2 ≡ r.2 → ⊥
-    touches [] v r d starts stops keys = absurd (omega (arith, d.1))
-    touches (x ∷ others) v r d starts stops keys =
-        let above : a.1 < x.0 = v.apart.0.0 in
-        elim (contains_cases x others r d) [
-          | inl e ↦ (
-            let low : x.0 ≡ r.0 = ap (λ (y : Range). y.0) e in
-            let touch : a.1 + 1 ≡ x.0 = omega arith in
-            v.joined [] others a x refl touch (keys ∙ ap (λ (y : Range). y.2) (sym e)))
-          | inr later ↦ (
-            let some = (v.each x (contains_there a (x ∷ others) x (contains_here x others))).0.some in
-            let far : x.1 < r.0 = all_here _ others v.apart.1.0 r later in
-            absurd (omega arith))
-        ]
+        touches : (others : List Range) → TellsFrom grammar key from (a ∷ others) → (r : Range) → Contains others r → r.0 ≤ a.1 + 1 → a.1 + 1 ≤ r.1 → a.2 ≡ r.2 → ⊥
+        touches [] v r d starts stops keys = absurd (omega (arith, d.1))
+        touches (x ∷ others) v r d starts stops keys =
+            let above : a.1 < x.0 = v.apart.0.0 in
+            elim (contains_cases x others r d) [
+              | inl e ↦ (
+                  let low : x.0 ≡ r.0 = ap (λ (y : Range). y.0) e in
+                  let touch : a.1 + 1 ≡ x.0 = omega arith in
+                  v.joined [] others a x refl touch (keys ∙ ap (λ (y : Range). y.2) (sym e)))
+              | inr later ↦ (
+                  let some = (v.each x (contains_there a (x ∷ others) x (contains_here x others))).0.some in
+                  let far : x.1 < r.0 = all_here _ others v.apart.1.0 r later in
+                  absurd (omega arith))
+            ]
 
   rest_tells : (from : ℕ) (a : Range) (xs : List Range) → TellsFrom grammar key from (a ∷ xs) → TellsFrom grammar key (a.1 + 1) xs
   rest_tells from a xs t =
@@ -135,12 +135,12 @@ module _ (grammar : Grammar) (key : ScanKey) where
       record {
         each = λ range c. ((t.each range (contains_there a xs range c)).0, (let above : a.1 < range.0 = all_here _ xs t.apart.0 range c in omega arith));
         whole = λ byte mark l small leads. (
-          let found = t.whole byte mark (omega arith) small leads in
-          let r : Range = found.0 in
-          elim (contains_cases a xs r found.1) [
-            | inl e ↦ (let high : a.1 ≡ r.1 = ap (λ (x : Range). x.1) e in let stops : byte ≤ r.1 = found.3 in absurd (omega arith))
-            | inr d ↦ (r, d, found.2, found.3)
-          ]);
+            let found = t.whole byte mark (omega arith) small leads in
+            let r : Range = found.0 in
+            elim (contains_cases a xs r found.1) [
+              | inl e ↦ (let high : a.1 ≡ r.1 = ap (λ (x : Range). x.1) e in let stops : byte ≤ r.1 = found.3 in absurd (omega arith))
+              | inr d ↦ (r, d, found.2, found.3)
+            ]);
         apart = t.apart.1;
         joined = λ before after one next e touch keys. t.joined (a ∷ before) after one next (ap (λ l. a ∷ l) e) touch keys;
       }

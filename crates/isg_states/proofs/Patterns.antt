@@ -1,9 +1,8 @@
 -- A definition has one pattern, and the marked words of a pattern are local.
-use Rattle.std.proofs.Common.{◌≡◌, ℕ, ◌+◌, ◌<◌, List, [], ◌∷◌, ◌++◌, length, map, sym, ap, ◌∙◌, subst, arith, Option, Some, Result, Ok}
+use Rattle.std.proofs.Common.{◌≡◌, ℕ, ◌<◌, List, ◌∷◌, ◌++◌, length, sym, ap, subst, arith, Option, Some, Result, Ok}
 use Rattle.grammar_text.specs.declared.symbol.Symbol.{Symbol}
 use Rattle.grammar_text.specs.declared.symbol.Symbol.TheVariants.{Literal}
 use Rattle.regex_ast.specs.declared.bad_regex.BadRegex.{BadRegex}
-use Rattle.regex_ast.specs.Bytes.{only}
 use Rattle.regex_ast.specs.Expressions.{Expression, class_count, classes_of}
 use Rattle.regex_ast.specs.Refusals.{SpellsWithinLimits}
 use Rattle.regex_ast.proofs.MarkLemmas.{length-classes_of}

@@ -1,10 +1,9 @@
 -- The positions after a piece, byte by byte, and which of them are last.
-use Rattle.std.proofs.Common.{◌≡◌, ℕ, zero, suc, true, ◌+◌, ◌<◌, ◌==◌, ◌↔◌, IsTrue, List, [], ◌∷◌, ◌++◌, length, map, refl, sym, ap, ◌∙◌, subst, inl, inr, ◌⊎◌, arith, append_assoc, append-nil, length-append, slice_index_or, Contains}
+use Rattle.std.proofs.Common.{◌≡◌, ℕ, suc, true, ◌<◌, ◌==◌, IsTrue, List, [], ◌∷◌, ◌++◌, length, map, refl, sym, ap, ◌∙◌, subst, arith, append_assoc, append-nil, slice_index_or}
 use Rattle.std.proofs.lemmas.Bool.{and_parts, eqb-true, eq-eqb}
-use Rattle.std.specs.declared.cmp.Ordering.TheVariants.{Less}
 use Rattle.grammar_text.specs.declared.symbol.Symbol.TheVariants.{Literal}
 use Rattle.regex_ast.specs.Bytes.{has, only, numbers_from}
-use Rattle.regex_ast.specs.Expressions.{Expression, classes_of}
+use Rattle.regex_ast.specs.Expressions.{classes_of}
 use Rattle.regex_ast.specs.Matching.{HoldBytes}
 use Rattle.regex_ast.specs.Positions.{Succeeds, Ends}
 use Rattle.regex_ast.proofs.MarkLemmas.{AllZip-join, marked, matched, AreAt-own}
@@ -13,7 +12,7 @@ use Rattle.regex_ast.proofs.TableLemmas.{has-only}
 use Rattle.edit_log.specs.declared.definitions.DefId.{DefId}
 use Rattle.edit_log.specs.declared.definitions.DefId.TheVariants.{Literal as literal, Named as named}
 use Rattle.edit_log.specs.History.{Grammar}
-use Rattle.edit_log.specs.Live.{IsLive, definition_cmp}
+use Rattle.edit_log.specs.Live.{IsLive}
 use Rattle.edit_log.specs.Tokens.{MatchesPiece, IsWinner}
 use Rattle.isg_states.specs.declared.mark.Mark.{Mark}
 use Rattle.isg_states.specs.declared.scan_key.ScanKey.TheVariants.{Start, Set}
@@ -108,7 +107,7 @@ to_longer grammar piece marks some lists byte mark a =
     let member : Mark = record { def = mark.def; index = s.1 } in
     let whole : MarkedWord a.pattern (s.0 ++ s.1 ∷ mark.index ∷ a.rest) =
     subst (MarkedWord a.pattern)
-        (append_assoc a.front (mark.index ∷ []) a.rest ∙ ap (λ t. t ++ mark.index ∷ a.rest) s.2 ∙ append_assoc s.0 (s.1 ∷ []) (mark.index ∷ a.rest)) a.marked in
+    (append_assoc a.front (mark.index ∷ []) a.rest ∙ ap (λ t. t ++ mark.index ∷ a.rest) s.2 ∙ append_assoc s.0 (s.1 ∷ []) (mark.index ∷ a.rest)) a.marked in
     let before : IsAfter grammar piece member = record {
       pattern = a.pattern;
       has_pattern = a.has_pattern;
@@ -150,8 +149,8 @@ literal_text front (x ∷ text) (y ∷ piece) h =
     let there : has (only x) y ≡ true = subst (λ c. has c y ≡ true) (class_at front x text) h.0 in
     let same : y ≡ x = eqb-true y x (and_parts (y == x) _ (sym (has-bytes_where (λ b. b == x) y) ∙ there)).0 in
     let rest : text ≡ piece = literal_text (front ++ x ∷ []) text piece
-        (subst (λ t. HoldBytes (map only t) (numbers_from (length (front ++ x ∷ [])) (length text)) piece) (sym (append_assoc front (x ∷ []) text))
-        (subst (λ n. HoldBytes (map only (front ++ x ∷ text)) (numbers_from n (length text)) piece) (sym (length_snoc front x)) h.1)) in
+    (subst (λ t. HoldBytes (map only t) (numbers_from (length (front ++ x ∷ [])) (length text)) piece) (sym (append_assoc front (x ∷ []) text))
+    (subst (λ n. HoldBytes (map only (front ++ x ∷ text)) (numbers_from n (length text)) piece) (sym (length_snoc front x)) h.1)) in
     ap (λ n. n ∷ text) (sym same) ∙ ap (λ t. y ∷ t) rest
 
 -- a definition that matches has a marked word that does

@@ -1,16 +1,15 @@
 -- Ranges as bytes come to them one by one.
-use Rattle.std.proofs.Common.{◌≡◌, ℕ, zero, suc, ◌+◌, ◌-◌, ◌<◌, ◌≤◌, ◌⊎◌, inl, inr, ◌↔◌, List, [], ◌∷◌, ◌++◌, length, get_or, slice_get, slice_set, Option, Some, None, refl, sym, ap, ◌∙◌, subst, arith, append_assoc, length-append, Contains}
+use Rattle.std.proofs.Common.{◌≡◌, ℕ, suc, ◌+◌, ◌-◌, ◌<◌, ◌≤◌, ◌⊎◌, inl, inr, List, [], ◌∷◌, ◌++◌, length, get_or, slice_get, slice_set, Option, Some, None, refl, sym, ap, ◌∙◌, subst, arith, append_assoc, length-append, Contains}
 use Rattle.std.proofs.lemmas.Bool.{cases_lt}
 use Rattle.std.proofs.lemmas.List.Elements.{Contains-append_left, Contains-append_right, Contains-append_cases}
 use Rattle.std.proofs.lemmas.Option.{slice_get-get_or}
-use Rattle.std.specs.List.{AllByRecursion}
 use Rattle.forest.proofs.Ascending.{contains_here, contains_there, contains_cases}
 use Rattle.edit_log.specs.History.{Grammar}
 use Rattle.isg_states.specs.declared.mark.Mark.{Mark}
 use Rattle.isg_states.specs.declared.scan_key.ScanKey.{ScanKey}
 use Rattle.isg_states.specs.declared.scan_key.ScanKey.TheVariants.{Start, Set}
 use Rattle.isg_states.specs.Marks.{ListsMarks}
-use Rattle.isg_states.specs.Expansion.{Range, LeadsTo, AreApart, AreJoined, IsScanExpansionOf}
+use Rattle.isg_states.specs.Expansion.{Range, LeadsTo, AreApart, IsScanExpansionOf}
 use Rattle.isg_states.specs.Candidates.{GoesOn, IsWithByte, TellsRange, TellsBelow}
 use Rattle.isg_states.proofs.MarkLists.{each_of, all_of, contains_none}
 
@@ -104,8 +103,8 @@ goes_on_start ranges byte last marks there is g =
     let ends = two_ends r.0 g.0 last (g.1, g.2, Set marks) (sym r.1 ∙ g.3) in
     let key : last.2 ≡ Set marks = ap (λ (x : Range). x.2) ends.1 in
     start_or_set last.2 marks is key where
-  start_or_set : (k : ScanKey) (m : List Mark) → k ≡ Start → k ≡ Set m → ⊥
-  start_or_set k m e f = absurd cc
+      start_or_set : (k : ScanKey) (m : List Mark) → k ≡ Start → k ≡ Set m → ⊥
+      start_or_set k m e f = absurd cc
 
 -- there is none
 pub goes_on_none : (ranges : List Range) (byte : ℕ) (marks : List Mark) → None ≡ slice_get ranges (length ranges - 1) → GoesOn ranges byte marks → ⊥
@@ -113,8 +112,8 @@ goes_on_none ranges byte marks none g =
     let len : length ranges ≡ length g.0 + 1 = ap length g.3 ∙ length-append g.0 ((g.1, g.2, Set marks) ∷ []) in
     let within : length ranges - 1 < length ranges = omega arith in
     no_some (slice_get ranges (length ranges - 1)) (get_or ranges (length ranges - 1) (g.1, g.2, Set marks)) (sym none) (slice_get-get_or ranges (length ranges - 1) (g.1, g.2, Set marks) within) where
-  no_some : (o : Option Range) (x : Range) → o ≡ None → o ≡ Some x → ⊥
-  no_some o x e f = absurd cc
+      no_some : (o : Option Range) (x : Range) → o ≡ None → o ≡ Some x → ⊥
+      no_some o x e f = absurd cc
 
 set_last : (before : List Range) (last next : Range) (k : ℕ) → k ≡ length before → slice_set (before ++ last ∷ []) k next ≡ before ++ next ∷ []
 set_last [] last next k e = subst (λ n. slice_set (last ∷ []) n next ≡ next ∷ []) (sym e) refl
@@ -217,14 +216,14 @@ module _ (led : ℕ → List Mark) where
     ];
     whole = λ byte small here. elim (cases_lt byte n) [
       | inl below ↦ (let w = t.whole byte below here in
-        let stops = w.3 in
-        elim (Contains-append_cases before (old ∷ []) w.0 w.1) [
-          | inl d ↦ (w.0, Contains-append_left before (new ∷ []) w.0 d, w.2, w.3)
-          | inr d ↦ elim (contains_cases old [] w.0 d) [
-            | inl e ↦ (new, last_there, subst (λ (r : Range). r.0 ≤ byte) (sym e) w.2, omega arith)
-            | inr none ↦ absurd (contains_none w.0 none)
-          ]
-        ])
+          let stops = w.3 in
+          elim (Contains-append_cases before (old ∷ []) w.0 w.1) [
+            | inl d ↦ (w.0, Contains-append_left before (new ∷ []) w.0 d, w.2, w.3)
+            | inr d ↦ elim (contains_cases old [] w.0 d) [
+              | inl e ↦ (new, last_there, subst (λ (r : Range). r.0 ≤ byte) (sym e) w.2, omega arith)
+              | inr none ↦ absurd (contains_none w.0 none)
+            ]
+          ])
       | inr above ↦ (new, last_there, (let some = was.some in omega arith), omega arith)
     ];
     apart = apart_push before new (apart_before before old t.apart).0 (apart_before before old t.apart).1;
@@ -270,15 +269,15 @@ module _ (led : ℕ → List Mark) where
   pub tells_all : (grammar : Grammar) (key : ScanKey) (ranges : List Range) → TellsBelow led 256 ranges → ((byte : ℕ) → ListsMarks (LeadsTo grammar key byte) (led byte)) → IsScanExpansionOf grammar key ranges
   tells_all grammar key ranges t lists = record {
     each = λ range c. (
-      let r = t.each range c in
-      record {
-        some = r.some;
-        bytes = r.below;
-        marks = r.marks;
-        is = r.is;
-        leads = λ byte low high. subst (ListsMarks (LeadsTo grammar key byte)) (r.leads byte low high) (lists byte);
-        somewhere = r.somewhere;
-      });
+        let r = t.each range c in
+        record {
+          some = r.some;
+          bytes = r.below;
+          marks = r.marks;
+          is = r.is;
+          leads = λ byte low high. subst (ListsMarks (LeadsTo grammar key byte)) (r.leads byte low high) (lists byte);
+          somewhere = r.somewhere;
+        });
     whole = λ byte mark small leads. t.whole byte small (some_mark (led byte) mark (((lists byte).members mark).1 leads));
     apart = t.apart;
     joined = t.joined;

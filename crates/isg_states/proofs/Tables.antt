@@ -67,8 +67,8 @@ module _ {grammar : Grammar} {table : Table} (mark : Mark) (a : ArePositions gra
       let within = slice_get_within table.classes mark.index set e in
       let same : get_or table.classes mark.index [] ≡ set = some_same _ _ _ (slice_get-get_or table.classes mark.index [] within) e in
       (a.pattern, a.has_pattern, subst (λ sets. get_or sets mark.index [] ≡ set) a.positions.classes same) where
-    some_same : (o : Option (List ℕ)) (x y : List ℕ) → o ≡ Some x → o ≡ Some y → x ≡ y
-    some_same o x y h k = cc
+        some_same : (o : Option (List ℕ)) (x y : List ℕ) → o ≡ Some x → o ≡ Some y → x ≡ y
+        some_same o x y h k = cc
 
 -- ---- indices are small
 
@@ -89,7 +89,7 @@ row_members : {grammar : Grammar} {definition : DefId} {table : Table} (a : AreP
     → (p : ℕ) → IsTrue (has row p) ↔ Succeeds (MarkedWord a.pattern) q p
 row_members {table = table} a q row within e p =
     subst (λ r. IsTrue (has r p) ↔ Succeeds (MarkedWord a.pattern) q p) (row_at table.follow q row e)
-        ((a.positions.follow q (subst (λ sets. q < length sets) a.positions.classes within)).members p)
+    ((a.positions.follow q (subst (λ sets. q < length sets) a.positions.classes within)).members p)
 
 pub row_small : {grammar : Grammar} {definition : DefId} {table : Table} → ArePositions grammar definition table → (q : ℕ) (row : List ℕ) → q < length table.classes → slice_get table.follow q ≡ Some row
     → (index : ℕ) → IsTrue (has row index) → index < 256

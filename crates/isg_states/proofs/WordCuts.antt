@@ -67,17 +67,17 @@ cut_pieces P u q v (x ∷ words) all e =
         right = k.after;
       }
       | inr k ↦ let rest = cut_pieces P k.front q v words all.1 k.word in
-      record {
-        before = x ∷ rest.before;
-        front = rest.front;
-        back = rest.back;
-        after = rest.after;
-        each_before = (all.0, rest.each_before);
-        piece = rest.piece;
-        each_after = rest.each_after;
-        left = k.before ∙ ap (λ t. x ++ t) rest.left ∙ sym (append_assoc x (concat rest.before) rest.front);
-        right = rest.right;
-      }
+          record {
+            before = x ∷ rest.before;
+            front = rest.front;
+            back = rest.back;
+            after = rest.after;
+            each_before = (all.0, rest.each_before);
+            piece = rest.piece;
+            each_after = rest.each_after;
+            left = k.before ∙ ap (λ t. x ++ t) rest.left ∙ sym (append_assoc x (concat rest.before) rest.front);
+            right = rest.right;
+          }
     ]
 
 -- a number of the numbers from n on tells its place

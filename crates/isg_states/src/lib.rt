@@ -21,8 +21,8 @@ mod winner;
 
 pub use expansion::expand_scan;
 pub use laws::{
-    accepted_is_winner, after_first, after_longer, last_is_match, one_accepted, one_cost, one_expansion,
-    targets_are_marks,
+    accepted_is_winner, after_first, after_longer, last_is_match, one_accepted, one_cost,
+    one_expansion, targets_are_marks,
 };
 pub use mark::Mark;
 pub use marks::Marks;

@@ -116,7 +116,12 @@ fn following_marks<L: Ledger>(
     let mut found = Vec::new(alloc);
     for member in members {
         let positions = live_positions(grammar, member.def);
-        add_marks(&mut found, member.def, positions.follow(member.index), steps)?;
+        add_marks(
+            &mut found,
+            member.def,
+            positions.follow(member.index),
+            steps,
+        )?;
     }
     Ok(found)
 }

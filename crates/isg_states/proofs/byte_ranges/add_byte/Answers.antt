@@ -1,4 +1,4 @@
-use Rattle.std.proofs.Common.{◌≡◌, ℕ, ◌-◌, length, refl, subst, arith}
+use Rattle.std.proofs.Common.{◌≡◌, ◌-◌, length, refl, subst, arith}
 use Rattle.isg_states.specs.Candidates.{GoesOn}
 use Rattle.isg_states.proofs.RangeLists.{set_goes_on}
 use Rattle.isg_states.proofs.byte_ranges.add_byte.Goals as goal

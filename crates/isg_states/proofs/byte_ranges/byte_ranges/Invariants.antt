@@ -1,4 +1,3 @@
-use Rattle.std.proofs.Common.{ℕ}
 use Rattle.isg_states.specs.Candidates.{marks_with, TellsBelow}
 use Rattle.isg_states.proofs.byte_ranges.byte_ranges.Given as goal
 

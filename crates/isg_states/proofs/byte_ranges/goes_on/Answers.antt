@@ -1,6 +1,6 @@
-use Rattle.std.proofs.Common.{◌≡◌, ◌+◌, ◌-◌, length, slice_get, Some, sym, subst, ◌∙◌, ap, arith}
+use Rattle.std.proofs.Common.{◌≡◌, ◌+◌, ◌-◌, length, slice_get, Some, sym, ◌∙◌, ap, arith}
 use Rattle.isg_states.specs.Sameness.{marks_eq, marks_eq-decides}
-use Rattle.isg_states.proofs.RangeLists.{goes_on_key, goes_on_not, goes_on_start, goes_on_none}
+use Rattle.isg_states.proofs.RangeLists.{goes_on_key}
 use Rattle.isg_states.proofs.byte_ranges.goes_on.Goals as goal
 
 pub returns-in-Set : goal.returns-in-Set

@@ -1,4 +1,4 @@
-use Rattle.std.proofs.Common.{◌≡◌, ℕ, ◌+◌, length, take, Contains}
+use Rattle.std.proofs.Common.{◌≡◌, take}
 use Rattle.isg_states.specs.Candidates.{marks_of, AreClasses}
 use Rattle.isg_states.proofs.candidates.candidates.Given as goal
 

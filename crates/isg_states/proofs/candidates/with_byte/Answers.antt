@@ -1,4 +1,4 @@
-use Rattle.std.proofs.Common.{ℕ, ◌+◌, ◌<◌, length, ◌∷◌, ◌++◌, [], ap, sym, ◌∙◌, arith}
+use Rattle.std.proofs.Common.{◌<◌, length, ◌∷◌, ◌++◌, [], ap, sym, ◌∙◌, arith}
 use Rattle.isg_states.proofs.CandidateLists.{with_more, with_same}
 use Rattle.isg_states.proofs.candidates.with_byte.Goals as goal
 use Rattle.isg_states.proofs.candidates.with_byte.Goals.{then-has+in_ok-push, else-has}

@@ -1,4 +1,4 @@
-use Rattle.std.proofs.Common.{◌≡◌, ℕ, ◌+◌, length, take}
+use Rattle.std.proofs.Common.{◌≡◌, take}
 use Rattle.isg_states.specs.Candidates.{marks_with}
 use Rattle.isg_states.proofs.candidates.with_byte.Given as goal
 

@@ -1,4 +1,4 @@
-use Rattle.std.proofs.Common.{◌≡◌, ap, ◌∙◌, sym, subst, Contains}
+use Rattle.std.proofs.Common.{◌∙◌, sym, subst, Contains}
 use Rattle.isg_states.specs.Marks.{ListsMarks}
 use Rattle.isg_states.specs.Expansion.{CanFollow}
 use Rattle.isg_states.specs.Candidates.{marks_of, marks_with, AreClasses, TellsBelow}

@@ -14,4 +14,4 @@ pub returns-in_ok-insert-in-Err-clause-added : goal.returns-in_ok-insert-in-Err-
 returns-in_ok-insert-in-Err-clause-added g c =
     let position = c.in-Err.ensures.position (λ (y : Mark). mark_cmp y c.args.mark) (always_returns_same _ _ _ (λ a r f h. search rules)) in
     rw c.in_ok-insert-in-Err.ensures.items
-        (put_new c.args.found.now.items c.args.mark c.requires.order c.in-Err.place (rw c.deref.ensures.value at c.in-Err.ensures.bound) (rw c.deref.ensures.value at position))
+    (put_new c.args.found.now.items c.args.mark c.requires.order c.in-Err.place (rw c.deref.ensures.value at c.in-Err.ensures.bound) (rw c.deref.ensures.value at position))

@@ -1,4 +1,4 @@
-use Rattle.std.proofs.Common.{ℕ, ◌+◌, ◌<◌, ◌≤◌, length, get_or, arith}
+use Rattle.std.proofs.Common.{◌<◌, ◌≤◌, length, arith}
 use Rattle.isg_states.proofs.Tables.{has_at, small_one, index_more, index_all}
 use Rattle.isg_states.proofs.next_marks.add_marks.Goals as goal
 

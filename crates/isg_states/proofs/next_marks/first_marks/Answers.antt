@@ -1,4 +1,4 @@
-use Rattle.std.proofs.Common.{ℕ, ◌+◌, ◌<◌, ◌≤◌, length, arith}
+use Rattle.std.proofs.Common.{◌<◌, ◌≤◌, length, arith}
 use Rattle.isg_states.proofs.MarkLists.{list_none, contains_none}
 use Rattle.isg_states.proofs.Tables.{firsts_small, small_more, first_more, first_all}
 use Rattle.isg_states.proofs.next_marks.first_marks.Goals as goal

@@ -1,4 +1,4 @@
-use Rattle.std.proofs.Common.{ℕ, ◌+◌, ◌<◌, ◌≤◌, length, arith}
+use Rattle.std.proofs.Common.{◌<◌, ◌≤◌, length, arith}
 use Rattle.std.proofs.lemmas.List.Elements.{Contains-get_or}
 use Rattle.isg_states.proofs.MarkLists.{list_none, contains_none}
 use Rattle.isg_states.proofs.Tables.{index_within, row_small, small_more, following_more, following_all}
@@ -25,7 +25,7 @@ pub add_marks-requires-clause-indices : goal.add_marks-requires-clause-indices
 add_marks-requires-clause-indices g c =
     let within : c.loop-member.member-index < length c.args.members.now = omega arith in
     row_small c.live_positions-positions.ensures _ c.follow.result.now
-        (index_within _ c.live_positions-positions.ensures (c.requires _ (Contains-get_or c.args.members.now c.loop-member.member-index _ within))) c.follow.ensures
+    (index_within _ c.live_positions-positions.ensures (c.requires _ (Contains-get_or c.args.members.now c.loop-member.member-index _ within))) c.follow.ensures
 
 pub loop-member-preserved : goal.loop-member-preserved
 loop-member-preserved g c =

@@ -1,4 +1,4 @@
-use Rattle.std.proofs.Common.{ℕ, take}
+use Rattle.std.proofs.Common.{take}
 use Rattle.isg_states.specs.Winners.{IsFirstEnded}
 use Rattle.isg_states.proofs.winner.first_ended.Given as goal
 
