@@ -1,0 +1,26 @@
+-- How items, moves and reductions are ordered, and what `==` tells of items.
+use Rattle.std.specs.Prelude.{Bool, List, nat_eq}
+use Rattle.std.specs.Ordering.{nat_cmp, ordering_then, on, eq_of_both}
+use Rattle.std.specs.Cmp.{IsEquivalence, on_equiv, and_equiv, nat_eq_equiv}
+use Rattle.std.specs.declared.cmp.Ordering.{Ordering}
+use Rattle.forest.specs.declared.symbols.SymbolId.{SymbolId}
+use Rattle.forest.specs.declared.rules.RuleId.{RuleId}
+use Rattle.item_sets.specs.declared.item.Item.{Item}
+
+-- by rule, then by dot
+abbrev pub item_cmp : Item → Item → Ordering
+item_cmp a b = ordering_then (nat_cmp a.rule.0 b.rule.0) (nat_cmp a.dot b.dot)
+
+-- a symbol, and the kernel behind it: by the symbol
+abbrev pub move_cmp : SymbolId × List Item → SymbolId × List Item → Ordering
+move_cmp a b = nat_cmp a.0.0 b.0.0
+
+-- by number
+abbrev pub reduction_cmp : RuleId → RuleId → Ordering
+reduction_cmp a b = nat_cmp a.0 b.0
+
+abbrev pub item_eq : Item → Item → Bool
+item_eq = eq_of_both (on (λ a. a.rule.0) nat_eq) (on (λ a. a.dot) nat_eq)
+
+pub item_equiv : IsEquivalence item_eq
+item_equiv = and_equiv (on_equiv (λ (a : Item). a.rule.0) nat_eq_equiv) (on_equiv (λ (a : Item). a.dot) nat_eq_equiv)
