@@ -1,0 +1,6 @@
+pub mod Marks
+pub mod Patterns
+pub mod After
+pub mod Expansion
+pub mod Winners
+pub mod Sameness
