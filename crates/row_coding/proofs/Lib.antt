@@ -1,0 +1,4 @@
+pub mod PiecesWritten
+pub mod PiecesRead
+pub mod Inverses
+pub mod MovesRead

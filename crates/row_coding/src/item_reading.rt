@@ -1,12 +1,13 @@
 //! Expansions of item sets from their words.
 
-ghost use Rattle.std.specs.Prelude.{◌≡◌, ℕ, ◌<◌, ◌^◌, ◌/◌, List, ◌++◌, IfOk, All, length, map, flat_map};
+ghost use Rattle.std.specs.Prelude.{◌≡◌, ℕ, ◌<◌, ◌^◌, ◌/◌, List, IfOk, All, length, slice_index, map};
 ghost use Rattle.item_sets.specs.declared.expansion.Expansion.{Expansion};
 ghost use Rattle.row_coding.specs.Words.{item_payload_words};
 ghost use Rattle.row_coding.specs.Conditions.{FitsCoding, IsTyped};
-ghost use Rattle.row_coding.specs.Reading.{Move, symbol_of, rule_of, item_of, AreItemWords, BeginWithMoves};
+ghost use Rattle.row_coding.specs.Reading.{Move, symbol_of, rule_of, item_of, piece_of, AreItemWords, BeginWithMove, BeginWithMoves};
 
 use crate::NoMemory;
+use crate::pieces::{piece_of, rest_of};
 use forest::{RuleId, SymbolId};
 use item_sets::{Expansion, Item, Kernel, Moves, Reductions};
 use smallvec::SmallVec;
@@ -38,16 +39,14 @@ fn read_kernel(alloc: Global, words: &[u64], items: &mut Buffer) -> Result<Kerne
 
 fn read_move(
     alloc: Global,
-    symbol: u64,
     words: &[u64],
     items: &mut Buffer,
 ) -> Result<(SymbolId, Kernel), NoMemory>
-    requires symbol { symbol < 2 ^ 32 }
-    requires words { AreItemWords words.now }
-    ensures { IfOk result (λ entry. entry ≡ (symbol_of symbol, map item_of words.now)) }
+    requires { BeginWithMove words.now }
+    ensures { IfOk result (λ entry. entry ≡ (symbol_of (slice_index words.now 0), map item_of (piece_of words.now))) }
 {
-    let kernel = read_kernel(alloc, words, items)?;
-    Ok((SymbolId(symbol as u32), kernel))
+    let kernel = read_kernel(alloc, piece_of(words), items)?;
+    Ok((SymbolId(words[0] as u32), kernel))
 }
 
 /// The moves that these words begin with.
@@ -63,9 +62,8 @@ fn read_moves(
     let mut items = SmallVec::new(alloc);
     let mut rest = words;
     for _i in 0..count {
-        let end = rest[1] as usize + 2;
-        moves.push_reserved(read_move(alloc, rest[0], &rest[2..end], &mut items)?);
-        rest = &rest[end..];
+        moves.push_reserved(read_move(alloc, rest, &mut items)?);
+        rest = rest_of(rest);
     }
     Ok(moves)
 }

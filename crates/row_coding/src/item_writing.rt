@@ -10,13 +10,19 @@ use forest::{RuleId, SymbolId};
 use item_sets::{Expansion, Item, Kernel};
 use std::alloc::{AllocError, Global};
 
+fn item_word(item: Item) -> u64
+    ensures { result ≡ item_word item }
+{
+    u64::from(item.rule.0) * 32 + u64::from(item.dot)
+}
+
 fn push_items(words: &mut Vec<u64>, items: &[Item])
     requires { vec_len words.old + length items.now ≤ vec_capacity words.old }
     ensures items { words.new.items ≡ words.old.items ++ map item_word items.now }
     ensures capacity { vec_capacity words.new ≡ vec_capacity words.old }
 {
     for item in items {
-        words.push_reserved(u64::from(item.rule.0) * 32 + u64::from(item.dot));
+        words.push_reserved(item_word(*item));
     }
 }
 

@@ -10,6 +10,7 @@ mod item_reading;
 mod item_writing;
 mod kinds;
 mod laws;
+mod pieces;
 mod scan_reading;
 mod scan_writing;
 

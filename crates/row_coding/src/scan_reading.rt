@@ -1,14 +1,14 @@
 //! Expansions of scanner states from their words.
 
-ghost use Rattle.std.specs.Prelude.{◌≡◌, ℕ, ◌<◌, ◌^◌, ◌/◌, ◌%◌, List, IfOk, length, map};
+ghost use Rattle.std.specs.Prelude.{◌≡◌, ℕ, ◌<◌, ◌^◌, ◌/◌, List, IfOk, length, slice_index, map};
 ghost use Rattle.isg_states.specs.declared.ranges.ScanExpansion.{ScanExpansion};
-ghost use Rattle.isg_states.specs.declared.scan_key.ScanKey.TheVariants.{Set};
 ghost use Rattle.isg_states.specs.Expansion.{Range};
 ghost use Rattle.row_coding.specs.Words.{scan_payload_words};
 ghost use Rattle.row_coding.specs.Conditions.{FitsScanCoding, IsTypedScan};
-ghost use Rattle.row_coding.specs.Reading.{definition_of_number, mark_of, AreMarkWords, BeginWithRanges};
+ghost use Rattle.row_coding.specs.Reading.{definition_of_number, mark_of, range_of, piece_of, AreMarkWords, BeginWithRange, BeginWithRanges};
 
 use crate::NoMemory;
+use crate::pieces::{piece_of, rest_of};
 use edit_log::DefId;
 use forest::{RuleId, SymbolId};
 use isg_states::{Mark, Marks, Ranges, ScanExpansion, ScanKey};
@@ -51,15 +51,14 @@ fn read_marks(alloc: Global, words: &[u64], marks: &mut Buffer) -> Result<Marks,
 
 fn read_range(
     alloc: Global,
-    ends: u64,
     words: &[u64],
     marks: &mut Buffer,
 ) -> Result<(u8, u8, ScanKey), NoMemory>
-    requires ends { ends < 2 ^ 16 }
-    requires words { AreMarkWords words.now }
-    ensures { IfOk result (λ range. range ≡ (ends / 256, ends % 256, Set (map mark_of words.now))) }
+    requires { BeginWithRange words.now }
+    ensures { IfOk result (λ range. range ≡ range_of (slice_index words.now 0) (piece_of words.now)) }
 {
-    let set = read_marks(alloc, words, marks)?;
+    let set = read_marks(alloc, piece_of(words), marks)?;
+    let ends = words[0];
     Ok(((ends / 256) as u8, (ends % 256) as u8, ScanKey::Set(set)))
 }
 
@@ -76,9 +75,8 @@ fn read_ranges(
     let mut marks = SmallVec::new(alloc);
     let mut rest = words;
     for _i in 0..count {
-        let end = rest[1] as usize + 2;
-        ranges.push_reserved(read_range(alloc, rest[0], &rest[2..end], &mut marks)?);
-        rest = &rest[end..];
+        ranges.push_reserved(read_range(alloc, rest, &mut marks)?);
+        rest = rest_of(rest);
     }
     Ok(ranges)
 }
