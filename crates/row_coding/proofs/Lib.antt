@@ -2,3 +2,4 @@ pub mod PiecesWritten
 pub mod PiecesRead
 pub mod Inverses
 pub mod MovesRead
+pub mod OneCoding

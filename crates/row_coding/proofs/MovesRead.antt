@@ -1,16 +1,19 @@
 -- What is read from the words of moves is what was coded.
-use Rattle.std.proofs.Common.{◌≡◌, ℕ, ◌+◌, ◌<◌, ◌/◌, ◌^◌, List, [], ◌∷◌, ◌++◌, length, get_or, drop, map, flat_map, All, refl, sym, ap, ◌∙◌, subst, arith}
-use Rattle.std.proofs.lemmas.List.{length-map}
+use Rattle.std.proofs.Common.{◌≡◌, ℕ, ◌+◌, ◌-◌, ◌<◌, ◌≤◌, ◌/◌, ◌^◌, List, [], ◌∷◌, ◌++◌, length, get_or, take, drop, map, flat_map, All, refl, sym, ap, ◌∙◌, subst, arith, length-append}
+use Rattle.std.proofs.lemmas.List.{length-map, take_rest, drop_at}
 use Rattle.std.specs.List.Sorted.{IsStrictlySortedBy}
-use Rattle.std.proofs.lemmas.List.Elements.{All-head, All-tail, All-cons, All-nil, All-get_or}
+use Rattle.std.proofs.lemmas.List.Elements.{All-head, All-tail, All-cons, All-nil, All-get_or, All-map}
+use Rattle.forest.specs.declared.rules.RuleId.{RuleId}
 use Rattle.item_sets.specs.declared.item.Item.{Item}
+use Rattle.item_sets.specs.declared.expansion.Expansion.{Expansion}
 use Rattle.item_sets.specs.Orders.{item_cmp}
-use Rattle.row_coding.specs.Words.{item_word, move_words}
-use Rattle.row_coding.specs.Conditions.{IsTypedItem}
+use Rattle.row_coding.specs.Words.{item_word, move_words, item_payload_words}
+use Rattle.row_coding.specs.Conditions.{FitsCoding, IsTypedItem, IsTyped}
 use Rattle.row_coding.specs.Reading.{Move, symbol_of, item_of, piece_of, rest_of, AreItemWords, BeginWithMove, BeginWithMoves, IsReadable}
 use Rattle.row_coding.proofs.PiecesWritten.{next_piece}
 use Rattle.row_coding.proofs.PiecesRead.{first_word, is_piece, own_words, words_after}
 use Rattle.row_coding.proofs.Inverses.{rule_in_word, items_back, HasSmallDot}
+use Rattle.row_coding.proofs.OneCoding.{at_each_place}
 
 -- the rules in the words of items are of 32 bits
 rules_fit : (items : List Item) → All IsTypedItem items → All HasSmallDot items → All (λ word. word / 32 < 2 ^ 32) (map item_word items)
@@ -78,3 +81,48 @@ module _ (words now rest : List ℕ) (moves : List Move) (i : ℕ) (begin : Begi
 
   pub after_next : rest_of now ≡ flat_map move_words (drop (i + 1) moves) ++ rest
   after_next = after_move now move (flat_map move_words (drop (i + 1) moves) ++ rest) readable next
+
+-- each move of an expansion can be read
+pub readable_moves : (coded : Expansion) → FitsCoding coded → IsTyped coded → All IsReadable coded.moves
+readable_moves coded fits typed =
+    at_each_place IsReadable coded.moves (λ move there.
+      let types = typed.moves move.0 move.1 there in
+      record {
+        symbol = types.number;
+        rules = at_each_place IsTypedItem move.1 types.rules;
+        dots = at_each_place HasSmallDot move.1 (fits move.0 move.1 there);
+        ascending = types.ascending;
+      })
+
+-- a payload: the moves stand after two words, and the rules of the reductions are last
+module _ (payload : List ℕ) (coded : Expansion) (fits : FitsCoding coded) (typed : IsTyped coded) (is : payload ≡ item_payload_words coded) where
+  pub moves_begin : BeginWithMoves (take (length payload - 2) (drop 2 payload)) coded.moves (map (λ (rule : RuleId). rule.0) coded.reductions)
+  moves_begin = record {
+    readable = readable_moves coded fits typed;
+    are = take_rest payload 2 ∙ ap (drop 2) is;
+  }
+
+  pub moves_count : length coded.moves ≡ get_or payload 0 0
+  moves_count = sym (ap (λ ws. get_or ws 0 0) is)
+
+  reductions_count : get_or payload 1 0 ≡ length coded.reductions
+  reductions_count = ap (λ ws. get_or ws 1 0) is
+
+  pub last_words : take (length payload - (length payload - get_or payload 1 0)) (drop (length payload - get_or payload 1 0) payload)
+      ≡ map (λ (rule : RuleId). rule.0) coded.reductions
+  last_words =
+      let own = map (λ (rule : RuleId). rule.0) coded.reductions in
+      let front = length coded.moves ∷ length coded.reductions ∷ flat_map move_words coded.moves in
+      let first = length payload - get_or payload 1 0 in
+      take_rest payload first ∙ ap (drop first) is
+      ∙ drop_at front own first (omega (arith, ap length is, reductions_count, length-append (flat_map move_words coded.moves) own, length-map coded.reductions (λ (rule : RuleId). rule.0)))
+
+  pub reductions_within : get_or payload 1 0 ≤ length payload
+  reductions_within = omega (arith, ap length is, reductions_count, length-append (flat_map move_words coded.moves) (map (λ (rule : RuleId). rule.0) coded.reductions), length-map coded.reductions (λ (rule : RuleId). rule.0))
+
+  pub two_words : 2 ≤ length payload
+  two_words = omega (arith, ap length is)
+
+  pub last_fit : All (λ word. word < 2 ^ 32) (map (λ (rule : RuleId). rule.0) coded.reductions)
+  last_fit = All-map (λ word. word < 2 ^ 32) (λ (rule : RuleId). rule.0) coded.reductions
+      (at_each_place (λ (rule : RuleId). rule.0 < 2 ^ 32) coded.reductions typed.reductions)
