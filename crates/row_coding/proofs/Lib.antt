@@ -3,3 +3,4 @@ pub mod PiecesRead
 pub mod Inverses
 pub mod MovesRead
 pub mod OneCoding
+pub mod RangesRead

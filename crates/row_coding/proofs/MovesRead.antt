@@ -117,12 +117,6 @@ module _ (payload : List ℕ) (coded : Expansion) (fits : FitsCoding coded) (typ
       take_rest payload first ∙ ap (drop first) is
       ∙ drop_at front own first (omega (arith, ap length is, reductions_count, length-append (flat_map move_words coded.moves) own, length-map coded.reductions (λ (rule : RuleId). rule.0)))
 
-  pub reductions_within : get_or payload 1 0 ≤ length payload
-  reductions_within = omega (arith, ap length is, reductions_count, length-append (flat_map move_words coded.moves) (map (λ (rule : RuleId). rule.0) coded.reductions), length-map coded.reductions (λ (rule : RuleId). rule.0))
-
-  pub two_words : 2 ≤ length payload
-  two_words = omega (arith, ap length is)
-
   pub last_fit : All (λ word. word < 2 ^ 32) (map (λ (rule : RuleId). rule.0) coded.reductions)
   last_fit = All-map (λ word. word < 2 ^ 32) (λ (rule : RuleId). rule.0) coded.reductions
       (at_each_place (λ (rule : RuleId). rule.0 < 2 ^ 32) coded.reductions typed.reductions)
