@@ -2,7 +2,7 @@
 //!
 //! A payload is counted before it is written, so that its buffer is made once and never grows.
 
-ghost use Rattle.std.specs.Prelude.{◌≡◌, ◌+◌, ◌≤◌, [], ◌∷◌, ◌++◌, IfOk, IfSome, length, map, flat_map, vec_len, vec_capacity};
+ghost use Rattle.std.specs.Prelude.{◌≡◌, ◌+◌, ◌*◌, ◌≤◌, [], ◌∷◌, ◌++◌, IfOk, IfSome, length, map, flat_map, vec_len, vec_capacity};
 ghost use Rattle.isg_states.specs.Marks.{mark_number};
 ghost use Rattle.row_coding.specs.Words.{marks_in, scan_key_words, range_words, scan_payload_words};
 
@@ -74,13 +74,20 @@ fn ranges_len(ranges: &[(u8, u8, ScanKey)]) -> Option<usize>
     Some(len)
 }
 
+/// Both ends of a range in one word.
+fn ends_word(low: u8, high: u8) -> u64
+    ensures { result ≡ low * 256 + high }
+{
+    u64::from(low) * 256 + u64::from(high)
+}
+
 fn push_range(words: &mut Vec<u64>, range: &(u8, u8, ScanKey))
     requires { vec_len words.old + length (range_words range.now) ≤ vec_capacity words.old }
     ensures items { words.new.items ≡ words.old.items ++ range_words range.now }
     ensures capacity { vec_capacity words.new ≡ vec_capacity words.old }
 {
     let marks = marks_in(&range.2);
-    words.push_reserved(u64::from(range.0) * 256 + u64::from(range.1));
+    words.push_reserved(ends_word(range.0, range.1));
     words.push_reserved(marks.len() as u64);
     push_marks(words, marks);
 }
