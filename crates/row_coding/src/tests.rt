@@ -6,17 +6,21 @@ use crate::{
 };
 use edit_log::DefId;
 use forest::SymbolId;
-use isg_states::{Mark, Marks, ScanKey};
-use item_sets::Kernel;
+use isg_states::{Mark, Marks, ScanExpansion, ScanKey};
+use item_sets::{Expansion, Kernel};
 use std::alloc::Global;
 use std::test::Fail;
 
 const ITEMS: [u64; 12] = [3, 0, 0, 1, 1, 1, 2, 33, 65, 3, 1, 97];
 const RANGES: [u64; 7] = [2, 11051, 1, 1024, 24929, 1, 1536];
 
-/// The start's expansion as it is read: a move a line, with its symbol and then rule and dot of each item.
-fn moves_read(alloc: Global) -> Result<String, NoMemory> {
-    let expansion = read_items(alloc, &ITEMS)?;
+/// The expansion of the start kernel, and that of the scanner's start.
+fn expansions(alloc: Global) -> Result<(Expansion, ScanExpansion), NoMemory> {
+    Ok((read_items(alloc, &ITEMS)?, read_scan(alloc, &RANGES)?))
+}
+
+/// A move a line, with its symbol and then rule and dot of each item.
+fn moves_told(alloc: Global, expansion: &Expansion) -> Result<String, NoMemory> {
     let mut text = String::new(alloc);
     for entry in expansion.moves.as_slice() {
         push_number(&mut text, entry.0.0)?;
@@ -33,14 +37,6 @@ fn push_number(text: &mut String, number: u32) -> Result<(), NoMemory> {
     text.push(char::from_digit(number % 10, 10).unwrap_or('?'))
 }
 
-fn items_again(alloc: Global) -> Result<Vec<u64>, NoMemory> {
-    item_payload(alloc, &read_items(alloc, &ITEMS)?)
-}
-
-fn ranges_again(alloc: Global) -> Result<Vec<u64>, NoMemory> {
-    scan_payload(alloc, &read_scan(alloc, &RANGES)?)
-}
-
 fn set_key(alloc: Global) -> Result<Vec<u64>, NoMemory> {
     let mark = Mark {
         def: DefId::Literal(SymbolId(3)),
@@ -50,18 +46,20 @@ fn set_key(alloc: Global) -> Result<Vec<u64>, NoMemory> {
 }
 
 #[test]
-fn item_sets_are_coded(rt: HostRuntime) -> Result<(), Fail> {
-    assert_eq!(rt; item_key(rt.alloc(), &Kernel::start(rt.alloc()))?.as_slice(), [1, 0].as_slice());
-    assert_eq!(rt; moves_read(rt.alloc())?.as_str(), "001\n11121\n331\n");
-    assert_eq!(rt; items_again(rt.alloc())?.as_slice(), ITEMS.as_slice());
+fn states_are_coded(rt: HostRuntime) -> Result<(), Fail> {
+    let (items, ranges) = expansions(rt.alloc())?;
+    assert_eq!(rt; moves_told(rt.alloc(), &items)?.as_str(), "001\n11121\n331\n");
+    assert_eq!(rt; item_payload(rt.alloc(), &items)?.as_slice(), ITEMS.as_slice());
+    assert_eq!(rt; scan_payload(rt.alloc(), &ranges)?.as_slice(), RANGES.as_slice());
     Ok(())
 }
 
 #[test]
-fn scanner_states_are_coded(rt: HostRuntime) -> Result<(), Fail> {
+fn keys_are_coded(rt: HostRuntime) -> Result<(), Fail> {
+    let start = Kernel::start(rt.alloc());
+    assert_eq!(rt; item_key(rt.alloc(), &start)?.as_slice(), [1, 0].as_slice());
     assert_eq!(rt; scan_key(rt.alloc(), &ScanKey::Start)?.as_slice(), [2].as_slice());
     assert_eq!(rt; set_key(rt.alloc())?.as_slice(), [3, 1536].as_slice());
-    assert_eq!(rt; ranges_again(rt.alloc())?.as_slice(), RANGES.as_slice());
     Ok(())
 }
 
