@@ -1,5 +1,5 @@
 -- What is read from the words of moves is what was coded.
-use Rattle.std.proofs.Common.{◌≡◌, ℕ, ◌+◌, ◌-◌, ◌<◌, ◌≤◌, ◌/◌, ◌^◌, List, [], ◌∷◌, ◌++◌, length, get_or, take, drop, map, flat_map, All, refl, sym, ap, ◌∙◌, subst, arith, length-append}
+use Rattle.std.proofs.Common.{◌≡◌, ℕ, ◌+◌, ◌-◌, ◌<◌, ◌/◌, ◌^◌, List, [], ◌∷◌, ◌++◌, length, get_or, take, drop, map, flat_map, All, sym, ap, ◌∙◌, subst, arith, length-append}
 use Rattle.std.proofs.lemmas.List.{length-map, take_rest, drop_at}
 use Rattle.std.specs.List.Sorted.{IsStrictlySortedBy}
 use Rattle.std.proofs.lemmas.List.Elements.{All-head, All-tail, All-cons, All-nil, All-get_or, All-map}
@@ -86,13 +86,13 @@ module _ (words now rest : List ℕ) (moves : List Move) (i : ℕ) (begin : Begi
 pub readable_moves : (coded : Expansion) → FitsCoding coded → IsTyped coded → All IsReadable coded.moves
 readable_moves coded fits typed =
     at_each_place IsReadable coded.moves (λ move there.
-      let types = typed.moves move.0 move.1 there in
-      record {
-        symbol = types.number;
-        rules = at_each_place IsTypedItem move.1 types.rules;
-        dots = at_each_place HasSmallDot move.1 (fits move.0 move.1 there);
-        ascending = types.ascending;
-      })
+    let types = typed.moves move.0 move.1 there in
+    record {
+      symbol = types.number;
+      rules = at_each_place IsTypedItem move.1 types.rules;
+      dots = at_each_place HasSmallDot move.1 (fits move.0 move.1 there);
+      ascending = types.ascending;
+    })
 
 -- a payload: the moves stand after two words, and the rules of the reductions are last
 module _ (payload : List ℕ) (coded : Expansion) (fits : FitsCoding coded) (typed : IsTyped coded) (is : payload ≡ item_payload_words coded) where

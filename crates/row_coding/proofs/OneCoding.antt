@@ -1,10 +1,9 @@
 -- What has the same words is the same.
-use Rattle.std.proofs.Common.{◌≡◌, ℕ, ◌+◌, ◌*◌, ◌<◌, ◌/◌, ◌%◌, List, [], ◌∷◌, ◌++◌, length, take, drop, map, flat_map, All, Contains, get_or, refl, sym, ap, ◌∙◌, subst, arith, append_assoc}
-use Rattle.std.proofs.lemmas.List.{take_at, drop_at, length-map, get_or_default, append_cancel_right}
+use Rattle.std.proofs.Common.{◌≡◌, ℕ, ◌+◌, ◌*◌, ◌<◌, List, [], ◌∷◌, ◌++◌, length, take, drop, map, flat_map, All, Contains, get_or, refl, sym, ap, ◌∙◌, subst, arith, append_assoc}
+use Rattle.std.proofs.lemmas.List.{take_at, drop_at, length-map, get_or_default}
 use Rattle.std.proofs.lemmas.List.Elements.{All-head, All-tail}
 use Rattle.std.proofs.lemmas.Map.Keys.{IsStrictlySortedBy-prop}
 use Rattle.std.specs.List.Sorted.{IsStrictlySortedBy}
-use Rattle.forest.specs.declared.symbols.SymbolId.{SymbolId}
 use Rattle.forest.specs.declared.rules.RuleId.{RuleId}
 use Rattle.item_sets.specs.declared.item.Item.{Item}
 use Rattle.item_sets.specs.declared.expansion.Expansion.{Expansion}
@@ -16,7 +15,7 @@ use Rattle.isg_states.specs.declared.ranges.ScanExpansion.{ScanExpansion}
 use Rattle.isg_states.specs.Marks.{mark_number}
 use Rattle.isg_states.specs.Expansion.{Range}
 use Rattle.row_coding.specs.Words.{item_word, move_words, item_payload_words, marks_in, range_words, scan_payload_words}
-use Rattle.row_coding.specs.Conditions.{FitItems, FitsCoding, FitMarks, FitsRange, FitsScanCoding}
+use Rattle.row_coding.specs.Conditions.{FitsCoding, FitsRange, FitsScanCoding}
 use Rattle.row_coding.specs.Rows.{Key, key_words, FitsKey}
 use Rattle.row_coding.specs.Rows.Key.{kernel, scan}
 use Rattle.row_coding.specs.Reading.{Move, symbol_of, rule_of, item_of, mark_of}
@@ -100,7 +99,7 @@ one_item_payload a b fa fb e =
     let len : length a.moves ≡ length b.moves = cc in
     let tails : flat_map move_words a.moves ++ map (λ (rule : RuleId). rule.0) a.reductions ≡ flat_map move_words b.moves ++ map (λ (rule : RuleId). rule.0) b.reductions = cc in
     let parts = one_list move_words FitsMove one_move a.moves b.moves (map (λ (rule : RuleId). rule.0) a.reductions) (map (λ (rule : RuleId). rule.0) b.reductions)
-        (fits_moves a fa) (fits_moves b fb) len tails in
+    (fits_moves a fa) (fits_moves b fb) len tails in
     same_expansion a b parts.0 (sym (rules_back a.reductions) ∙ ap (map rule_of) parts.1 ∙ rules_back b.reductions)
 
 -- ranges
@@ -116,7 +115,7 @@ one_range a b t u fa fb e =
     let len : length (marks_in a.2) ≡ length (marks_in b.2) = cc in
     let tails : map mark_number (marks_in a.2) ++ t ≡ map mark_number (marks_in b.2) ++ u = cc in
     let parts = one_front (map mark_number (marks_in a.2)) (map mark_number (marks_in b.2)) t u
-        (length-map (marks_in a.2) mark_number ∙ len ∙ sym (length-map (marks_in b.2) mark_number)) tails in
+    (length-map (marks_in a.2) mark_number ∙ len ∙ sym (length-map (marks_in b.2) mark_number)) tails in
     let both = one_byte_pair a.0 a.1 b.0 b.1 fa.high fb.high ends in
     let in_a = ap marks_in fa.is in
     let in_b = ap marks_in fb.is in
@@ -134,7 +133,7 @@ one_scan_payload a b fa fb e =
     let len : length a.ranges ≡ length b.ranges = cc in
     let tails : flat_map range_words a.ranges ≡ flat_map range_words b.ranges = cc in
     let parts = one_list range_words FitsRange one_range a.ranges b.ranges [] [] (at_each_place FitsRange a.ranges fa) (at_each_place FitsRange b.ranges fb) len
-        (ap (λ ws. ws ++ []) tails) in
+    (ap (λ ws. ws ++ []) tails) in
     ap scan_expansion_of parts.0
 
 -- keys

@@ -1,5 +1,5 @@
 -- What is read from the words of ranges is what was coded.
-use Rattle.std.proofs.Common.{◌≡◌, ℕ, ◌+◌, ◌-◌, ◌*◌, ◌<◌, ◌/◌, ◌%◌, ◌^◌, List, [], ◌∷◌, ◌++◌, length, get_or, take, drop, map, flat_map, All, refl, sym, ap, ◌∙◌, subst, arith}
+use Rattle.std.proofs.Common.{◌≡◌, ℕ, ◌+◌, ◌-◌, ◌*◌, ◌<◌, ◌/◌, ◌%◌, ◌^◌, List, [], ◌∷◌, ◌++◌, length, get_or, take, drop, map, flat_map, All, sym, ap, ◌∙◌, subst, arith}
 use Rattle.std.proofs.lemmas.List.{length-map, take_rest, append-nil}
 use Rattle.std.proofs.lemmas.List.Elements.{All-head, All-tail, All-cons, All-nil, All-get_or}
 use Rattle.edit_log.specs.declared.definitions.DefId.{DefId}
@@ -11,7 +11,7 @@ use Rattle.isg_states.specs.declared.ranges.ScanExpansion.{ScanExpansion}
 use Rattle.isg_states.specs.Marks.{definition_number, mark_number, AreAscending}
 use Rattle.isg_states.specs.Expansion.{Range}
 use Rattle.row_coding.specs.Words.{marks_in, range_words, scan_payload_words}
-use Rattle.row_coding.specs.Conditions.{FitsRange, FitsScanCoding, IsTypedDefinition, AreTypedMarks, IsTypedScan}
+use Rattle.row_coding.specs.Conditions.{FitsScanCoding, IsTypedDefinition, IsTypedScan}
 use Rattle.row_coding.specs.Reading.{mark_of, range_of, piece_of, rest_of, AreMarkWords, BeginWithRange, BeginWithRanges, IsReadableRange}
 use Rattle.row_coding.proofs.PiecesWritten.{next_piece}
 use Rattle.row_coding.proofs.PiecesRead.{first_word, is_piece, own_words, words_after}
@@ -119,8 +119,8 @@ module _ (payload : List ℕ) (coded : ScanExpansion) (fits : FitsScanCoding cod
   readable_ranges : All IsReadableRange coded.ranges
   readable_ranges =
       at_each_place IsReadableRange coded.ranges (λ range there.
-        let fit = fits range there in
-        record { fits = fit; typed = typed range there fit.marks fit.is })
+      let fit = fits range there in
+      record { fits = fit; typed = typed range there fit.marks fit.is })
 
   pub ranges_begin : BeginWithRanges (take (length payload - 1) (drop 1 payload)) coded.ranges []
   ranges_begin = record {

@@ -10,7 +10,7 @@ use Rattle.item_sets.specs.declared.expansion.Expansion.{Expansion}
 use Rattle.item_sets.specs.Orders.{item_cmp}
 use Rattle.isg_states.specs.declared.mark.Mark.{Mark}
 use Rattle.isg_states.specs.declared.scan_key.ScanKey.{ScanKey}
-use Rattle.isg_states.specs.declared.scan_key.ScanKey.TheVariants.{Start, Set}
+use Rattle.isg_states.specs.declared.scan_key.ScanKey.TheVariants.{Set}
 use Rattle.isg_states.specs.declared.ranges.ScanExpansion.{ScanExpansion}
 use Rattle.isg_states.specs.Marks.{AreAscending}
 use Rattle.isg_states.specs.Expansion.{Range}

@@ -12,6 +12,7 @@ use std::alloc::Global;
 use std::test::Fail;
 
 const ITEMS: [u64; 12] = [3, 0, 0, 1, 1, 1, 2, 33, 65, 3, 1, 97];
+
 const RANGES: [u64; 7] = [2, 11051, 1, 1024, 24929, 1, 1536];
 
 /// The expansion of the start kernel, and that of the scanner's start.
@@ -48,9 +49,18 @@ fn set_key(alloc: Global) -> Result<Vec<u64>, NoMemory> {
 #[test]
 fn states_are_coded(rt: HostRuntime) -> Result<(), Fail> {
     let (items, ranges) = expansions(rt.alloc())?;
-    assert_eq!(rt; moves_told(rt.alloc(), &items)?.as_str(), "001\n11121\n331\n");
-    assert_eq!(rt; item_payload(rt.alloc(), &items)?.as_slice(), ITEMS.as_slice());
-    assert_eq!(rt; scan_payload(rt.alloc(), &ranges)?.as_slice(), RANGES.as_slice());
+    assert_eq!(rt;
+        moves_told(rt.alloc(), &items)?.as_str(),
+        "001\n11121\n331\n"
+    );
+    assert_eq!(rt;
+        item_payload(rt.alloc(), &items)?.as_slice(),
+        ITEMS.as_slice()
+    );
+    assert_eq!(rt;
+        scan_payload(rt.alloc(), &ranges)?.as_slice(),
+        RANGES.as_slice()
+    );
     Ok(())
 }
 
@@ -58,7 +68,10 @@ fn states_are_coded(rt: HostRuntime) -> Result<(), Fail> {
 fn keys_are_coded(rt: HostRuntime) -> Result<(), Fail> {
     let start = Kernel::start(rt.alloc());
     assert_eq!(rt; item_key(rt.alloc(), &start)?.as_slice(), [1, 0].as_slice());
-    assert_eq!(rt; scan_key(rt.alloc(), &ScanKey::Start)?.as_slice(), [2].as_slice());
+    assert_eq!(rt;
+        scan_key(rt.alloc(), &ScanKey::Start)?.as_slice(),
+        [2].as_slice()
+    );
     assert_eq!(rt; set_key(rt.alloc())?.as_slice(), [3, 1536].as_slice());
     Ok(())
 }

@@ -1,4 +1,4 @@
-use Rattle.std.proofs.Common.{◌≡◌, List, sym, ap, ◌∙◌, subst, map, arith}
+use Rattle.std.proofs.Common.{List, sym, ap, ◌∙◌, subst, map, arith}
 use Rattle.std.proofs.lemmas.List.{take_all}
 use Rattle.std.specs.List.Sorted.{IsStrictlySortedBy}
 use Rattle.item_sets.specs.declared.item.Item.{Item}

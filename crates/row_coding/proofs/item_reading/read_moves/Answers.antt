@@ -1,6 +1,6 @@
-use Rattle.std.proofs.Common.{◌≡◌, ℕ, ◌+◌, ◌<◌, List, [], ◌∷◌, ◌++◌, length, take, sym, ap, ◌∙◌, arith}
-use Rattle.std.proofs.lemmas.List.{take_more}
+use Rattle.std.proofs.Common.{ℕ, ◌<◌, List, [], length, ◌∙◌, arith}
 use Rattle.row_coding.specs.Reading.{Move, symbol_of}
+use Rattle.row_coding.proofs.PiecesWritten.{one_more}
 use Rattle.row_coding.proofs.MovesRead.{begin_with_next, next_read, after_next}
 use Rattle.row_coding.proofs.item_reading.read_moves.Goals as goal
 
@@ -22,11 +22,10 @@ loop-i-preserved c =
       omega (arith, c.push_reserved.ensures.len),
       c.push_reserved.ensures.capacity ∙ c.loop-i.invariant.1,
       λ (moves : List Move) (rest : List ℕ) begin count.
-      let far = c.loop-i.invariant.2 moves rest begin count in
-      let below : i < length moves = omega (arith, count) in
-      let read = c.in_ok-read_move.ensures ∙ next_read c.args.words.now now rest moves i begin below far.1 in (
-        c.push_reserved.ensures.items ∙ ap (λ (ms : List Move). ms ++ entry ∷ []) far.0 ∙ ap (λ (m : Move). take i moves ++ m ∷ []) read
-        ∙ sym (take_more moves i (symbol_of 0, []) below),
-        c.rest_of-rest.ensures ∙ after_next c.args.words.now now rest moves i begin below far.1,
-      ),
+          let far = c.loop-i.invariant.2 moves rest begin count in
+          let below : i < length moves = omega (arith, count) in
+          let read = c.in_ok-read_move.ensures ∙ next_read c.args.words.now now rest moves i begin below far.1 in (
+            one_more c.loop-i.moves.items c.push_reserved.new.self.items moves i entry (symbol_of 0, []) below far.0 c.push_reserved.ensures.items read,
+            ◌∙◌ {A = List ℕ} c.rest_of-rest.ensures (after_next c.args.words.now now rest moves i begin below far.1),
+          ),
     )

@@ -1,4 +1,4 @@
-use Rattle.std.proofs.Common.{◌≡◌, ◌+◌, ◌≤◌, length, get_or, sym, arith}
+use Rattle.std.proofs.Common.{◌+◌, ◌≤◌, length, sym, arith}
 use Rattle.row_coding.specs.Words.{move_words}
 use Rattle.row_coding.proofs.PiecesWritten.{piece_room}
 use Rattle.row_coding.proofs.item_writing.push_moves.Goals as goal

@@ -1,4 +1,4 @@
-use Rattle.std.proofs.Common.{◌≡◌, sym, ap, ◌∙◌, subst, map, arith}
+use Rattle.std.proofs.Common.{sym, ap, ◌∙◌, subst, map, arith}
 use Rattle.std.proofs.lemmas.List.{take_all}
 use Rattle.isg_states.specs.Marks.{AreAscending}
 use Rattle.row_coding.specs.Reading.{mark_of}

@@ -1,7 +1,7 @@
-use Rattle.std.proofs.Common.{◌≡◌, ℕ, ◌+◌, ◌<◌, List, [], ◌∷◌, ◌++◌, length, take, sym, ap, ◌∙◌, arith}
-use Rattle.std.proofs.lemmas.List.{take_more}
+use Rattle.std.proofs.Common.{ℕ, ◌<◌, List, length, ◌∙◌, arith}
 use Rattle.isg_states.specs.declared.scan_key.ScanKey.TheVariants.{Start}
 use Rattle.isg_states.specs.Expansion.{Range}
+use Rattle.row_coding.proofs.PiecesWritten.{one_more}
 use Rattle.row_coding.proofs.RangesRead.{begin_with_next, next_read, after_next}
 use Rattle.row_coding.proofs.scan_reading.read_ranges.Goals as goal
 
@@ -23,11 +23,10 @@ loop-i-preserved c =
       omega (arith, c.push_reserved.ensures.len),
       c.push_reserved.ensures.capacity ∙ c.loop-i.invariant.1,
       λ (ranges : List Range) (rest : List ℕ) begin count.
-      let far = c.loop-i.invariant.2 ranges rest begin count in
-      let below : i < length ranges = omega (arith, count) in
-      let read = c.in_ok-read_range.ensures ∙ next_read c.args.words.now now rest ranges i begin below far.1 in (
-        c.push_reserved.ensures.items ∙ ap (λ (rs : List Range). rs ++ range ∷ []) far.0 ∙ ap (λ (r : Range). take i ranges ++ r ∷ []) read
-        ∙ sym (take_more ranges i (0, 0, Start) below),
-        c.rest_of-rest.ensures ∙ after_next c.args.words.now now rest ranges i begin below far.1,
-      ),
+          let far = c.loop-i.invariant.2 ranges rest begin count in
+          let below : i < length ranges = omega (arith, count) in
+          let read = c.in_ok-read_range.ensures ∙ next_read c.args.words.now now rest ranges i begin below far.1 in (
+            one_more c.loop-i.ranges.items c.push_reserved.new.self.items ranges i range (0, 0, Start) below far.0 c.push_reserved.ensures.items read,
+            ◌∙◌ {A = List ℕ} c.rest_of-rest.ensures (after_next c.args.words.now now rest ranges i begin below far.1),
+          ),
     )

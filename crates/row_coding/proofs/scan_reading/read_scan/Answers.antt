@@ -1,4 +1,4 @@
-use Rattle.std.proofs.Common.{◌≡◌, List, [], sym, ap, ◌∙◌}
+use Rattle.std.proofs.Common.{List, [], sym, ap, ◌∙◌}
 use Rattle.isg_states.specs.declared.ranges.ScanExpansion.{ScanExpansion}
 use Rattle.isg_states.specs.Expansion.{Range}
 use Rattle.row_coding.proofs.OneCoding.{one_scan_payload}

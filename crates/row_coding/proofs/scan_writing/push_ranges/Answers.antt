@@ -1,4 +1,4 @@
-use Rattle.std.proofs.Common.{◌≡◌, ◌+◌, ◌≤◌, length, get_or, sym, arith}
+use Rattle.std.proofs.Common.{◌+◌, ◌≤◌, length, sym, arith}
 use Rattle.row_coding.specs.Words.{range_words}
 use Rattle.row_coding.proofs.PiecesWritten.{piece_room}
 use Rattle.row_coding.proofs.scan_writing.push_ranges.Goals as goal

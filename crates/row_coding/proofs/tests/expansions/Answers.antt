@@ -1,8 +1,7 @@
 -- The two expansions of the tests, written out, and that their words are read.
-use Rattle.std.proofs.Common.{◌≡◌, ℕ, ◌<◌, ◌^◌, List, [], ◌∷◌, All, refl, sym, ◌∙◌, subst, arith}
+use Rattle.std.proofs.Common.{◌≡◌, ℕ, ◌<◌, List, [], ◌∷◌, All, refl, sym, ◌∙◌, subst, arith}
 use Rattle.std.specs.List.Sorted.{IsStrictlySortedBy}
 use Rattle.std.proofs.lemmas.List.Elements.{All-cons, All-nil, All-contains}
-use Rattle.forest.specs.declared.rules.RuleId.{RuleId}
 use Rattle.edit_log.specs.declared.definitions.DefId.TheVariants.{Literal as literal}
 use Rattle.item_sets.specs.declared.item.Item.{Item}
 use Rattle.item_sets.specs.declared.expansion.Expansion.{Expansion}
@@ -54,7 +53,7 @@ readable =
     } in
     All-cons IsReadable (move 0 (after_one 0 ∷ [])) later_moves (one 0 0 (omega arith) (omega arith))
     (All-cons IsReadable (move 1 (after_one 1 ∷ after_one 2 ∷ [])) last_move two
-      (All-cons IsReadable (move 3 (after_one 3 ∷ [])) [] (one 3 3 (omega arith) (omega arith)) (All-nil IsReadable)))
+    (All-cons IsReadable (move 3 (after_one 3 ∷ [])) [] (one 3 3 (omega arith) (omega arith)) (All-nil IsReadable)))
 
 order : IsStrictlySortedBy move_cmp moves
 unfolding IsStrictlySortedBy
@@ -135,7 +134,7 @@ read_scan-requires c = (
   scanner_start,
   λ range there. (All-contains IsReadableRange ranges range readable_ranges there).fits,
   λ range there marks is.
-  let read = All-contains IsReadableRange ranges range readable_ranges there in
-  subst AreTypedMarks (same_marks read.fits.marks marks (sym read.fits.is ∙ is)) read.typed,
+      let read = All-contains IsReadableRange ranges range readable_ranges there in
+      subst AreTypedMarks (same_marks read.fits.marks marks (sym read.fits.is ∙ is)) read.typed,
   refl,
 )
