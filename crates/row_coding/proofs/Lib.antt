@@ -4,3 +4,4 @@ pub mod Inverses
 pub mod MovesRead
 pub mod OneCoding
 pub mod RangesRead
+pub mod ExpansionsFit

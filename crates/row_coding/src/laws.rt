@@ -1,10 +1,14 @@
-//! Laws of the coding: what is coded can be read in one way.
+//! Laws of the coding: what is coded can be read, and in one way.
 
-ghost use Rattle.std.specs.Prelude.{◌≡◌};
+ghost use Rattle.std.specs.Prelude.{◌≡◌, List};
+ghost use Rattle.edit_log.specs.History.{Grammar};
+ghost use Rattle.edit_log.specs.Facts.{IsWellFormed};
+ghost use Rattle.item_sets.specs.declared.item.Item.{Item};
 ghost use Rattle.item_sets.specs.declared.expansion.Expansion.{Expansion};
+ghost use Rattle.item_sets.specs.Expansions.{IsExpansionOf};
 ghost use Rattle.isg_states.specs.declared.ranges.ScanExpansion.{ScanExpansion};
 ghost use Rattle.row_coding.specs.Words.{item_payload_words, scan_payload_words};
-ghost use Rattle.row_coding.specs.Conditions.{FitsCoding, FitsScanCoding};
+ghost use Rattle.row_coding.specs.Conditions.{FitsCoding, FitsScanCoding, IsTyped};
 ghost use Rattle.row_coding.specs.Rows.{Key, key_words, FitsKey};
 
 /// Two keys with the same words are the same, be they of kernels or of the scanner.
@@ -20,4 +24,10 @@ pub fn one_payload()
 /// Two expansions of scanner states with the same words are the same.
 pub fn one_scan_payload()
     ensures { (a b : ScanExpansion) → FitsScanCoding a → FitsScanCoding b → scan_payload_words a ≡ scan_payload_words b → a ≡ b }
+{}
+
+/// The expansion of a kernel in a grammar can be coded and read.
+pub fn expansions_fit()
+    ensures { (grammar : Grammar) → IsWellFormed grammar → (kernel : List Item) (expansion : Expansion) → IsExpansionOf grammar.rules kernel expansion
+        → FitsCoding expansion × IsTyped expansion }
 {}
