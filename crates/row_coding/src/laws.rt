@@ -1,0 +1,33 @@
+//! Laws of the coding: what is coded can be read, and in one way.
+
+ghost use Rattle.std.specs.Prelude.{◌≡◌, List};
+ghost use Rattle.edit_log.specs.History.{Grammar};
+ghost use Rattle.edit_log.specs.Facts.{IsWellFormed};
+ghost use Rattle.item_sets.specs.declared.item.Item.{Item};
+ghost use Rattle.item_sets.specs.declared.expansion.Expansion.{Expansion};
+ghost use Rattle.item_sets.specs.Expansions.{IsExpansionOf};
+ghost use Rattle.isg_states.specs.declared.ranges.ScanExpansion.{ScanExpansion};
+ghost use Rattle.row_coding.specs.Words.{item_payload_words, scan_payload_words};
+ghost use Rattle.row_coding.specs.Conditions.{FitsCoding, FitsScanCoding, IsTyped};
+ghost use Rattle.row_coding.specs.Rows.{Key, key_words, FitsKey};
+
+/// Two keys with the same words are the same, be they of kernels or of the scanner.
+pub fn one_key()
+    ensures { (a b : Key) → FitsKey a → FitsKey b → key_words a ≡ key_words b → a ≡ b }
+{}
+
+/// Two expansions of kernels with the same words are the same.
+pub fn one_payload()
+    ensures { (a b : Expansion) → FitsCoding a → FitsCoding b → item_payload_words a ≡ item_payload_words b → a ≡ b }
+{}
+
+/// Two expansions of scanner states with the same words are the same.
+pub fn one_scan_payload()
+    ensures { (a b : ScanExpansion) → FitsScanCoding a → FitsScanCoding b → scan_payload_words a ≡ scan_payload_words b → a ≡ b }
+{}
+
+/// The expansion of a kernel in a grammar can be coded and read.
+pub fn expansions_fit()
+    ensures { (grammar : Grammar) → IsWellFormed grammar → (kernel : List Item) (expansion : Expansion) → IsExpansionOf grammar.rules kernel expansion
+        → FitsCoding expansion × IsTyped expansion }
+{}
