@@ -1,1 +1,3 @@
 pub mod Change
+pub mod RuleChanges
+pub mod KernelLaws
