@@ -1,0 +1,3 @@
+pub mod Words
+pub mod Conditions
+pub mod Rows
