@@ -14,7 +14,7 @@ use Rattle.isg_states.specs.declared.scan_key.ScanKey.{ScanKey}
 use Rattle.isg_states.specs.declared.scan_key.ScanKey.TheVariants.{Start, Set}
 use Rattle.isg_states.specs.Marks.{AreAscending}
 use Rattle.isg_states.specs.Expansion.{AreMarks, LeadsTo}
-use Rattle.graph_content.specs.Keys.{Key, kernel, scan}
+use Rattle.row_coding.specs.Rows.{Key, kernel, scan}
 
 -- the items or marks are in their order, and name live rules and definitions alone, with each dot and index in range
 abbrev pub IsKey : Grammar → Key → Type 0

@@ -10,7 +10,7 @@ use Rattle.item_sets.specs.declared.item.Item.{Item}
 use Rattle.item_sets.specs.Expansions.{HasMove}
 use Rattle.isg_states.specs.declared.mark.Mark.{Mark}
 use Rattle.isg_states.specs.declared.scan_key.ScanKey.TheVariants.{Start, Set}
-use Rattle.graph_content.specs.Keys.{Key, kernel, scan}
+use Rattle.row_coding.specs.Rows.{Key, kernel, scan}
 
 -- an edit with this touch leads from the grammar of a history to the next one
 pub record IsChange (grammar : Grammar) (touch : Touch) (next : Grammar) : Type 0 where

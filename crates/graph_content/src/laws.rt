@@ -2,7 +2,7 @@
 
 ghost use Rattle.edit_log.specs.declared.touch.Touch.{Touch};
 ghost use Rattle.edit_log.specs.History.{Grammar};
-ghost use Rattle.graph_content.specs.Keys.{Key};
+ghost use Rattle.row_coding.specs.Rows.{Key};
 ghost use Rattle.graph_content.specs.Affected.{IsKey, IsAffected, IsUnaffected};
 ghost use Rattle.graph_content.specs.Changes.{IsChange, IsTouched};
 
