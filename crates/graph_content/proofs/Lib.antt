@@ -4,3 +4,4 @@ pub mod KernelLaws
 pub mod Patterns
 pub mod LiteralBytes
 pub mod FirstBytes
+pub mod Readable

@@ -1,3 +1,4 @@
+use Rattle.graph_content.proofs.Readable.{is_begun}
 use Rattle.graph_content.proofs.LiteralBytes.{solid_edit}
 use Rattle.graph_content.proofs.FirstBytes.{literal_begins}
 use Rattle.graph_content.proofs.Patterns.{pattern_kept}
