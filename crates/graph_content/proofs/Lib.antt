@@ -5,3 +5,5 @@ pub mod Patterns
 pub mod LiteralBytes
 pub mod FirstBytes
 pub mod Readable
+pub mod ScanLaws
+pub mod ChangeLaws
