@@ -1,0 +1,13 @@
+pub mod Chains
+pub mod Numbering
+pub mod Kernels
+pub mod ExpansionLaws
+pub mod MoveSearches
+pub mod DistinctLists
+pub mod Groups
+pub mod Walks
+pub mod Positions
+pub mod Added
+pub mod Closures
+pub mod Expanded
+pub mod GroupFacts

@@ -1,3 +1,4 @@
 pub mod Orders
 pub mod Prefixes
 pub mod Expansions
+pub mod Walks

@@ -1,4 +1,4 @@
--- How items, moves and reductions are ordered, and what `==` tells of items.
+-- How items, moves and reductions are ordered, and what `==` tells of items and of rules' numbers.
 use Rattle.std.specs.Prelude.{Bool, List, nat_eq}
 use Rattle.std.specs.Ordering.{nat_cmp, ordering_then, on, eq_of_both}
 use Rattle.std.specs.Cmp.{IsEquivalence, on_equiv, and_equiv, nat_eq_equiv}
@@ -24,3 +24,6 @@ item_eq = eq_of_both (on (λ a. a.rule.0) nat_eq) (on (λ a. a.dot) nat_eq)
 
 pub item_equiv : IsEquivalence item_eq
 item_equiv = and_equiv (on_equiv (λ (a : Item). a.rule.0) nat_eq_equiv) (on_equiv (λ (a : Item). a.dot) nat_eq_equiv)
+
+abbrev pub number_eq : RuleId → RuleId → Bool
+number_eq = on (λ a. a.0) nat_eq

@@ -1,16 +1,27 @@
 //! The expansion of a kernel.
 
 ghost use Rattle.std.specs.Prelude.{◌≡◌, ◌+◌, ◌≤◌, ℕ, IfOk, OnOk};
+ghost use Rattle.edit_log.specs.Facts.{IsWellFormed};
 ghost use Rattle.item_sets.specs.Prefixes.{AreItems};
 ghost use Rattle.item_sets.specs.Expansions.{IsExpansionOf, IsCost};
 
 use crate::NoMemory;
-use crate::expansion::Expansion;
+use crate::closure::closure_of;
+use crate::expansion::{Expansion, Moves, Reductions};
+use crate::grouping::moves_of;
 use crate::kernel::Kernel;
+use crate::walk::Walk;
 use edit_log::Grammar;
-use std::alloc::{AllocError, Global};
+use std::alloc::Global;
 use std::sync::ledger::Ledger;
 use steps::Steps;
+
+/// Each grammar is well-formed. This is told to a contract, and nothing is done.
+fn is_formed(grammar: &Grammar)
+    ensures { IsWellFormed grammar.now.grammar }
+{
+    grammar.version();
+}
 
 /// The expansion of the kernel, with one step taken for each item of its closure.
 pub fn expand<L: Ledger>(
@@ -24,5 +35,14 @@ pub fn expand<L: Ledger>(
     ensures steps { OnOk result ((cost : ℕ) × IsCost grammar.now.grammar.rules kernel.now cost × (steps.new ≡ steps.old + cost)) }
     ensures never_back { steps.old ≤ steps.new }
 {
-    Err(AllocError)
+    is_formed(grammar);
+    let mut walk = closure_of(alloc, grammar, kernel.items(), steps)?;
+    walk.shifts.sort_unstable();
+    walk.reductions.sort_unstable();
+    let moves = moves_of(alloc, &walk.shifts)?;
+    let Walk { reductions, .. } = walk;
+    Ok(Expansion {
+        moves: Moves::from_vec(moves),
+        reductions: Reductions::from_vec(reductions),
+    })
 }

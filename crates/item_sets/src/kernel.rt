@@ -52,6 +52,14 @@ impl Kernel {
         })
     }
 
+    /// The kernel of these items, in the memory that they have.
+    pub(crate) fn from_items(items: SmallVec<Item, 4>) -> Kernel
+        requires { IsStrictlySortedBy item_cmp items.items }
+        ensures { result ≡ items.items }
+    {
+        Kernel { items }
+    }
+
     pub fn items(&self) -> &[Item]
         ensures items { result.now ≡ self.now }
         ensures ascending { IsStrictlySortedBy item_cmp self.now }

@@ -7,12 +7,12 @@ ghost use Rattle.edit_log.specs.History.{Grammar};
 ghost use Rattle.edit_log.specs.Facts.{IsWellFormed};
 ghost use Rattle.item_sets.specs.declared.item.Item.{Item};
 ghost use Rattle.item_sets.specs.declared.expansion.Expansion.{Expansion};
-ghost use Rattle.item_sets.specs.Prefixes.{IsValid, IsViable, IsKernelOf, IsListOf, AreItems, start_kernel};
+ghost use Rattle.item_sets.specs.Prefixes.{IsValid, IsViable, IsKernelOf, AreItems, start_kernel};
 ghost use Rattle.item_sets.specs.Expansions.{InClosure, IsExpansionOf, IsCost};
 
-/// Two kernels of the same items are the same.
+/// A prefix has one kernel.
 pub fn one_kernel()
-    ensures { (a b : List Item) (Set : Item → Type 0) → IsListOf a Set → IsListOf b Set → a ≡ b }
+    ensures { (rules : List Rule) (g : List SymbolId) (a b : List Item) → IsKernelOf rules g a → IsKernelOf rules g b → a ≡ b }
 {}
 
 /// The start kernel is that of the empty prefix.

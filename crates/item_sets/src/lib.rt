@@ -7,11 +7,14 @@
 
 use std::alloc::AllocError;
 
+mod closure;
 mod expanding;
 mod expansion;
+mod grouping;
 mod item;
 mod kernel;
 mod laws;
+mod walk;
 
 pub use expanding::expand;
 pub use expansion::{Expansion, Moves, Reductions, has_move};
@@ -24,3 +27,6 @@ pub use laws::{
 
 /// Memory ran out.
 pub type NoMemory = AllocError;
+
+#[cfg(test)]
+mod tests;

@@ -1,0 +1,86 @@
+//! A walk over the items of a closure: each is met once.
+
+ghost use Rattle.std.specs.Prelude.{◌≡◌, ◌+◌, [], ◌∷◌, ◌++◌, List, OnOk, IfOk, Contains};
+ghost use Rattle.edit_log.specs.Facts.{IsWellFormed};
+ghost use Rattle.item_sets.specs.declared.item.Item.{Item};
+ghost use Rattle.item_sets.specs.Prefixes.{IsItem, item_at};
+ghost use Rattle.item_sets.specs.Walks.{next_of, IsWalk, Extends};
+
+use crate::NoMemory;
+use crate::item::Item;
+use edit_log::Grammar;
+use forest::{RuleId, START, SymbolId};
+use indexmap::IndexSet;
+use std::alloc::Global;
+use std::sync::ledger::Ledger;
+use steps::Steps;
+
+/// An item whose dot has moved past a symbol.
+#[derive(Clone, Copy, PartialEq, Eq, PartialOrd, Ord)]
+pub(crate) struct Shift {
+    pub(crate) symbol: SymbolId,
+    pub(crate) item: Item,
+}
+
+/// What the items that were met have after their dots.
+#[derive(Drop)]
+pub(crate) struct Walk {
+    /// Each symbol once. Its place tells whether its rules were met too.
+    pub(crate) symbols: IndexSet<SymbolId>,
+    pub(crate) shifts: Vec<Shift>,
+    pub(crate) reductions: Vec<RuleId>,
+}
+
+/// The symbol after the item's dot.
+fn next_of(grammar: &Grammar, item: Item) -> Option<SymbolId>
+    ensures { result ≡ next_of grammar.now.grammar.rules item }
+{
+    if item.rule.0 == 0 {
+        return if item.dot == 0 { Some(START) } else { None };
+    }
+    let rule = grammar.rule(item.rule)?;
+    rule.right.as_slice().get(item.dot as usize).copied()
+}
+
+impl Walk {
+    pub(crate) fn new(alloc: Global) -> Walk
+        ensures symbols { result.symbols.keys ≡ [] }
+        ensures shifts { result.shifts.items ≡ [] }
+        ensures reductions { result.reductions.items ≡ [] }
+    {
+        Walk {
+            symbols: IndexSet::new(alloc),
+            shifts: Vec::new(alloc),
+            reductions: Vec::new(alloc),
+        }
+    }
+
+    /// Meets one more item.
+    pub(crate) fn visit<L: Ledger>(
+        &mut self,
+        grammar: &Grammar,
+        item: Item,
+        steps: &mut Steps<L>,
+    ) -> Result<(), NoMemory>
+        requires formed { IsWellFormed grammar.now.grammar }
+        requires item { IsItem grammar.now.grammar.rules item }
+        ensures walk { OnOk result ((items : List Item)
+            → IsWalk grammar.now.grammar.rules items self.old.symbols.keys self.old.shifts.items self.old.reductions.items
+            → IsWalk grammar.now.grammar.rules (items ++ item ∷ []) self.new.symbols.keys self.new.shifts.items self.new.reductions.items) }
+        ensures extends { OnOk result (Extends self.old.symbols.keys self.new.symbols.keys) }
+        ensures steps { steps.new ≡ steps.old + 1 }
+    {
+        steps.take();
+        let Some(symbol) = next_of(grammar, item) else {
+            self.reductions.push(item.rule)?;
+            return Ok(());
+        };
+        self.symbols.insert(symbol)?;
+        let item = Item {
+            rule: item.rule,
+            dot: item.dot + 1,
+        };
+        self.shifts.push(Shift { symbol, item })?;
+        Ok(())
+    }
+}
