@@ -7,3 +7,4 @@ pub mod FirstBytes
 pub mod Readable
 pub mod ScanLaws
 pub mod ChangeLaws
+pub mod MoveLists

@@ -1,3 +1,4 @@
+use Rattle.graph_content.proofs.MoveLists.{has_upper}
 use Rattle.graph_content.proofs.ChangeLaws.{affected}
 use Rattle.graph_content.proofs.laws.touched_is_affected.Goals as goal
 
