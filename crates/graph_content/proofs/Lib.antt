@@ -8,3 +8,7 @@ pub mod Readable
 pub mod ScanLaws
 pub mod ChangeLaws
 pub mod MoveLists
+pub mod WordTests
+pub mod MoveHeads
+pub mod RowTests
+pub mod RowChanges

@@ -22,11 +22,13 @@ pub record IsChange (grammar : Grammar) (touch : Touch) (next : Grammar) : Type 
   pub touches : IsTouchOf grammar edit touch
   pub leads : next ≡ after grammar edit
 
--- the kernel has an item of the rule that is dropped, or a move on the left side of the rule that is added or dropped. The start
--- is touched where the live definitions change, and a set where it has a mark of a definition that ends.
+-- one of the items is of the rule that ends
+abbrev pub NamesEnded : Touch → List Item → Type 0
+NamesEnded touch items = (item : Item) × Contains items item × (touch.gone_rule ≡ Some item.rule)
+
+-- A kernel is touched where it has an item of the rule that ends, or a move on the left side of the rule that is added or
+-- dropped. The start is touched where the live definitions change, and a set where it has a mark of a definition that ends.
 abbrev pub IsTouched : Grammar → Touch → Key → Type 0
-IsTouched grammar touch (kernel items) =
-    ((item : Item) × Contains items item × (touch.gone_rule ≡ Some item.rule))
-    ⊎ ((left : SymbolId) × (touch.left ≡ Some left) × HasMove grammar.rules (Contains items) left)
+IsTouched grammar touch (kernel items) = NamesEnded touch items ⊎ ((left : SymbolId) × (touch.left ≡ Some left) × HasMove grammar.rules (Contains items) left)
 IsTouched grammar touch (scan Start) = IsTrue touch.scan
 IsTouched grammar touch (scan (Set marks)) = (mark : Mark) × Contains marks mark × Contains touch.gone_defs mark.def

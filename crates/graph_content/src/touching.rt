@@ -8,10 +8,10 @@ ghost use Rattle.isg_states.specs.declared.scan_key.ScanKey.{ScanKey};
 ghost use Rattle.isg_states.specs.Marks.{definition_number};
 ghost use Rattle.row_coding.specs.Words.{item_payload_words};
 ghost use Rattle.row_coding.specs.Conditions.{FitItems, FitsScanKey};
-ghost use Rattle.row_coding.specs.Rows.{Key, kernel, scan, FitsKey};
-ghost use Rattle.graph_content.specs.Changes.{IsTouched};
+ghost use Rattle.row_coding.specs.Rows.{Key, kernel, scan, FitsKey, row_words};
+ghost use Rattle.graph_content.specs.Changes.{IsTouched, NamesEnded};
 ghost use Rattle.graph_content.specs.Rows.{Fits, IsRowOf};
-ghost use Rattle.graph_content.specs.Parts.{names_rule, is_among, names_among};
+ghost use Rattle.graph_content.specs.Parts.{IsRow, names_rule, is_among, names_among};
 
 use crate::row_parts::{names_in, payload_in};
 use edit_log::{DefId, Touch};
@@ -72,16 +72,26 @@ fn moves_on(payload: &[u64], symbol: SymbolId) -> bool
     false
 }
 
+/// Whether the kernel whose row this is has an item of the rule that ends.
+fn names_ended(touch: &Touch, row: &[u64]) -> bool
+    requires { IsRow row.now }
+    ensures { (items : List Item) (payload : List ℕ) → FitItems items → row.now ≡ row_words (kernel items) payload
+        → MatchBool result (NamesEnded touch.now items) (NamesEnded touch.now items → ⊥) }
+{
+    match touch.gone_rule {
+        Some(rule) => names_rule(names_in(row), rule),
+        None => false,
+    }
+}
+
 /// Whether the edit touches the kernel whose row this is.
 fn touches_items(touch: &Touch, row: &[u64]) -> bool
     requires { (grammar : Grammar) × (items : List Item) × IsRowOf grammar (kernel items) row.now }
     ensures { (grammar : Grammar) (items : List Item) → FitItems items → IsRowOf grammar (kernel items) row.now
         → MatchBool result (IsTouched grammar touch.now (kernel items)) (IsTouched grammar touch.now (kernel items) → ⊥) }
 {
-    if let Some(rule) = touch.gone_rule {
-        if names_rule(names_in(row), rule) {
-            return true;
-        }
+    if names_ended(touch, row) {
+        return true;
     }
     match touch.left {
         Some(left) => moves_on(payload_in(row), left),
