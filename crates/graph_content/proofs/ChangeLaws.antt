@@ -19,13 +19,13 @@ use Rattle.graph_content.proofs.ScanLaws.{untouched_set, touched_set, untouched_
 use Rattle.graph_content.proofs.Readable.{IsReadable, readable_always, readable_next}
 
 -- what is known of a grammar that takes an edit
-record IsTaken (g : Grammar) (edit : Edit) (touch : Touch) : Type 0 where
-  well : IsWellFormed g
-  read : IsReadable g
-  accepted : IsAccepted g edit
-  touches : IsTouchOf g edit touch
+pub record IsTaken (g : Grammar) (edit : Edit) (touch : Touch) : Type 0 where
+  pub well : IsWellFormed g
+  pub read : IsReadable g
+  pub accepted : IsAccepted g edit
+  pub touches : IsTouchOf g edit touch
 
-taken : (g next : Grammar) (touch : Touch) (c : IsChange g touch next) → IsTaken g c.edit touch
+pub taken : (g next : Grammar) (touch : Touch) (c : IsChange g touch next) → IsTaken g c.edit touch
 taken g next touch c = record {
   well = subst IsWellFormed (sym c.made) (well_formed_always c.history c.is_history);
   read = subst IsReadable (sym c.made) (readable_always c.history c.is_history);

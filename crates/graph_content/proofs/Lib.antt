@@ -11,4 +11,5 @@ pub mod MoveLists
 pub mod WordTests
 pub mod MoveHeads
 pub mod RowTests
+pub mod KeySizes
 pub mod RowChanges

@@ -98,19 +98,19 @@ begun g d p has begins = record {
   leads = ((p, has, (begins.rest, begins.marked)), (p, has, begins.has_byte));
 }
 
+pub solid : (symbols : List Symbol) (n : ℕ) (text : List ℕ) → AllByRecursion IsSolid symbols → symbol_at symbols (record { 0 = n }) ≡ Literal text → IsSolid (Literal text)
+solid [] n text all is = absurd cc
+solid (x ∷ xs) zero text all is = subst IsSolid is all.0
+solid (x ∷ xs) (suc n) text all is = solid xs n text all.1 is
+
 literal_begun : (g : Grammar) (s : SymbolId) → IsReadable g → IsLive g (literal s) → IsBegun g (literal s)
 literal_begun g s read live = by (symbol_at g.symbols s) refl ((live_literal g s).0 live).0
   where
-    solid : (symbols : List Symbol) (n : ℕ) (text : List ℕ) → AllByRecursion IsSolid symbols → symbol_at symbols (record { 0 = n }) ≡ Literal text → (0 < length text) × AllByRecursion (λ b. b < 256) text
-    solid [] n text all is = absurd cc
-    solid (x ∷ xs) zero text all is = subst IsSolid is all.0
-    solid (x ∷ xs) (suc n) text all is = solid xs n text all.1 is
-
     by : (symbol : Symbol) → symbol_at g.symbols s ≡ symbol → is_literal (symbol_at g.symbols s) ≡ true → IsBegun g (literal s)
     by (Named name) is e = let no : is_literal (symbol_at g.symbols s) ≡ false = ap is_literal is in absurd cc
     by (Literal text) is e =
         let full = solid g.symbols s.0 text read.symbols is in
-        begun g (literal s) (bytes text) (record { live = live; is = is }) (literal_begins text full.0 full.1)
+        begun g (literal s) (bytes text) (record { live = live; is = is }) (literal_begins text full.0 full.2)
 
 named_begun : (g : Grammar) (n : RuleId) → IsReadable g → IsLive g (named n) → IsBegun g (named n)
 named_begun g n read live = by (definition_of g n) refl live

@@ -1,29 +1,20 @@
 -- What an edit leaves of the rows of a grammar.
-use Rattle.std.proofs.Common.{◌≡◌, ℕ, ◌+◌, ◌<◌, ◌≤◌, ◌⊎◌, ◌↔◌, inl, inr, Bool, true, false, not, List, [], ◌∷◌, length, map, refl, sym, ◌∙◌, ap, subst, arith, Contains, IsTrue}
-use Rattle.std.specs.Prelude.{MatchBool}
-use Rattle.std.specs.List.{AllByRecursion}
-use Rattle.grammar_text.specs.declared.symbol.Symbol.{Symbol}
-use Rattle.grammar_text.specs.declared.symbol.Symbol.TheVariants.{Named, Literal}
+use Rattle.std.proofs.Common.{◌≡◌, ℕ, ◌<◌, ◌≤◌, ◌⊎◌, ◌↔◌, inl, inr, Bool, true, false, List, arith, Contains, IsTrue}
 use Rattle.forest.specs.declared.symbols.SymbolId.{SymbolId}
 use Rattle.forest.specs.declared.rules.Rule.{Rule}
 use Rattle.edit_log.specs.declared.touch.Touch.{Touch}
-use Rattle.edit_log.specs.declared.definitions.DefId.{DefId}
 use Rattle.edit_log.specs.History.{Grammar}
-use Rattle.edit_log.specs.Facts.{IsWellFormed, IsRight}
 use Rattle.item_sets.specs.declared.item.Item.{Item}
 use Rattle.item_sets.specs.declared.expansion.Expansion.{Expansion}
-use Rattle.item_sets.specs.Prefixes.{IsItem}
-use Rattle.item_sets.specs.Expansions.{InMove, HasMove, IsReduction, IsMoveOf, IsExpansionOf}
-use Rattle.item_sets.proofs.Positions.{dot_short}
-use Rattle.isg_states.specs.declared.mark.Mark.{Mark}
+use Rattle.item_sets.specs.Expansions.{IsMoveOf, IsExpansionOf}
 use Rattle.isg_states.specs.declared.scan_key.ScanKey.{ScanKey}
-use Rattle.isg_states.specs.declared.scan_key.ScanKey.TheVariants.{Start, Set}
-use Rattle.isg_states.specs.Marks.{ListsMarks}
-use Rattle.isg_states.specs.Expansion.{Range, LeadsTo, IsRange, IsScanExpansionOf}
+use Rattle.isg_states.specs.Expansion.{Range, IsRange, IsScanExpansionOf}
 use Rattle.row_coding.specs.Rows.{Key, kernel, scan, FitsKey}
-use Rattle.graph_content.specs.Affected.{IsKey, AreSameMoves, AreSameRanges, IsSameExpansion, IsUnaffected, IsAffected}
+use Rattle.graph_content.specs.Affected.{AreSameMoves, AreSameRanges, IsSameExpansion, IsUnaffected, IsAffected}
 use Rattle.graph_content.specs.Changes.{IsChange, IsTouched}
 use Rattle.graph_content.specs.Rows.{IsPayloadOf, IsRowOf, Fits}
+use Rattle.graph_content.proofs.ChangeLaws.{affected, unaffected}
+use Rattle.graph_content.proofs.KeySizes.{key_fits}
 
 -- ---- the same expansion
 
@@ -83,3 +74,25 @@ row_over g next key row left is = record {
   codes = payload_over g next key is.payload left.same is.codes;
   words = is.words;
 }
+
+-- ---- what the test of a row tells
+
+exclusive : (g next : Grammar) (key : Key) → IsAffected g next key → IsUnaffected g next key → ⊥
+exclusive g next key (inl gone) left = gone left.stays
+exclusive g next key (inr differs) left = differs left.same
+
+-- a row that is not touched
+module _ (g : Grammar) (touch : Touch) (row : List ℕ) (none : (key : Key) → FitsKey key → IsRowOf g key row → IsTouched g touch key → ⊥) where
+  pub is_left : (next : Grammar) (key : Key) → IsChange g touch next → IsRowOf g key row → IsUnaffected g next key
+  is_left next key change is = unaffected g next touch key change is.names (none key (key_fits g next touch key change is.names) is)
+
+  pub fits_next : Fits g row → (next : Grammar) → IsChange g touch next → Fits next row
+  fits_next (key, is) next change = (key, row_over g next key row (is_left next key change is) is)
+
+-- a row that is touched
+module _ (g : Grammar) (touch : Touch) (row : List ℕ) (some : (key : Key) → FitsKey key → IsRowOf g key row → IsTouched g touch key) where
+  pub is_spoiled : (next : Grammar) (key : Key) → IsChange g touch next → IsRowOf g key row → IsAffected g next key
+  is_spoiled next key change is = affected g next touch key change is.names (some key (key_fits g next touch key change is.names) is)
+
+  pub not_left : (next : Grammar) (key : Key) → IsChange g touch next → IsRowOf g key row → IsUnaffected g next key → ⊥
+  not_left next key change is left = exclusive g next key (is_spoiled next key change is) left

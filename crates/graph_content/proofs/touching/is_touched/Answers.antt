@@ -1,4 +1,3 @@
-use Rattle.graph_content.proofs.RowChanges.{row_over}
 use Rattle.graph_content.proofs.RowTests.{of_items, of_scan, is_items_row, is_scan_row}
 use Rattle.graph_content.proofs.touching.is_touched.Goals as goal
 
