@@ -67,11 +67,18 @@ impl<'g> Modify<'g> {
         if !is_touched(self.touch, row) {
             return true;
         }
-        match kind_of(row) {
+        self.count(kind_of(row));
+        false
+    }
+
+    /// Counts one row more that was refused.
+    fn count(&mut self, kind: Kind)
+        ensures { self.new ≡ after_row self.old kind false }
+    {
+        match kind {
             Kind::Items => self.items = one_more(self.items),
             Kind::Scan => self.scan = one_more(self.scan),
         }
-        false
     }
 
     /// How many rows were refused so far: of item sets, and of scanner states. At the last number a count

@@ -5,7 +5,7 @@ use Rattle.graph_content.specs.Rows.{IsRowOf}
 use Rattle.graph_content.specs.Modifications.{Modification}
 use Rattle.graph_content.proofs.RowChanges.{is_left, fits_next, is_spoiled, not_left}
 use Rattle.graph_content.proofs.modify.Modify.keep.Goals as goal
-use Rattle.graph_content.proofs.modify.Modify.keep.Goals.{Then-not-is_touched}
+use Rattle.graph_content.proofs.modify.Modify.keep.Goals.{Then-not-is_touched, After-count}
 
 -- the row is not touched, by the touch that the contract sees
 none : (c : Then-not-is_touched) (key : Key) → FitsKey key → IsRowOf c.args.self.now.grammar key c.args.row.now → IsTouched c.args.self.now.grammar c.args.self.now.touch key → ⊥
@@ -22,26 +22,17 @@ returns-then-not-is_touched-clause-kept c = λ next key change is. (
 pub returns-then-not-is_touched-clause-fits : goal.returns-then-not-is_touched-clause-fits
 returns-then-not-is_touched-clause-fits c = λ next change kept. fits_next c.args.self.now.grammar c.args.self.now.touch c.args.row.now (none c) c.requires next change
 
-pub returns-in-Items-clause-kept : goal.returns-in-Items-clause-kept
-returns-in-Items-clause-kept c = λ next key change is. (
+-- the row is touched, by that touch
+some : (c : After-count) (key : Key) → FitsKey key → IsRowOf c.args.self.now.grammar key c.args.row.now → IsTouched c.args.self.now.grammar c.args.self.now.touch key
+some c key fit is =
+    subst (λ touch. IsTouched c.args.self.now.grammar touch key) (ap (λ (m : Modification). m.touch) c.self.view_is)
+    (c.if-not-is_touched.ensures c.args.self.now.grammar key fit is)
+
+pub returns-clause-kept : goal.returns-clause-kept
+returns-clause-kept c = λ next key change is. (
   λ kept. absurd cc,
-  λ left. absurd (not_left c.args.self.now.grammar c.args.self.now.touch c.args.row.now
-      (λ k fit row. subst (λ touch. IsTouched c.args.self.now.grammar touch k) (ap (λ (m : Modification). m.touch) c.self.view_is) (c.if-not-is_touched.ensures c.args.self.now.grammar k fit row)) next key change is left),
+  λ left. absurd (not_left c.args.self.now.grammar c.args.self.now.touch c.args.row.now (some c) next key change is left),
 )
 
-pub returns-in-Items-clause-refused : goal.returns-in-Items-clause-refused
-returns-in-Items-clause-refused c = λ next key change is refused.
-    is_spoiled c.args.self.now.grammar c.args.self.now.touch c.args.row.now
-    (λ k fit row. subst (λ touch. IsTouched c.args.self.now.grammar touch k) (ap (λ (m : Modification). m.touch) c.self.view_is) (c.if-not-is_touched.ensures c.args.self.now.grammar k fit row)) next key change is
-
-pub returns-in-Scan-clause-kept : goal.returns-in-Scan-clause-kept
-returns-in-Scan-clause-kept c = λ next key change is. (
-  λ kept. absurd cc,
-  λ left. absurd (not_left c.args.self.now.grammar c.args.self.now.touch c.args.row.now
-      (λ k fit row. subst (λ touch. IsTouched c.args.self.now.grammar touch k) (ap (λ (m : Modification). m.touch) c.self.view_is) (c.if-not-is_touched.ensures c.args.self.now.grammar k fit row)) next key change is left),
-)
-
-pub returns-in-Scan-clause-refused : goal.returns-in-Scan-clause-refused
-returns-in-Scan-clause-refused c = λ next key change is refused.
-    is_spoiled c.args.self.now.grammar c.args.self.now.touch c.args.row.now
-    (λ k fit row. subst (λ touch. IsTouched c.args.self.now.grammar touch k) (ap (λ (m : Modification). m.touch) c.self.view_is) (c.if-not-is_touched.ensures c.args.self.now.grammar k fit row)) next key change is
+pub returns-clause-refused : goal.returns-clause-refused
+returns-clause-refused c = λ next key change is refused. is_spoiled c.args.self.now.grammar c.args.self.now.touch c.args.row.now (some c) next key change is
