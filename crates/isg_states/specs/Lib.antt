@@ -4,3 +4,4 @@ pub mod After
 pub mod Expansion
 pub mod Winners
 pub mod Sameness
+pub mod Candidates

@@ -1,5 +1,6 @@
 -- Which definition a key accepts.
-use Rattle.std.specs.Prelude.{◌≡◌, ◌⊎◌, Contains}
+use Rattle.std.specs.Prelude.{◌≡◌, ◌⊎◌, Contains, List, Option, Some, None, MatchOption, if◌then◌else◌}
+use Rattle.std.specs.Ordering.{is_lt}
 use Rattle.std.specs.declared.cmp.Ordering.TheVariants.{Less}
 use Rattle.edit_log.specs.declared.definitions.DefId.{DefId}
 use Rattle.edit_log.specs.History.{Grammar}
@@ -18,3 +19,12 @@ Ends grammar (Set marks) definition = (mark : Mark) × Contains marks mark × (m
 pub record Accepts (grammar : Grammar) (key : ScanKey) (winner : DefId) : Type 0 where
   pub ends : Ends grammar key winner
   pub first : (other : DefId) → Ends grammar key other → (other ≡ winner) ⊎ (definition_cmp winner other ≡ Less)
+
+-- the definition that the set of these marks accepts, and none where it accepts none
+abbrev pub IsFirstEnded : Grammar → List Mark → Option DefId → Type 0
+IsFirstEnded grammar marks winner = MatchOption winner ((definition : DefId) → Ends grammar (Set marks) definition → ⊥) (λ w. Accepts grammar (Set marks) w)
+
+-- the first of two definitions, of which the one before may be missing
+abbrev pub first_of : Option DefId → DefId → DefId
+first_of None definition = definition
+first_of (Some other) definition = if is_lt (definition_cmp other definition) then other else definition

@@ -4,10 +4,13 @@ ghost use Rattle.std.specs.Prelude.{◌≡◌, ◌+◌, ◌≤◌, ℕ, IfOk, On
 ghost use Rattle.isg_states.specs.Expansion.{AreMarks, IsScanExpansionOf, IsScanCost};
 
 use crate::NoMemory;
-use crate::ranges::ScanExpansion;
+use crate::byte_ranges::byte_ranges;
+use crate::candidates::candidates;
+use crate::next_marks::next_marks;
+use crate::ranges::{Ranges, ScanExpansion};
 use crate::scan_key::ScanKey;
 use edit_log::Grammar;
-use std::alloc::{AllocError, Global};
+use std::alloc::Global;
 use std::sync::ledger::Ledger;
 use steps::Steps;
 
@@ -25,6 +28,10 @@ pub fn expand_scan<L: Ledger>(
     ensures steps { OnOk result ((cost : ℕ) × IsScanCost grammar.now.grammar key.now cost × (steps.new ≡ steps.old + cost)) }
     ensures counted { steps.old ≤ steps.new }
 {
-    let _ = (alloc, grammar, key, steps);
-    Err(AllocError)
+    let marks = next_marks(alloc, grammar, key, steps)?;
+    let candidates = candidates(alloc, grammar, &marks)?;
+    let ranges = byte_ranges(alloc, &candidates)?;
+    Ok(ScanExpansion {
+        ranges: Ranges::from_vec(ranges),
+    })
 }

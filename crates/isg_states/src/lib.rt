@@ -7,10 +7,13 @@
 
 use std::alloc::AllocError;
 
+mod byte_ranges;
+mod candidates;
 mod expansion;
 mod laws;
 mod mark;
 mod marks;
+mod next_marks;
 mod ranges;
 mod sameness;
 mod scan_key;
@@ -19,6 +22,7 @@ mod winner;
 pub use expansion::expand_scan;
 pub use laws::{
     accepted_is_winner, after_first, after_longer, last_is_match, one_accepted, one_cost, one_expansion,
+    targets_are_marks,
 };
 pub use mark::Mark;
 pub use marks::Marks;

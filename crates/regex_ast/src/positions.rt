@@ -72,9 +72,10 @@ impl Positions {
         })
     }
 
-    /// How many positions there are.
+    /// How many positions there are, at most 200.
     pub fn count(&self) -> u32
-        ensures { result ≡ length self.now.classes }
+        ensures count { result ≡ length self.now.classes }
+        ensures few { length self.now.classes ≤ 200 }
     {
         self.classes.len() as u32
     }

@@ -1,0 +1,10 @@
+pub mod WordCuts
+pub mod MarksAreLocal
+pub mod Patterns
+pub mod PositionsAfter
+pub mod OneExpansion
+pub mod MarkLists
+pub mod Tables
+pub mod CandidateLists
+pub mod RangeLists
+pub mod Winners
