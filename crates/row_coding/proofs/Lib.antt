@@ -1,0 +1,6 @@
+pub mod PiecesWritten
+pub mod PiecesRead
+pub mod Inverses
+pub mod MovesRead
+pub mod OneCoding
+pub mod RangesRead

@@ -1,3 +1,4 @@
 pub mod Words
 pub mod Conditions
 pub mod Rows
+pub mod Reading

@@ -6,15 +6,23 @@
 
 use std::alloc::AllocError;
 
+mod item_reading;
+mod item_writing;
 mod kinds;
 mod laws;
-mod reading;
-mod writing;
+mod pieces;
+mod scan_reading;
+mod scan_writing;
 
+pub use item_reading::read_items;
+pub use item_writing::{item_key, item_payload};
 pub use kinds::{Kind, kind_of};
 pub use laws::{one_key, one_payload, one_scan_payload};
-pub use reading::{read_items, read_scan};
-pub use writing::{item_key, item_payload, scan_key, scan_payload};
+pub use scan_reading::read_scan;
+pub use scan_writing::{scan_key, scan_payload};
+
+#[cfg(test)]
+mod tests;
 
 /// Memory ran out.
 pub type NoMemory = AllocError;
