@@ -6,6 +6,8 @@
 //! and expands nothing.
 #![tactic(auto)]
 
+use std::alloc::AllocError;
+
 mod laws;
 mod modify;
 mod row_parts;
@@ -13,4 +15,9 @@ mod touching;
 
 pub use laws::{touched_is_affected, untouched_is_unaffected};
 pub use modify::Modify;
-pub use row_coding::{Kind, kind_of};
+pub use row_coding::{
+    Kind, item_key, item_payload, kind_of, read_items, read_scan, scan_key, scan_payload,
+};
+
+/// Memory ran out.
+pub type NoMemory = AllocError;

@@ -1,0 +1,69 @@
+//! Grammars, each with an edit of it, and what is told of their rows: so many rows of item sets that are kept,
+//! so many that are refused and so many of them wrongly, and the same of scanner states.
+
+use crate::grammars::{grammar_from, next_from, ready_from};
+use crate::{item_rows, scan_rows};
+use edit_log::{Grammar, Refusal};
+use std::alloc::{AllocError, Global};
+use std::test::Fail;
+
+/// What is told of the rows of both kinds.
+fn told(alloc: Global, edits: &str, line: &str) -> Result<String, Refusal> {
+    let mut grammar = grammar_from(alloc, edits)?;
+    let next = next_from(alloc, edits, line)?;
+    let ready = ready_from(alloc, &mut grammar, line)?;
+    let items = item_rows::judge_all(alloc, &grammar, &next, ready.touch())?;
+    let scan = scan_rows::judge_all(alloc, &grammar, &next, ready.touch())?;
+    let mut text = items.text(alloc)?;
+    text.push_str(" ")?;
+    text.push_str(&scan.text(alloc)?)?;
+    Ok(text)
+}
+
+/// Adds the row: the grammar's edits, the edit, and what is told.
+fn add_row(all: &mut String, edits: &str, line: &str, told: &str) -> Result<(), AllocError> {
+    all.push_str(edits)?;
+    all.push_str(" => ")?;
+    all.push_str(line)?;
+    all.push_str(" => ")?;
+    all.push_str(told)?;
+    all.push_str("\n")?;
+    Ok(())
+}
+
+/// The table with what is told of each row.
+fn all_told(alloc: Global, rows: &str) -> Result<String, Refusal> {
+    let mut all = String::new(alloc);
+    for row in rows.split('\n') {
+        if let Some((edits, rest)) = row.split_once(" => ") {
+            if let Some((line, _)) = rest.split_once(" => ") {
+                let told = told(alloc, edits, line)?;
+                add_row(&mut all, edits, line, &told)?;
+            }
+        }
+    }
+    Ok(all)
+}
+
+#[test]
+fn rows_that_an_edit_leaves(rt: HostRuntime) -> Result<(), Fail> {
+    let rows = "rule START ::= E@rule E ::= E \"+\" E@rule E ::= \"a\" => rule E ::= \"b\" => ?
+rule START ::= E@rule E ::= E \"+\" E@rule E ::= \"a\" => rule START ::= \"a\" => ?
+rule START ::= E@rule E ::= E \"+\" E@rule E ::= \"a\" => drop rule E ::= E \"+\" E => ?
+rule START ::= E@rule E ::= E \"+\" E@rule E ::= \"a\" => drop rule START ::= E => ?
+rule START ::= E@rule E ::= E \"+\" E@rule E ::= \"a\" => token ID = [a-c]+ => ?
+rule START ::= A B@rule A ::=@rule B ::= \"b\" => rule A ::= B => ?
+rule START ::= A B@rule A ::=@rule B ::= \"b\" => drop rule A ::= => ?
+rule START ::= START@rule START ::= => rule A ::= START => ?
+rule START ::= A@rule A ::= A A@rule A ::= \"x\" => drop rule A ::= A A => ?
+rule START ::= A \"c\"@rule A ::= B A \"x\"@rule B ::=@rule A ::= \"x\" => drop rule B ::= => ?
+rule START ::= N@token N = [0-9]+@token R = [0-9]+\\.[0-9] => drop token R => ?
+rule START ::= N@token N = [0-9]+@skip W = [ \\n]+ => drop skip W => ?
+rule START ::= N@token N = [0-9]+ => skip W = [ ] => ?
+rule START ::= N@token N = [0-9]+ => rule N2 ::= U => ?
+rule START ::= U \"if\"@rule V ::= \"if\" \"in\" => drop rule V ::= \"if\" \"in\" => ?
+rule START ::= U \"if\"@token ID = [a-z]+ => rule U ::= \"if\" => ?";
+    let all = all_told(rt.alloc(), rows)?;
+    assert_eq!(rt; all.trim_end(), rows);
+    Ok(())
+}
