@@ -49,7 +49,8 @@ module _ (less : List Rule) (r : Rule) (more : List Rule) (w : IsWith less r mor
   unnamed whole e = w.numbered.some r w.has (sym e)
   unnamed (live {r = q} c) e = w.new (subst (λ (p : Rule). Contains less p) (w.numbered.same q r (w.kept q c) w.has e) c)
 
-module _ (less : List Rule) (r : Rule) (more : List Rule) (w : IsWith less r more) (K : Item → Type 0) (named : (item : Item) → K item → (right : List SymbolId) × HasRight less item.rule right) where
+module _ (less : List Rule) (r : Rule) (more : List Rule) (w : IsWith less r more) (K : Item → Type 0)
+    (named : (item : Item) → K item → (right : List SymbolId) × HasRight less item.rule right) where
   next_kept : {item : Item} {x : SymbolId} → IsNext less item x → IsNext more item x
   next_kept n = record { right = n.right; has = right_kept less r more w n.has; at_dot = n.at_dot }
 

@@ -41,9 +41,11 @@ items_touched : (g : Grammar) (touch : Touch) (items : List Item) → TouchesIte
 items_touched g touch items (names_gone {item = item} c e) = inl (item, c, e)
 items_touched g touch items (moves_on_left {left = left} e m) = inr (left, e, m)
 
-untouched : (g : Grammar) (edit : Edit) (touch : Touch) (key : Key) → IsTaken g edit touch → IsKey g key → (IsTouched g touch key → ⊥) → IsUnaffected g (after g edit) key
+untouched : (g : Grammar) (edit : Edit) (touch : Touch) (key : Key) → IsTaken g edit touch → IsKey g key → (IsTouched g touch key → ⊥)
+    → IsUnaffected g (after g edit) key
 untouched g edit touch (kernel items) t is none =
-    let both = untouched_items g.rules (after g edit).rules touch items (rule_change g edit touch t.well t.accepted t.touches) is.1 (λ w. none (items_touched g touch items w)) in
+    let both = untouched_items g.rules (after g edit).rules touch items (rule_change g edit touch t.well t.accepted t.touches) is.1
+        (λ w. none (items_touched g touch items w)) in
     record { stays = (is.0, both.0); same = both.1 }
 untouched g edit touch (scan Start) t is none = record { stays = tt; same = untouched_start g edit touch t.well t.accepted t.touches none }
 untouched g edit touch (scan (Set marks)) t is none =
@@ -60,7 +62,8 @@ touched g edit touch (scan Start) t is w = inr (touched_start g edit touch t.wel
 touched g edit touch (scan (Set marks)) t is (m, c, gone) = inl (λ stays. touched_set g edit touch t.well t.accepted t.touches marks m c gone stays.1)
 
 pub unaffected : (g next : Grammar) (touch : Touch) (key : Key) → IsChange g touch next → IsKey g key → (IsTouched g touch key → ⊥) → IsUnaffected g next key
-unaffected g next touch key c is none = subst (λ (other : Grammar). IsUnaffected g other key) (sym c.leads) (untouched g c.edit touch key (taken g next touch c) is none)
+unaffected g next touch key c is none =
+    subst (λ (other : Grammar). IsUnaffected g other key) (sym c.leads) (untouched g c.edit touch key (taken g next touch c) is none)
 
 pub affected : (g next : Grammar) (touch : Touch) (key : Key) → IsChange g touch next → IsKey g key → IsTouched g touch key → IsAffected g next key
 affected g next touch key c is w = subst (λ (other : Grammar). IsAffected g other key) (sym c.leads) (touched g c.edit touch key (taken g next touch c) is w)

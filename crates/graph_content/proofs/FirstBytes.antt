@@ -26,12 +26,18 @@ two_or_more : {X : Type 0} (x y z : X) (xs : List X) → x ∷ (xs ++ y ∷ []) 
 two_or_more x y z xs e = omega (arith, ap length e, length-append xs (y ∷ []))
 
 -- the class that a piece stands for has bytes alone
-small_class : {t : List ℕ} {p ps : _} {e : Expression} → SpellsFactor ps e → IsPiece t p → ps ≡ p ∷ [] → (set : List ℕ) → e ≡ class set → (b : ℕ) → IsTrue (has set b) → b < 256
-small_class (one_class {set = s}) (atom {b = c} h) one set is b has-b = let same : set ≡ only c = cc in small_where _ b (subst (λ z. IsTrue (has z b)) same has-b)
-small_class (one_class {set = s}) (escape {b = c} h) one set is b has-b = let same : set ≡ only c = cc in small_where _ b (subst (λ z. IsTrue (has z b)) same has-b)
-small_class (one_class {set = s}) dot one set is b has-b = let same : set ≡ complement (only 10) = cc in small_where _ b (subst (λ z. IsTrue (has z b)) same has-b)
-small_class (one_class {set = s}) (members {set = m} h) one set is b has-b = let same : set ≡ m = cc in small_members h b (subst (λ z. IsTrue (has z b)) same has-b)
-small_class (one_class {set = s}) (others {set = m} h) one set is b has-b = let same : set ≡ complement m = cc in small_where _ b (subst (λ z. IsTrue (has z b)) same has-b)
+small_class : {t : List ℕ} {p ps : _} {e : Expression} → SpellsFactor ps e → IsPiece t p → ps ≡ p ∷ [] → (set : List ℕ) → e ≡ class set → (b : ℕ)
+    → IsTrue (has set b) → b < 256
+small_class (one_class {set = s}) (atom {b = c} h) one set is b has-b = let same : set ≡ only c = cc in
+    small_where _ b (subst (λ z. IsTrue (has z b)) same has-b)
+small_class (one_class {set = s}) (escape {b = c} h) one set is b has-b = let same : set ≡ only c = cc in
+    small_where _ b (subst (λ z. IsTrue (has z b)) same has-b)
+small_class (one_class {set = s}) dot one set is b has-b = let same : set ≡ complement (only 10) = cc in
+    small_where _ b (subst (λ z. IsTrue (has z b)) same has-b)
+small_class (one_class {set = s}) (members {set = m} h) one set is b has-b = let same : set ≡ m = cc in
+    small_members h b (subst (λ z. IsTrue (has z b)) same has-b)
+small_class (one_class {set = s}) (others {set = m} h) one set is b has-b = let same : set ≡ complement m = cc in
+    small_where _ b (subst (λ z. IsTrue (has z b)) same has-b)
 small_class (one_class {set = s}) opening one set is b has-b = absurd cc
 small_class (one_class {set = s}) closing one set is b has-b = absurd cc
 small_class (one_class {set = s}) bar one set is b has-b = absurd cc
@@ -47,7 +53,8 @@ later : (c : Cut) (cuts : List Cut) → NoPlace IsEmptyClass (c ∷ cuts) → No
 later c cuts none before cut after e empty = none (c ∷ before) cut after (ap (λ cs. c ∷ cs) e) empty
 
 -- each is a piece, and none is a class without a byte
-full_pieces : (cuts : List Cut) → AreCuts cuts → NoPlace IsEmptyClass cuts → AllByRecursion (λ p. (t : List ℕ) × IsPiece t p × (IsEmptyClass [] (t, p) → ⊥)) (pieces_of cuts)
+full_pieces : (cuts : List Cut) → AreCuts cuts → NoPlace IsEmptyClass cuts
+    → AllByRecursion (λ p. (t : List ℕ) × IsPiece t p × (IsEmptyClass [] (t, p) → ⊥)) (pieces_of cuts)
 full_pieces [] are none = tt
 full_pieces (c ∷ cuts) are none = ((c.0, are.0, λ e. none [] c cuts refl e), full_pieces cuts are.1 (later c cuts none))
 
@@ -65,30 +72,37 @@ record MatchesSome (e : Expression) : Type 0 where
   matches : Matches e (first ∷ rest)
 
 mutual
-  factor_some : {ps : _} {e : Expression} → SpellsFactor ps e → AllByRecursion (λ p. (t : List ℕ) × IsPiece t p × (IsEmptyClass [] (t, p) → ⊥)) ps → MatchesSome e
+  factor_some : {ps : _} {e : Expression} → SpellsFactor ps e → AllByRecursion (λ p. (t : List ℕ) × IsPiece t p × (IsEmptyClass [] (t, p) → ⊥)) ps
+      → MatchesSome e
   factor_some (one_class {set = []}) full = absurd (full.0.2 refl)
   factor_some (one_class {set = x ∷ xs}) full =
-      record { first = x; rest = []; small = small_class (one_class {set = x ∷ xs}) full.0.1 refl (x ∷ xs) refl x (has_first x xs); matches = (x, has_first x xs, refl) }
+      record { first = x; rest = []; small = small_class (one_class {set = x ∷ xs}) full.0.1 refl (x ∷ xs) refl x (has_first x xs); matches =
+          (x, has_first x xs, refl) }
   factor_some (group {ps} {e} h) full = choice_some h (parted _ ps _ full.1).0
   factor_some (starred {ps} {e} h) full =
       let one = factor_some h (parted _ ps _ full).0 in
-      record { first = one.first; rest = one.rest; small = one.small; matches = ((one.first ∷ one.rest) ∷ [], (one.matches, tt), sym (append-nil (one.first ∷ one.rest))) }
+      record { first = one.first; rest = one.rest; small = one.small; matches =
+          ((one.first ∷ one.rest) ∷ [], (one.matches, tt), sym (append-nil (one.first ∷ one.rest))) }
   factor_some (repeated {ps} {e} h) full =
       let one = factor_some h (parted _ ps _ full).0 in
-      record { first = one.first; rest = one.rest; small = one.small; matches = (one.first ∷ one.rest, [], (one.matches, tt), sym (append-nil (one.first ∷ one.rest))) }
+      record { first = one.first; rest = one.rest; small = one.small; matches =
+          (one.first ∷ one.rest, [], (one.matches, tt), sym (append-nil (one.first ∷ one.rest))) }
   factor_some (optional {ps} {e} h) full =
       let one = factor_some h (parted _ ps _ full).0 in
       record { first = one.first; rest = one.rest; small = one.small; matches = inr one.matches }
 
-  branch_some : {ps : _} {e : Expression} → SpellsBranch ps e → AllByRecursion (λ p. (t : List ℕ) × IsPiece t p × (IsEmptyClass [] (t, p) → ⊥)) ps → MatchesSome e
+  branch_some : {ps : _} {e : Expression} → SpellsBranch ps e → AllByRecursion (λ p. (t : List ℕ) × IsPiece t p × (IsEmptyClass [] (t, p) → ⊥)) ps
+      → MatchesSome e
   branch_some (one_factor h) full = factor_some h full
   branch_some (more_factors {ps} {qs} {a} {b} h k) full =
       let both = parted _ ps qs full in
       let one = branch_some h both.0 in
       let two = factor_some k both.1 in
-      record { first = one.first; rest = one.rest ++ two.first ∷ two.rest; small = one.small; matches = (one.first ∷ one.rest, two.first ∷ two.rest, one.matches, two.matches, refl) }
+      record { first = one.first; rest = one.rest ++ two.first ∷ two.rest; small = one.small; matches =
+          (one.first ∷ one.rest, two.first ∷ two.rest, one.matches, two.matches, refl) }
 
-  choice_some : {ps : _} {e : Expression} → SpellsChoice ps e → AllByRecursion (λ p. (t : List ℕ) × IsPiece t p × (IsEmptyClass [] (t, p) → ⊥)) ps → MatchesSome e
+  choice_some : {ps : _} {e : Expression} → SpellsChoice ps e → AllByRecursion (λ p. (t : List ℕ) × IsPiece t p × (IsEmptyClass [] (t, p) → ⊥)) ps
+      → MatchesSome e
   choice_some (one_branch h) full = branch_some h full
   choice_some (more_branches {ps} {qs} {a} {b} h k) full =
       let one = choice_some h (parted _ ps _ full).0 in
@@ -105,7 +119,8 @@ pub record Begins (classes : List (List ℕ)) (Marked : List ℕ → Type 0) : T
   pub marked : Marked (index ∷ rest)
   pub has_byte : IsTrue (has (slice_index_or classes index []) byte)
 
-begins_with : (e : Expression) (b : ℕ) (rest word : List ℕ) → b < 256 → IsMarkedWord e word → AllZip (λ p c. IsTrue (has (slice_index_or (classes_of e) p []) c)) word (b ∷ rest) → Begins (classes_of e) (IsMarkedWord e)
+begins_with : (e : Expression) (b : ℕ) (rest word : List ℕ) → b < 256 → IsMarkedWord e word
+    → AllZip (λ p c. IsTrue (has (slice_index_or (classes_of e) p []) c)) word (b ∷ rest) → Begins (classes_of e) (IsMarkedWord e)
 begins_with e b rest [] small is_marked bytes = absurd bytes
 begins_with e b rest (p ∷ word) small is_marked bytes = record { byte = b; small = small; index = p; rest = word; marked = is_marked; has_byte = bytes.0 }
 

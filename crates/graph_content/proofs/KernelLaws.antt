@@ -29,7 +29,8 @@ turned : (rules others : List Rule) (items : List Item) → IsSame rules others 
 turned rules others items s = record { moves = λ x item. ((s.moves x item).1, (s.moves x item).0); reductions = λ k. ((s.reductions k).1, (s.reductions k).0) }
 
 -- each item names a rule
-named : (rules : List Rule) (items : List Item) → AreItems rules items → (item : Item) → Contains items item → (right : List SymbolId) × HasRight rules item.rule right
+named : (rules : List Rule) (items : List Item) → AreItems rules items → (item : Item) → Contains items item
+    → (right : List SymbolId) × HasRight rules item.rule right
 named rules items are item c = let is = are item c in (is.right, is.has)
 
 -- each item stays one with one rule more
@@ -37,8 +38,10 @@ items_kept : (rules : List Rule) (r : Rule) (next : List Rule) (items : List Ite
 items_kept rules r next items w are item c = let is = are item c in record { right = is.right; has = right_kept rules r next w is.has; within = is.within }
 
 -- and with one less, where none is of that rule
-items_back : (next : List Rule) (r : Rule) (rules : List Rule) (items : List Item) → IsWith next r rules → AreItems rules items → ((item : Item) → Contains items item → item.rule ≡ r.number → ⊥) → AreItems next items
-items_back next r rules items w are none item c = let is = are item c in record { right = is.right; has = right_back next r rules w is.has (none item c); within = is.within }
+items_back : (next : List Rule) (r : Rule) (rules : List Rule) (items : List Item) → IsWith next r rules → AreItems rules items
+    → ((item : Item) → Contains items item → item.rule ≡ r.number → ⊥) → AreItems next items
+items_back next r rules items w are none item c = let is = are item c in
+    record { right = is.right; has = right_back next r rules w is.has (none item c); within = is.within }
 
 same_some : {X : Type 0} (x y : X) → Some x ≡ Some y → x ≡ y
 same_some x y e = cc
@@ -47,7 +50,8 @@ no_some : {X : Type 0} (x : X) (o : Option X) → o ≡ None → o ≡ Some x �
 no_some x o none some = cc
 
 -- some item is of the rule, or none is
-of_rule_or_none : (k : RuleId) (items : List Item) → ((item : Item) × Contains items item × (item.rule ≡ k)) ⊎ ((item : Item) → Contains items item → item.rule ≡ k → ⊥)
+of_rule_or_none : (k : RuleId) (items : List Item)
+    → ((item : Item) × Contains items item × (item.rule ≡ k)) ⊎ ((item : Item) → Contains items item → item.rule ≡ k → ⊥)
 of_rule_or_none k [] = inr (λ item c e. contains_none item c)
 of_rule_or_none k (first ∷ others) = elim (cases_eq first.rule.0 k.0) [
   | inl e ↦ inl (first, contains_first first others, ap (λ n. let r : RuleId = record { 0 = n } in r) e)
@@ -60,7 +64,8 @@ of_rule_or_none k (first ∷ others) = elim (cases_eq first.rule.0 k.0) [
   ]
 ]
 
-pub untouched_items : (rules next : List Rule) (touch : Touch) (items : List Item) → RuleChange rules next touch → AreItems rules items → (TouchesItems rules touch items → ⊥)
+pub untouched_items : (rules next : List Rule) (touch : Touch) (items : List Item) → RuleChange rules next touch → AreItems rules items
+    → (TouchesItems rules touch items → ⊥)
     → AreItems next items × AreSameMoves rules next items
 untouched_items rules next touch items (one_more {r = r} w left gone) are none = (
   items_kept rules r next items w are,
@@ -73,14 +78,17 @@ untouched_items rules next touch items (one_less {r = r} w left gone) are none =
           (λ m. none (moves_on_left left (move_on_left next r rules w (Contains items) (named next items back) m))))),
     )
 untouched_items rules next touch items (as_before e left gone) are none =
-    subst (λ others. AreItems others items × AreSameMoves rules others items) (sym e) (are, record { moves = λ x item. (λ m. m, λ m. m); reductions = λ k. (λ m. m, λ m. m) })
+    subst (λ others. AreItems others items × AreSameMoves rules others items) (sym e)
+        (are, record { moves = λ x item. (λ m. m, λ m. m); reductions = λ k. (λ m. m, λ m. m) })
 
-pub touched_items : (rules next : List Rule) (touch : Touch) (items : List Item) → RuleChange rules next touch → AreItems rules items → TouchesItems rules touch items
+pub touched_items : (rules next : List Rule) (touch : Touch) (items : List Item) → RuleChange rules next touch → AreItems rules items
+    → TouchesItems rules touch items
     → (AreItems next items → ⊥) ⊎ (AreSameMoves rules next items → ⊥)
 touched_items rules next touch items (one_more {r = r} w left gone) are (names_gone {item = item} c e) = absurd (no_some item.rule touch.gone_rule gone e)
 touched_items rules next touch items (one_more {r = r} w left gone) are (moves_on_left {left = x} e m) =
     let same : x ≡ r.left = same_some x r.left (sym e ∙ left) in
-    inr (λ s. differs_at_move rules r next w (Contains items) (named rules items are) (subst (HasMove rules (Contains items)) same m) (of_same rules next items s))
+    inr (λ s. differs_at_move rules r next w (Contains items) (named rules items are) (subst (HasMove rules (Contains items)) same m)
+        (of_same rules next items s))
 touched_items rules next touch items (one_less {r = r} w left gone) are (names_gone {item = item} c e) =
     let same : item.rule ≡ r.number = same_some item.rule r.number (sym e ∙ gone) in
     inl (λ stay. unnamed next r rules w (stay item c).has same)

@@ -23,7 +23,8 @@ parted (x ∷ a) b of = let others = parted a b of.1 in ((of.0, others.0), other
 some_small : (a b : ℕ) → a < 256 → Some a ≡ Some b → b < 256
 some_small a b small e = let same : a ≡ b = cc in omega arith
 
-unescaped_small : (quote slash line tab : Bool) (byte : ℕ) → cond quote (Some 34) (cond slash (Some 92) (cond line (Some 10) (cond tab (Some 9) None))) ≡ Some byte → byte < 256
+unescaped_small : (quote slash line tab : Bool) (byte : ℕ)
+    → cond quote (Some 34) (cond slash (Some 92) (cond line (Some 10) (cond tab (Some 9) None))) ≡ Some byte → byte < 256
 unescaped_small true slash line tab byte e = some_small 34 byte (omega arith) e
 unescaped_small false true line tab byte e = some_small 92 byte (omega arith) e
 unescaped_small false false true tab byte e = some_small 10 byte (omega arith) e
@@ -48,7 +49,8 @@ solid_symbol piece (Literal bytes) spelled fits of =
     let whole : AreBytes (34 ∷ spelled.0 ++ 34 ∷ []) = subst (λ (t : List ℕ). AreBytes t) spelled.2 of in
     (spelled.3, fits, literal_bytes spelled.0 bytes spelled.1 (parted spelled.0 (34 ∷ []) whole.1).0)
 
-solid_symbols : (text : List ℕ) (symbols : List Symbol) → SpellsSymbols text symbols → AllByRecursion (SymbolFits the_limits) symbols → AreBytes text → AllByRecursion IsSolid symbols
+solid_symbols : (text : List ℕ) (symbols : List Symbol) → SpellsSymbols text symbols → AllByRecursion (SymbolFits the_limits) symbols → AreBytes text
+    → AllByRecursion IsSolid symbols
 solid_symbols text [] spelled fits of = tt
 solid_symbols text (symbol ∷ symbols) spelled fits of =
     let whole = parted spelled.0 (spelled.1 ++ spelled.2) (subst (λ (t : List ℕ). AreBytes t) spelled.6 of) in
@@ -68,8 +70,12 @@ rest_bytes line edit spelled of =
 
 -- the symbols of an edit that can be written
 pub solid_edit : (edit : Edit) → IsSound edit → AllByRecursion IsSolid (symbols_of edit)
-solid_edit (AddRule r) sound = (tt, solid_symbols sound.spelled.rest r.right sound.spelled.tail sound.within.parts.1 (rest_bytes (canonical (AddRule r)) (AddRule r) sound.spelled sound.bytes))
-solid_edit (DropRule r) sound = (tt, solid_symbols sound.spelled.rest r.right sound.spelled.tail sound.within.parts.1 (rest_bytes (canonical (DropRule r)) (DropRule r) sound.spelled sound.bytes))
+solid_edit (AddRule r) sound =
+    (tt, solid_symbols sound.spelled.rest r.right sound.spelled.tail sound.within.parts.1
+    (rest_bytes (canonical (AddRule r)) (AddRule r) sound.spelled sound.bytes))
+solid_edit (DropRule r) sound =
+    (tt, solid_symbols sound.spelled.rest r.right sound.spelled.tail sound.within.parts.1
+    (rest_bytes (canonical (DropRule r)) (DropRule r) sound.spelled sound.bytes))
 solid_edit (AddToken d) sound = (tt, tt)
 solid_edit (DropToken name) sound = (tt, tt)
 solid_edit (AddSkip d) sound = (tt, tt)

@@ -62,7 +62,8 @@ head e rest done wanted r some = by r.more r.words r.count r.ascending r.within 
       x = x;
       upper = upper;
       others = others;
-      words = words ∙ ap (λ tail. x.0 ∷ length upper ∷ tail) (append_assoc (map item_word upper) (flat_map move_words others) (map (λ (rule : RuleId). rule.0) e.reductions));
+      words = words ∙ ap (λ tail. x.0 ∷ length upper ∷ tail)
+          (append_assoc (map item_word upper) (flat_map move_words others) (map (λ (rule : RuleId). rule.0) e.reductions));
       count = omega (arith, count);
       ascending = ascending;
       within = within;
@@ -100,7 +101,8 @@ drop_two x y xs n (suc (suc k)) e = let same : k ≡ n = omega (arith, e) in ap 
 below : (a b : Move) → move_cmp a b ≡ Less → a.0.0 < b.0.0
 below a b e = nat_cmp_less a.0.0 b.0.0 e
 
-pub found : (e : Expansion) (rest : List ℕ) (done : ℕ) (symbol : SymbolId) (h : IsHead e rest done symbol.0) → symbol.0 ≤ h.x.0 → ((h.x.0 == symbol.0) ≡ true) ↔ ((upper : List Item) × Contains e.moves (symbol, upper))
+pub found : (e : Expansion) (rest : List ℕ) (done : ℕ) (symbol : SymbolId) (h : IsHead e rest done symbol.0) → symbol.0 ≤ h.x.0
+    → ((h.x.0 == symbol.0) ≡ true) ↔ ((upper : List Item) × Contains e.moves (symbol, upper))
 unfolding IsStrictlySortedBy
 found e rest done symbol h least = (
   λ is.
@@ -114,7 +116,8 @@ found e rest done symbol h least = (
   ],
 )
 
-pub next : (e : Expansion) (rest : List ℕ) (done wanted : ℕ) (h : IsHead e rest done wanted) → h.x.0 < wanted → (k : ℕ) → k ≡ 2 + length h.upper → IsRest e (drop k rest) (done + 1) wanted
+pub next : (e : Expansion) (rest : List ℕ) (done wanted : ℕ) (h : IsHead e rest done wanted) → h.x.0 < wanted → (k : ℕ) → k ≡ 2 + length h.upper
+    → IsRest e (drop k rest) (done + 1) wanted
 unfolding IsStrictlySortedBy
 next e rest done wanted h less k is = record {
   more = h.others;
@@ -131,7 +134,8 @@ next e rest done wanted h less k is = record {
 }
 
 -- past all moves
-pub none_left : (e : Expansion) (rest : List ℕ) (done : ℕ) (symbol : SymbolId) → IsRest e rest done symbol.0 → length e.moves ≤ done → (upper : List Item) → Contains e.moves (symbol, upper) → ⊥
+pub none_left : (e : Expansion) (rest : List ℕ) (done : ℕ) (symbol : SymbolId) → IsRest e rest done symbol.0 → length e.moves ≤ done → (upper : List Item)
+    → Contains e.moves (symbol, upper) → ⊥
 none_left e rest done symbol r all upper c = by r.more r.count (r.wanted_left symbol upper refl c)
   where
     by : (more : List Move) → done + length more ≡ length e.moves → Contains more (symbol, upper) → ⊥
@@ -153,13 +157,16 @@ module _ (payload rest : List ℕ) (done wanted : ℕ) (known : (e : Expansion) 
       let h = head_of e is some in
       omega (arith, head_length e rest done wanted h, head_count e rest done wanted h)
 
-  pub next_rest : done < get_or payload 0 0 → get_or rest 0 0 < wanted → (k : ℕ) → k ≡ 2 + get_or rest 1 0 → (e : Expansion) → payload ≡ item_payload_words e → IsRest e (take (length rest - k) (drop k rest)) (done + 1) wanted
+  pub next_rest : done < get_or payload 0 0 → get_or rest 0 0 < wanted → (k : ℕ) → k ≡ 2 + get_or rest 1 0 → (e : Expansion)
+      → payload ≡ item_payload_words e → IsRest e (take (length rest - k) (drop k rest)) (done + 1) wanted
   next_rest some less k is-next e is =
       let h = head_of e is some in
       let symbol = head_symbol e rest done wanted h in
-      subst (λ ws. IsRest e ws (done + 1) wanted) (sym (take_rest rest k)) (next e rest done wanted h (omega (arith, less, symbol)) k (is-next ∙ ap (λ n. 2 + n) (head_count e rest done wanted h)))
+      subst (λ ws. IsRest e ws (done + 1) wanted) (sym (take_rest rest k))
+          (next e rest done wanted h (omega (arith, less, symbol)) k (is-next ∙ ap (λ n. 2 + n) (head_count e rest done wanted h)))
 
-  pub head_decides : (symbol : SymbolId) → wanted ≡ symbol.0 → done < get_or payload 0 0 → wanted ≤ get_or rest 0 0 → (e : Expansion) → payload ≡ item_payload_words e
+  pub head_decides : (symbol : SymbolId) → wanted ≡ symbol.0 → done < get_or payload 0 0 → wanted ≤ get_or rest 0 0 → (e : Expansion)
+      → payload ≡ item_payload_words e
       → ((get_or rest 0 0 == wanted) ≡ true) ↔ ((upper : List Item) × Contains e.moves (symbol, upper))
   head_decides symbol same some least e is =
       let h = head_of e is some in
@@ -170,10 +177,12 @@ module _ (payload rest : List ℕ) (done wanted : ℕ) (known : (e : Expansion) 
       let tells = found e rest done symbol h' (omega (arith, least, at', same)) in
       (λ yes. tells.0 (sym test ∙ yes), λ w. test ∙ tells.1 w)
 
-  pub none_decides : (symbol : SymbolId) → wanted ≡ symbol.0 → get_or payload 0 0 ≤ done → (e : Expansion) → payload ≡ item_payload_words e → (upper : List Item) → Contains e.moves (symbol, upper) → ⊥
+  pub none_decides : (symbol : SymbolId) → wanted ≡ symbol.0 → get_or payload 0 0 ≤ done → (e : Expansion) → payload ≡ item_payload_words e
+      → (upper : List Item) → Contains e.moves (symbol, upper) → ⊥
   none_decides symbol same all e is upper c =
       none_left e rest done symbol (subst (IsRest e rest done) same (known e is)) (omega (arith, all, moves_told e is)) upper c
 
-pub first_rest : (payload : List ℕ) (wanted : ℕ) (e : Expansion) → payload ≡ item_payload_words e → IsRest e (take (length payload - 2) (drop 2 payload)) 0 wanted
+pub first_rest : (payload : List ℕ) (wanted : ℕ) (e : Expansion) → payload ≡ item_payload_words e
+    → IsRest e (take (length payload - 2) (drop 2 payload)) 0 wanted
 first_rest payload wanted e is =
     subst (λ ws. IsRest e ws 0 wanted) (sym (take_rest payload 2)) (subst (λ ws. IsRest e (drop 2 ws) 0 wanted) (sym is) (begins e wanted))

@@ -76,7 +76,8 @@ with_item-ascends c [] sorted = (tt, tt)
 with_item-ascends c (y ∷ ys) sorted = by (item_cmp c y) refl (with_item-ascends c ys sorted.1)
   where
     by : (o : Ordering) → item_cmp c y ≡ o → IsStrictlySortedBy item_cmp (with_item c ys) → IsStrictlySortedBy item_cmp (placed o c y ys (with_item c ys))
-    by Less e rest = ((e, all_contained (λ z. item_cmp c z ≡ Less) ys (λ z d. item_cmp_total.trans c y z e (each_contained (λ z. item_cmp y z ≡ Less) ys z sorted.0 d))), sorted)
+    by Less e rest = ((e,
+        all_contained (λ z. item_cmp c z ≡ Less) ys (λ z d. item_cmp_total.trans c y z e (each_contained (λ z. item_cmp y z ≡ Less) ys z sorted.0 d))), sorted)
     by Equal e rest = sorted
     by Greater e rest =
         let less : item_cmp y c ≡ Less = item_cmp_total.antisymm y c ∙ ap ordering_reverse e in (
@@ -126,12 +127,16 @@ past_first r = item_at r.number 1
 candidates : List Rule → List Item → List Item
 candidates rules items = map past_dot items ++ map past_first rules
 
-is_candidate : (rules : List Rule) (items : List Item) (x : SymbolId) (item : Item) → InMove rules (Contains items) x item → Contains (candidates rules items) item
+is_candidate : (rules : List Rule) (items : List Item) (x : SymbolId) (item : Item) → InMove rules (Contains items) x item
+    → Contains (candidates rules items) item
 unfolding candidates past_dot past_first
-is_candidate rules items x item (past (own {item = before} c) n) = Contains-append_left (map past_dot items) (map past_first rules) _ (contains_map past_dot items before c)
-is_candidate rules items x item (past (added {r = r} c m there) n) = Contains-append_right (map past_dot items) (map past_first rules) _ (contains_map past_first rules r there)
+is_candidate rules items x item (past (own {item = before} c) n) =
+    Contains-append_left (map past_dot items) (map past_first rules) _ (contains_map past_dot items before c)
+is_candidate rules items x item (past (added {r = r} c m there) n) =
+    Contains-append_right (map past_dot items) (map past_first rules) _ (contains_map past_first rules r there)
 
-pub has_upper : (rules : List Rule) (items : List Item) (x : SymbolId) → HasMove rules (Contains items) x → ((upper : List Item) → IsMoveOf rules items x upper → ⊥) → ⊥
+pub has_upper : (rules : List Rule) (items : List Item) (x : SymbolId) → HasMove rules (Contains items) x
+    → ((upper : List Item) → IsMoveOf rules items x upper → ⊥) → ⊥
 has_upper rules items x move none = listed (InMove rules (Contains items) x) (candidates rules items) (λ (L, l). none L (record {
   some = move;
   list = record { ascends = l.ascends; within = l.within; whole = λ item m. l.whole item (is_candidate rules items x item m) m };

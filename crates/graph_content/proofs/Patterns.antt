@@ -36,7 +36,8 @@ unfolding after
 symbols_after g edit = refl
 
 -- a live literal is the same symbol after an edit
-pub literal_same : (g : Grammar) (edit : Edit) (s : SymbolId) → IsWellFormed g → IsLive g (literal s) → symbol_at (after g edit).symbols s ≡ symbol_at g.symbols s
+pub literal_same : (g : Grammar) (edit : Edit) (s : SymbolId) → IsWellFormed g → IsLive g (literal s)
+    → symbol_at (after g edit).symbols s ≡ symbol_at g.symbols s
 literal_same g edit s well live =
     let grown = with_symbols-grown g.symbols (symbols_of edit) in
     let used = ((live_literal g s).0 live).1 in
@@ -59,13 +60,16 @@ rule_dropped_same g r n = refl
 added_same : (g : Grammar) (skip : Bool) (d : DefText) (n : RuleId) → n.0 ≤ g.version → IsSameAt g (after g (adds skip d)) n
 unfolding after
 added_same g true d n old =
-    find_push-first (λ (live : Definition). live.number.0 == n.0) g.definitions (defined (with_symbols g.symbols (symbols_of (AddSkip d))) (g.version + 1) true d)
+    find_push-first (λ (live : Definition). live.number.0 == n.0) g.definitions
+        (defined (with_symbols g.symbols (symbols_of (AddSkip d))) (g.version + 1) true d)
     (ne_eqb (g.version + 1) n.0 (λ e. omega arith))
 added_same g false d n old =
-    find_push-first (λ (live : Definition). live.number.0 == n.0) g.definitions (defined (with_symbols g.symbols (symbols_of (AddToken d))) (g.version + 1) false d)
+    find_push-first (λ (live : Definition). live.number.0 == n.0) g.definitions
+        (defined (with_symbols g.symbols (symbols_of (AddToken d))) (g.version + 1) false d)
     (ne_eqb (g.version + 1) n.0 (λ e. omega arith))
 
-dropped_same : (g : Grammar) (skip : Bool) (name : List ℕ) (gone : Definition) (n : RuleId) → IsWellFormed g → IsAccepted g (drops skip name) → definition_found g skip name ≡ Some gone
+dropped_same : (g : Grammar) (skip : Bool) (name : List ℕ) (gone : Definition) (n : RuleId) → IsWellFormed g → IsAccepted g (drops skip name)
+    → definition_found g skip name ≡ Some gone
     → (n.0 ≡ gone.number.0 → ⊥) → IsSameAt g (after g (drops skip name)) n
 dropped_same g skip name gone n well accepted found other =
     let test = λ (live : Definition). live.number.0 == n.0 in
@@ -76,18 +80,22 @@ dropped_same g skip name gone n well accepted found other =
     ap not (ne_eqb live.number.0 gone.number.0 (λ e. other (sym same ∙ e)))))
 
 -- the dropped one is not live then
-dropped_gone : (g : Grammar) (skip : Bool) (name : List ℕ) (gone : Definition) (n : RuleId) → IsWellFormed g → IsAccepted g (drops skip name) → definition_found g skip name ≡ Some gone
+dropped_gone : (g : Grammar) (skip : Bool) (name : List ℕ) (gone : Definition) (n : RuleId) → IsWellFormed g → IsAccepted g (drops skip name)
+    → definition_found g skip name ≡ Some gone
     → IsLive (after g (drops skip name)) (named n) → n.0 ≡ gone.number.0 → ⊥
 dropped_gone g skip name gone n well accepted found live e =
     let known = (live_dropped g skip name gone well accepted found (named n)).0 live in
     known.1 (ap (λ k. named (let r : RuleId = record { 0 = k } in r)) e)
 
 -- a definition that stays live is the same
-pub definition_same : (g : Grammar) (edit : Edit) (n : RuleId) → IsWellFormed g → IsAccepted g edit → IsLive g (named n) → IsLive (after g edit) (named n) → IsSameAt g (after g edit) n
+pub definition_same : (g : Grammar) (edit : Edit) (n : RuleId) → IsWellFormed g → IsAccepted g edit → IsLive g (named n) → IsLive (after g edit) (named n)
+    → IsSameAt g (after g edit) n
 definition_same g (AddRule r) n well accepted live stays = rule_added_same g r n
 definition_same g (DropRule r) n well accepted live stays = rule_dropped_same g r n
-definition_same g (AddToken d) n well accepted live stays = added_same g false d n (number_within g.version g.definitions n well.definition_numbers ((live_named g n).0 live))
-definition_same g (AddSkip d) n well accepted live stays = added_same g true d n (number_within g.version g.definitions n well.definition_numbers ((live_named g n).0 live))
+definition_same g (AddToken d) n well accepted live stays =
+    added_same g false d n (number_within g.version g.definitions n well.definition_numbers ((live_named g n).0 live))
+definition_same g (AddSkip d) n well accepted live stays =
+    added_same g true d n (number_within g.version g.definitions n well.definition_numbers ((live_named g n).0 live))
 definition_same g (DropToken name) n well accepted live stays =
     let (gone, found) = definition_there g false name (free g (DropToken name) accepted.taken).lack in
     dropped_same g false name gone n well accepted found (dropped_gone g false name gone n well accepted found stays)
@@ -97,7 +105,8 @@ definition_same g (DropSkip name) n well accepted live stays =
 
 -- ---- patterns
 
-pub pattern_kept : (g : Grammar) (edit : Edit) (d : DefId) (p : Pattern) → IsWellFormed g → IsAccepted g edit → IsLive (after g edit) d → HasPattern g d p → HasPattern (after g edit) d p
+pub pattern_kept : (g : Grammar) (edit : Edit) (d : DefId) (p : Pattern) → IsWellFormed g → IsAccepted g edit → IsLive (after g edit) d → HasPattern g d p
+    → HasPattern (after g edit) d p
 pattern_kept g edit d p well accepted stays has = record { live = stays; is = by d p stays has.live has.is }
   where
     by : (d : DefId) (p : Pattern) → IsLive (after g edit) d → IsLive g d → IsPatternOf g d p → IsPatternOf (after g edit) d p
@@ -106,7 +115,8 @@ pattern_kept g edit d p well accepted stays has = record { live = stays; is = by
     by (named n) (bytes text) stays live is = absurd is
     by (named n) (expression e) stays live is = (is.0, definition_same g edit n well accepted live stays ∙ is.1, is.2)
 
-pub pattern_back : (g : Grammar) (edit : Edit) (d : DefId) (p : Pattern) → IsWellFormed g → IsAccepted g edit → IsLive g d → HasPattern (after g edit) d p → HasPattern g d p
+pub pattern_back : (g : Grammar) (edit : Edit) (d : DefId) (p : Pattern) → IsWellFormed g → IsAccepted g edit → IsLive g d → HasPattern (after g edit) d p
+    → HasPattern g d p
 pattern_back g edit d p well accepted live has = record { live = live; is = by d p has.live live has.is }
   where
     by : (d : DefId) (p : Pattern) → IsLive (after g edit) d → IsLive g d → IsPatternOf (after g edit) d p → IsPatternOf g d p

@@ -42,7 +42,8 @@ joined : {X : Type 0} (P : X → Type 0) (xs ys : List X) → AllByRecursion P x
 joined P [] ys all more = more
 joined P (x ∷ xs) ys all more = (all.0, joined P xs ys all.1 more)
 
-symbols_read : (symbols these : List Symbol) → AllByRecursion IsSolid symbols → AllByRecursion IsSolid these → AllByRecursion IsSolid (with_symbols symbols these)
+symbols_read : (symbols these : List Symbol) → AllByRecursion IsSolid symbols → AllByRecursion IsSolid these
+    → AllByRecursion IsSolid (with_symbols symbols these)
 symbols_read symbols these old new =
     let grown = with_symbols-grown symbols these in
     let more : AllByRecursion IsSolid grown.more = all_contained IsSolid grown.more (λ s c. each_contained IsSolid these s new (grown.known s c)) in
@@ -50,8 +51,11 @@ symbols_read symbols these old new =
 
 readable_after : (g : Grammar) (edit : Edit) → IsReadable g → IsAccepted g edit → IsReadable (after g edit)
 unfolding after
-readable_after g (AddRule r) read accepted = record { symbols = symbols_read g.symbols (symbols_of (AddRule r)) read.symbols (solid_edit (AddRule r) accepted.proper.0); definitions = read.definitions }
-readable_after g (DropRule r) read accepted = record { symbols = symbols_read g.symbols (symbols_of (DropRule r)) read.symbols (solid_edit (DropRule r) accepted.proper.0); definitions = read.definitions }
+readable_after g (AddRule r) read accepted =
+    record { symbols = symbols_read g.symbols (symbols_of (AddRule r)) read.symbols (solid_edit (AddRule r) accepted.proper.0); definitions = read.definitions }
+readable_after g (DropRule r) read accepted =
+    record { symbols = symbols_read g.symbols (symbols_of (DropRule r)) read.symbols (solid_edit (DropRule r) accepted.proper.0); definitions =
+    read.definitions }
 readable_after g (AddToken d) read accepted = record {
   symbols = symbols_read g.symbols (symbols_of (AddToken d)) read.symbols (solid_edit (AddToken d) accepted.proper.0);
   definitions = all_push IsSpelled g.definitions _ read.definitions accepted.proper.1;
@@ -98,7 +102,8 @@ begun g d p has begins = record {
   leads = ((p, has, (begins.rest, begins.marked)), (p, has, begins.has_byte));
 }
 
-pub solid : (symbols : List Symbol) (n : ℕ) (text : List ℕ) → AllByRecursion IsSolid symbols → symbol_at symbols (record { 0 = n }) ≡ Literal text → IsSolid (Literal text)
+pub solid : (symbols : List Symbol) (n : ℕ) (text : List ℕ) → AllByRecursion IsSolid symbols → symbol_at symbols (record { 0 = n }) ≡ Literal text
+    → IsSolid (Literal text)
 solid [] n text all is = absurd cc
 solid (x ∷ xs) zero text all is = subst IsSolid is all.0
 solid (x ∷ xs) (suc n) text all is = solid xs n text all.1 is
@@ -116,7 +121,8 @@ named_begun : (g : Grammar) (n : RuleId) → IsReadable g → IsLive g (named n)
 named_begun g n read live = by (definition_of g n) refl live
   where
     by : (found : Option Definition) → definition_of g n ≡ found → is_some (option_map kind_of_definition (definition_of g n)) ≡ true → IsBegun g (named n)
-    by None is e = let no : is_some (option_map kind_of_definition (definition_of g n)) ≡ false = ap (λ o. is_some (option_map kind_of_definition o)) is in absurd cc
+    by None is e = let no : is_some (option_map kind_of_definition (definition_of g n)) ≡ false = ap (λ o. is_some (option_map kind_of_definition o)) is in
+        absurd cc
     by (Some d) is e =
         let there = (found_there (λ (live : Definition). live.number.0 == n.0) g.definitions d is).0 in
         let spelled = each_contained IsSpelled g.definitions d read.definitions there in

@@ -18,22 +18,28 @@ use Rattle.graph_content.proofs.KeySizes.{key_fits}
 
 -- ---- the same expansion
 
-move_over : (rules others : List Rule) (items : List Item) → AreSameMoves rules others items → (x : SymbolId) (upper : List Item) → IsMoveOf rules items x upper → IsMoveOf others items x upper
+move_over : (rules others : List Rule) (items : List Item) → AreSameMoves rules others items → (x : SymbolId) (upper : List Item)
+    → IsMoveOf rules items x upper → IsMoveOf others items x upper
 move_over rules others items same x upper is = record {
   some = let (item, m) = is.some in (item, (same.moves x item).0 m);
-  list = record { ascends = is.list.ascends; within = λ item c. (same.moves x item).0 (is.list.within item c); whole = λ item m. is.list.whole item ((same.moves x item).1 m) };
+  list = record { ascends = is.list.ascends; within = λ item c. (same.moves x item).0 (is.list.within item c); whole =
+      λ item m. is.list.whole item ((same.moves x item).1 m) };
 }
 
-move_back : (rules others : List Rule) (items : List Item) → AreSameMoves rules others items → (x : SymbolId) (upper : List Item) → IsMoveOf others items x upper → IsMoveOf rules items x upper
+move_back : (rules others : List Rule) (items : List Item) → AreSameMoves rules others items → (x : SymbolId) (upper : List Item)
+    → IsMoveOf others items x upper → IsMoveOf rules items x upper
 move_back rules others items same x upper is = record {
   some = let (item, m) = is.some in (item, (same.moves x item).1 m);
-  list = record { ascends = is.list.ascends; within = λ item c. (same.moves x item).1 (is.list.within item c); whole = λ item m. is.list.whole item ((same.moves x item).0 m) };
+  list = record { ascends = is.list.ascends; within = λ item c. (same.moves x item).1 (is.list.within item c); whole =
+      λ item m. is.list.whole item ((same.moves x item).0 m) };
 }
 
-expansion_over : (rules others : List Rule) (items : List Item) (e : Expansion) → AreSameMoves rules others items → IsExpansionOf rules items e → IsExpansionOf others items e
+expansion_over : (rules others : List Rule) (items : List Item) (e : Expansion) → AreSameMoves rules others items → IsExpansionOf rules items e
+    → IsExpansionOf others items e
 expansion_over rules others items e same is = record {
   move_order = is.move_order;
-  moves = λ x upper. (λ c. move_over rules others items same x upper ((is.moves x upper).0 c), λ m. (is.moves x upper).1 (move_back rules others items same x upper m));
+  moves = λ x upper. (λ c. move_over rules others items same x upper ((is.moves x upper).0 c),
+      λ m. (is.moves x upper).1 (move_back rules others items same x upper m));
   reduction_order = is.reduction_order;
   reductions = λ k. (λ c. (same.reductions k).0 ((is.reductions k).0 c), λ r. (is.reductions k).1 ((same.reductions k).1 r));
 }
@@ -54,7 +60,8 @@ range_over g next key range same is = record {
   somewhere = is.somewhere;
 }
 
-ranges_over : (g next : Grammar) (key : ScanKey) (ranges : List Range) → AreSameRanges g next key → IsScanExpansionOf g key ranges → IsScanExpansionOf next key ranges
+ranges_over : (g next : Grammar) (key : ScanKey) (ranges : List Range) → AreSameRanges g next key → IsScanExpansionOf g key ranges
+    → IsScanExpansionOf next key ranges
 ranges_over g next key ranges same is = record {
   each = λ range c. range_over g next key range same (is.each range c);
   whole = λ byte mark small leads. is.whole byte mark small ((same byte mark small).1 leads);

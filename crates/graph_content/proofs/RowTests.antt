@@ -28,7 +28,8 @@ same_some x y e = cc
 
 -- ---- kernels
 
-pub rule_decides : (touch : Touch) (rule : RuleId) (items : List Item) (words : List ℕ) → touch.gone_rule ≡ Some rule → FitItems items → words ≡ map item_word items
+pub rule_decides : (touch : Touch) (rule : RuleId) (items : List Item) (words : List ℕ) → touch.gone_rule ≡ Some rule → FitItems items
+    → words ≡ map item_word items
     → MatchBool (names_rule rule.0 words) (NamesEnded touch items) (NamesEnded touch items → ⊥)
 rule_decides touch rule items words gone fit is = by (names_rule rule.0 words) refl
   where
@@ -41,8 +42,10 @@ rule_decides touch rule items words gone fit is = by (names_rule rule.0 words) r
         let named : names_rule rule.0 words ≡ true = ap (names_rule rule.0) is ∙ rule_named rule items fit item c same in
         cc
 
-pub left_decides : (g : Grammar) (touch : Touch) (items : List Item) (e : Expansion) (left : SymbolId) (moves : Bool) → IsExpansionOf g.rules items e → touch.left ≡ Some left → (NamesEnded touch items → ⊥)
-    → (IsTrue moves ↔ ((upper : List Item) × Contains e.moves (left, upper))) → MatchBool moves (IsTouched g touch (kernel items)) (IsTouched g touch (kernel items) → ⊥)
+pub left_decides : (g : Grammar) (touch : Touch) (items : List Item) (e : Expansion) (left : SymbolId) (moves : Bool) → IsExpansionOf g.rules items e
+    → touch.left ≡ Some left → (NamesEnded touch items → ⊥)
+    → (IsTrue moves ↔ ((upper : List Item) × Contains e.moves (left, upper)))
+        → MatchBool moves (IsTouched g touch (kernel items)) (IsTouched g touch (kernel items) → ⊥)
 left_decides g touch items e left true is at none tells =
     let (upper, there) = tells.0 refl in
     inr (left, at, ((is.moves left upper).0 there).some)
@@ -50,7 +53,8 @@ left_decides g touch items e left false is at none tells = λ w. elim w [
   | inl ended ↦ none ended
   | inr (x, at', move) ↦
       let same : x ≡ left = same_some x left (sym at' ∙ at) in
-      has_upper g.rules items left (subst (HasMove g.rules (Contains items)) same move) (λ upper m. let told : false ≡ true = tells.1 (upper, (is.moves left upper).1 m) in absurd cc)
+      has_upper g.rules items left (subst (HasMove g.rules (Contains items)) same move)
+          (λ upper m. let told : false ≡ true = tells.1 (upper, (is.moves left upper).1 m) in absurd cc)
 ]
 
 pub no_left : (g : Grammar) (touch : Touch) (items : List Item) → touch.left ≡ None → (NamesEnded touch items → ⊥) → IsTouched g touch (kernel items) → ⊥
@@ -67,7 +71,8 @@ marks_decide g touch marks words fit is = by (names_among touch.gone_defs words)
   where
     by : (b : Bool) → names_among touch.gone_defs words ≡ b → MatchBool b (IsTouched g touch (scan (Set marks))) (IsTouched g touch (scan (Set marks)) → ⊥)
     by true named = named_among touch.gone_defs marks fit (sym (ap (names_among touch.gone_defs) is) ∙ named)
-    by false none = λ (m, c, gone). let named : names_among touch.gone_defs words ≡ true = ap (names_among touch.gone_defs) is ∙ among_named touch.gone_defs marks fit m c gone in absurd cc
+    by false none = λ (m, c, gone). let named : names_among touch.gone_defs words ≡ true = ap (names_among touch.gone_defs) is
+        ∙ among_named touch.gone_defs marks fit m c gone in absurd cc
 
 pub start_decides : (g : Grammar) (touch : Touch) → MatchBool touch.scan (IsTouched g touch (scan Start)) (IsTouched g touch (scan Start) → ⊥)
 start_decides g touch = by touch.scan refl
@@ -82,11 +87,13 @@ pub start_row : (g : Grammar) (touch : Touch) (key : ScanKey) (row payload : Lis
 start_row g touch Start row payload is two = start_decides g touch
 start_row g touch (Set marks) row payload is two = let three : get_or row 2 0 ≡ 3 = ap (λ ws. get_or ws 2 0) is in absurd (omega (arith, two, three))
 
-pub set_row : (g : Grammar) (touch : Touch) (key : ScanKey) (row payload names : List ℕ) → row ≡ row_words (scan key) payload → (get_or row 2 0 ≡ 2 → ⊥) → FitsScanKey key → names ≡ name_words (scan key)
+pub set_row : (g : Grammar) (touch : Touch) (key : ScanKey) (row payload names : List ℕ) → row ≡ row_words (scan key) payload → (get_or row 2 0 ≡ 2 → ⊥)
+    → FitsScanKey key → names ≡ name_words (scan key)
     → (b : Bool) → b ≡ names_among touch.gone_defs names → MatchBool b (IsTouched g touch (scan key)) (IsTouched g touch (scan key) → ⊥)
 set_row g touch Start row payload names is other fit same b told = absurd (other (ap (λ ws. get_or ws 2 0) is))
 set_row g touch (Set marks) row payload names is other fit same b told =
-    subst (λ c. MatchBool c (IsTouched g touch (scan (Set marks))) (IsTouched g touch (scan (Set marks)) → ⊥)) (sym told) (marks_decide g touch marks names fit same)
+    subst (λ c. MatchBool c (IsTouched g touch (scan (Set marks))) (IsTouched g touch (scan (Set marks)) → ⊥)) (sym told)
+        (marks_decide g touch marks names fit same)
 
 pub scan_row_long : (key : ScanKey) (row payload : List ℕ) → row ≡ row_words (scan key) payload → 2 < length row
 scan_row_long Start row payload is = omega (arith, ap length is)
@@ -94,26 +101,32 @@ scan_row_long (Set marks) row payload is = omega (arith, ap length is)
 
 -- ---- both kinds
 
-pub of_items : (g : Grammar) (touch : Touch) (row : List ℕ) (told : Bool) → ((key : Key) (payload : List ℕ) → row ≡ row_words key payload → Items ≡ kind_of_key key)
-    → ((h : Grammar) (items : List Item) → FitItems items → IsRowOf h (kernel items) row → MatchBool told (IsTouched h touch (kernel items)) (IsTouched h touch (kernel items) → ⊥))
+pub of_items : (g : Grammar) (touch : Touch) (row : List ℕ) (told : Bool)
+    → ((key : Key) (payload : List ℕ) → row ≡ row_words key payload → Items ≡ kind_of_key key)
+    → ((h : Grammar) (items : List Item) → FitItems items → IsRowOf h (kernel items) row
+        → MatchBool told (IsTouched h touch (kernel items)) (IsTouched h touch (kernel items) → ⊥))
     → (key : Key) → FitsKey key → IsRowOf g key row → MatchBool told (IsTouched g touch key) (IsTouched g touch key → ⊥)
 of_items g touch row told kind answer (kernel items) fit is = answer g items fit is
 of_items g touch row told kind answer (scan key) fit is = let other : Items ≡ Scan = kind (scan key) is.payload is.words in absurd cc
 
-pub of_scan : (g : Grammar) (touch : Touch) (row : List ℕ) (told : Bool) → ((key : Key) (payload : List ℕ) → row ≡ row_words key payload → Scan ≡ kind_of_key key)
-    → ((h : Grammar) (key : ScanKey) → FitsScanKey key → IsRowOf h (scan key) row → MatchBool told (IsTouched h touch (scan key)) (IsTouched h touch (scan key) → ⊥))
+pub of_scan : (g : Grammar) (touch : Touch) (row : List ℕ) (told : Bool)
+    → ((key : Key) (payload : List ℕ) → row ≡ row_words key payload → Scan ≡ kind_of_key key)
+    → ((h : Grammar) (key : ScanKey) → FitsScanKey key → IsRowOf h (scan key) row
+        → MatchBool told (IsTouched h touch (scan key)) (IsTouched h touch (scan key) → ⊥))
     → (key : Key) → FitsKey key → IsRowOf g key row → MatchBool told (IsTouched g touch key) (IsTouched g touch key → ⊥)
 of_scan g touch row told kind answer (kernel items) fit is = let other : Scan ≡ Items = kind (kernel items) is.payload is.words in absurd cc
 of_scan g touch row told kind answer (scan key) fit is = answer g key fit is
 
-pub is_items_row : (row : List ℕ) → ((key : Key) (payload : List ℕ) → row ≡ row_words key payload → Items ≡ kind_of_key key) → ((g : Grammar) × Fits g row) → (g : Grammar) × (items : List Item) × IsRowOf g (kernel items) row
+pub is_items_row : (row : List ℕ) → ((key : Key) (payload : List ℕ) → row ≡ row_words key payload → Items ≡ kind_of_key key) → ((g : Grammar) × Fits g row)
+    → (g : Grammar) × (items : List Item) × IsRowOf g (kernel items) row
 is_items_row row kind (g, (key, is)) = by key is
   where
     by : (key : Key) → IsRowOf g key row → (g : Grammar) × (items : List Item) × IsRowOf g (kernel items) row
     by (kernel items) is = (g, items, is)
     by (scan key) is = let other : Items ≡ Scan = kind (scan key) is.payload is.words in absurd cc
 
-pub is_scan_row : (row : List ℕ) → ((key : Key) (payload : List ℕ) → row ≡ row_words key payload → Scan ≡ kind_of_key key) → ((g : Grammar) × Fits g row) → (g : Grammar) × (key : ScanKey) × IsRowOf g (scan key) row
+pub is_scan_row : (row : List ℕ) → ((key : Key) (payload : List ℕ) → row ≡ row_words key payload → Scan ≡ kind_of_key key) → ((g : Grammar) × Fits g row)
+    → (g : Grammar) × (key : ScanKey) × IsRowOf g (scan key) row
 is_scan_row row kind (g, (key, is)) = by key is
   where
     by : (key : Key) → IsRowOf g key row → (g : Grammar) × (key : ScanKey) × IsRowOf g (scan key) row

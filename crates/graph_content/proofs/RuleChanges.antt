@@ -41,7 +41,8 @@ rule_id n = record { 0 = n }
 numbers_differ : (g : Grammar) → IsWellFormed g → IsNumbered g.rules
 numbers_differ g well = record {
   same = λ a b left right e.
-      distinct_map (λ (r : Rule). r.number.0) g.rules a b (sorted_keys (λ (r : Rule). r.number.0) g.rules well.rule_order) left right (ap (λ (n : RuleId). n.0) e);
+      distinct_map (λ (r : Rule). r.number.0) g.rules a b (sorted_keys (λ (r : Rule). r.number.0) g.rules well.rule_order) left right
+          (ap (λ (n : RuleId). n.0) e);
   some = λ a there e.
       let number = each_contained (λ (r : Rule). IsNumber g.version r.number.0) g.rules a well.rule_numbers there in
       let zero : a.number.0 ≡ 0 = ap (λ (n : RuleId). n.0) e in
@@ -65,7 +66,8 @@ with_new g r well accepted =
           omega (arith, number.1);
     }
 
-added_left : (g : Grammar) (r : RuleText) → number_of (after g (AddRule r)).symbols (Named r.left) ≡ (numbered (with_symbols g.symbols (symbols_of (AddRule r))) (g.version + 1) r).left
+added_left : (g : Grammar) (r : RuleText)
+    → number_of (after g (AddRule r)).symbols (Named r.left) ≡ (numbered (with_symbols g.symbols (symbols_of (AddRule r))) (g.version + 1) r).left
 unfolding after
 added_left g r = refl
 
@@ -75,7 +77,8 @@ contains_kept : {X : Type 0} (test : X → Bool) (xs : List X) (x : X) → Conta
 contains_kept test [] x c passes = absurd (contains_none x c)
 contains_kept {X} test (y ∷ ys) x c passes = by (test y) refl (contains_cases y ys x c) (λ d. contains_kept test ys x d passes)
   where
-    by : (b : Bool) → test y ≡ b → (y ≡ x) ⊎ Contains ys x → (Contains ys x → Contains (filter test ys) x) → Contains (cond b (y ∷ filter test ys) (filter test ys)) x
+    by : (b : Bool) → test y ≡ b → (y ≡ x) ⊎ Contains ys x → (Contains ys x → Contains (filter test ys) x)
+        → Contains (cond b (y ∷ filter test ys) (filter test ys)) x
     by true is (inl e) rest = subst (Contains (y ∷ filter test ys)) e (contains_first y (filter test ys))
     by true is (inr d) rest = contains_later y (filter test ys) x (rest d)
     by false is (inl e) rest = let fails : test x ≡ false = subst (λ z. test z ≡ false) e is in absurd cc
@@ -128,7 +131,8 @@ unfolding after
 rules_remain g true name = refl
 rules_remain g false name = refl
 
-pub rule_change : (g : Grammar) (edit : Edit) (touch : Touch) → IsWellFormed g → IsAccepted g edit → IsTouchOf g edit touch → RuleChange g.rules (after g edit).rules touch
+pub rule_change : (g : Grammar) (edit : Edit) (touch : Touch) → IsWellFormed g → IsAccepted g edit → IsTouchOf g edit touch
+    → RuleChange g.rules (after g edit).rules touch
 rule_change g (AddRule r) touch well accepted touches = one_more (with_new g r well accepted) (touches.left ∙ ap Some (added_left g r)) touches.gone_rule
 rule_change g (DropRule r) touch well accepted touches =
     let (live, found) = rule_there g r (free g (DropRule r) accepted.taken).lack in

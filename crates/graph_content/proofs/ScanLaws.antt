@@ -22,13 +22,15 @@ stable true h = refl
 stable false h = absurd (h (λ e. cc))
 
 -- where a position's patterns go over, so does what leads to it
-leads_over : (g next : Grammar) (key : ScanKey) (byte : ℕ) (mark : Mark) → ((p : Pattern) → HasPattern g mark.def p → HasPattern next mark.def p) → LeadsTo g key byte mark → LeadsTo next key byte mark
+leads_over : (g next : Grammar) (key : ScanKey) (byte : ℕ) (mark : Mark) → ((p : Pattern) → HasPattern g mark.def p → HasPattern next mark.def p)
+    → LeadsTo g key byte mark → LeadsTo next key byte mark
 leads_over g next Start byte mark over (first, has) = ((first.0, over first.0 first.1, first.2), (has.0, over has.0 has.1, has.2))
 leads_over g next (Set marks) byte mark over ((member, c, (e, follows)), has) =
     ((member, c, (e, (follows.0, over follows.0 follows.1, follows.2))), (has.0, over has.0 has.1, has.2))
 
 -- what leads to a position from a set names the definition of a member
-member_of : (g : Grammar) (marks : List Mark) (byte : ℕ) (mark : Mark) (P : DefId → Type 0) → ((m : Mark) → Contains marks m → P m.def) → LeadsTo g (Set marks) byte mark → P mark.def
+member_of : (g : Grammar) (marks : List Mark) (byte : ℕ) (mark : Mark) (P : DefId → Type 0) → ((m : Mark) → Contains marks m → P m.def)
+    → LeadsTo g (Set marks) byte mark → P mark.def
 member_of g marks byte mark P each ((member, c, (e, follows)), has) = subst P e (each member c)
 
 -- and from the start that of a live definition
@@ -45,8 +47,11 @@ module _ (g : Grammar) (edit : Edit) (touch : Touch) (well : IsWellFormed g) (ac
   untouched_set marks are none = (
     λ m c. let is = are m c in (is.0, pattern_kept g edit m.def is.0 well accepted (lives m c) is.1, is.2),
     λ byte mark small. (
-      λ leads. leads_over g (after g edit) (Set marks) byte mark (λ p has. pattern_kept g edit mark.def p well accepted (member_of g marks byte mark (IsLive (after g edit)) lives leads) has) leads,
-      λ leads. leads_over (after g edit) g (Set marks) byte mark (λ p has. pattern_back g edit mark.def p well accepted (member_of (after g edit) marks byte mark (IsLive g) (λ m c. (are m c).1.live) leads) has) leads,
+      λ leads. leads_over g (after g edit) (Set marks) byte mark
+          (λ p has. pattern_kept g edit mark.def p well accepted (member_of g marks byte mark (IsLive (after g edit)) lives leads) has) leads,
+      λ leads. leads_over (after g edit) g (Set marks) byte mark
+          (λ p has. pattern_back g edit mark.def p well accepted (member_of (after g edit) marks byte mark (IsLive g) (λ m c. (are m c).1.live) leads) has)
+          leads,
     ),
   )
     where

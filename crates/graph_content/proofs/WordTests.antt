@@ -38,13 +38,15 @@ any_map f p (x ∷ xs) = ap (λ b. p (f x) || b) (any_map f p xs)
 rule_in : (item : Item) → item.dot < 32 → item_word item / 32 ≡ item.rule.0
 rule_in item small = omega arith
 
-pub named_rule : (rule : RuleId) (items : List Item) → FitItems items → names_rule rule.0 (map item_word items) ≡ true → (item : Item) × Contains items item × (item.rule ≡ rule)
+pub named_rule : (rule : RuleId) (items : List Item) → FitItems items → names_rule rule.0 (map item_word items) ≡ true
+    → (item : Item) × Contains items item × (item.rule ≡ rule)
 named_rule rule items fit e =
     let (item, c, passes) = any_of (λ (item : Item). item_word item / 32 == rule.0) items (sym (any_map item_word (λ word. word / 32 == rule.0) items) ∙ e) in
     let same : item.rule.0 ≡ rule.0 = sym (rule_in item (fit item c)) ∙ eqb-true _ _ passes in
     (item, c, ap (λ n. let r : RuleId = record { 0 = n } in r) same)
 
-pub rule_named : (rule : RuleId) (items : List Item) → FitItems items → (item : Item) → Contains items item → item.rule ≡ rule → names_rule rule.0 (map item_word items) ≡ true
+pub rule_named : (rule : RuleId) (items : List Item) → FitItems items → (item : Item) → Contains items item → item.rule ≡ rule
+    → names_rule rule.0 (map item_word items) ≡ true
 rule_named rule items fit item c e =
     any_map item_word (λ word. word / 32 == rule.0) items
     ∙ of_any (λ (item : Item). item_word item / 32 == rule.0) items item c (eq-eqb _ _ (rule_in item (fit item c) ∙ ap (λ (r : RuleId). r.0) e))
@@ -68,12 +70,17 @@ of_among definitions d c = of_any (λ other. definition_number other == definiti
 definition_in : (mark : Mark) → mark.index < 256 → mark_number mark / 256 ≡ definition_number mark.def
 definition_in mark small = omega arith
 
-pub named_among : (definitions : List DefId) (marks : List Mark) → FitMarks marks → names_among definitions (map mark_number marks) ≡ true → (mark : Mark) × Contains marks mark × Contains definitions mark.def
+pub named_among : (definitions : List DefId) (marks : List Mark) → FitMarks marks → names_among definitions (map mark_number marks) ≡ true
+    → (mark : Mark) × Contains marks mark × Contains definitions mark.def
 named_among definitions marks fit e =
-    let (mark, c, passes) = any_of (λ (mark : Mark). is_among definitions (mark_number mark / 256)) marks (sym (any_map mark_number (λ word. is_among definitions (word / 256)) marks) ∙ e) in
+    let (mark, c, passes) =
+        any_of (λ (mark : Mark). is_among definitions (mark_number mark / 256)) marks
+        (sym (any_map mark_number (λ word. is_among definitions (word / 256)) marks) ∙ e) in
     (mark, c, is_among_of definitions mark.def (sym (ap (is_among definitions) (definition_in mark (fit mark c))) ∙ passes))
 
-pub among_named : (definitions : List DefId) (marks : List Mark) → FitMarks marks → (mark : Mark) → Contains marks mark → Contains definitions mark.def → names_among definitions (map mark_number marks) ≡ true
+pub among_named : (definitions : List DefId) (marks : List Mark) → FitMarks marks → (mark : Mark) → Contains marks mark → Contains definitions mark.def
+    → names_among definitions (map mark_number marks) ≡ true
 among_named definitions marks fit mark c gone =
     any_map mark_number (λ word. is_among definitions (word / 256)) marks
-    ∙ of_any (λ (mark : Mark). is_among definitions (mark_number mark / 256)) marks mark c (ap (is_among definitions) (definition_in mark (fit mark c)) ∙ of_among definitions mark.def gone)
+    ∙ of_any (λ (mark : Mark). is_among definitions (mark_number mark / 256)) marks mark c
+        (ap (is_among definitions) (definition_in mark (fit mark c)) ∙ of_among definitions mark.def gone)

@@ -47,22 +47,22 @@ fn all_told(alloc: Global, rows: &str) -> Result<String, Refusal> {
 
 #[test]
 fn rows_that_an_edit_leaves(rt: HostRuntime) -> Result<(), Fail> {
-    let rows = "rule START ::= E@rule E ::= E \"+\" E@rule E ::= \"a\" => rule E ::= \"b\" => ?
-rule START ::= E@rule E ::= E \"+\" E@rule E ::= \"a\" => rule START ::= \"a\" => ?
-rule START ::= E@rule E ::= E \"+\" E@rule E ::= \"a\" => drop rule E ::= E \"+\" E => ?
-rule START ::= E@rule E ::= E \"+\" E@rule E ::= \"a\" => drop rule START ::= E => ?
-rule START ::= E@rule E ::= E \"+\" E@rule E ::= \"a\" => token ID = [a-c]+ => ?
-rule START ::= A B@rule A ::=@rule B ::= \"b\" => rule A ::= B => ?
-rule START ::= A B@rule A ::=@rule B ::= \"b\" => drop rule A ::= => ?
-rule START ::= START@rule START ::= => rule A ::= START => ?
-rule START ::= A@rule A ::= A A@rule A ::= \"x\" => drop rule A ::= A A => ?
-rule START ::= A \"c\"@rule A ::= B A \"x\"@rule B ::=@rule A ::= \"x\" => drop rule B ::= => ?
-rule START ::= N@token N = [0-9]+@token R = [0-9]+\\.[0-9] => drop token R => ?
-rule START ::= N@token N = [0-9]+@skip W = [ \\n]+ => drop skip W => ?
-rule START ::= N@token N = [0-9]+ => skip W = [ ] => ?
-rule START ::= N@token N = [0-9]+ => rule N2 ::= U => ?
-rule START ::= U \"if\"@rule V ::= \"if\" \"in\" => drop rule V ::= \"if\" \"in\" => ?
-rule START ::= U \"if\"@token ID = [a-z]+ => rule U ::= \"if\" => ?";
+    let rows = "rule START ::= E@rule E ::= E \"+\" E@rule E ::= \"a\" => rule E ::= \"b\" => 4+2!0 2+1!0
+rule START ::= E@rule E ::= E \"+\" E@rule E ::= \"a\" => rule START ::= \"a\" => 5+1!0 3+0!0
+rule START ::= E@rule E ::= E \"+\" E@rule E ::= \"a\" => drop rule E ::= E \"+\" E => 2+4!0 1+2!0
+rule START ::= E@rule E ::= E \"+\" E@rule E ::= \"a\" => drop rule START ::= E => 4+2!0 3+0!0
+rule START ::= E@rule E ::= E \"+\" E@rule E ::= \"a\" => token ID = [a-c]+ => 6+0!0 2+1!0
+rule START ::= A B@rule A ::=@rule B ::= \"b\" => rule A ::= B => 4+1!0 2+0!0
+rule START ::= A B@rule A ::=@rule B ::= \"b\" => drop rule A ::= => 4+1!0 2+0!0
+rule START ::= START@rule START ::= => rule A ::= START => 2+0!0 1+0!0
+rule START ::= A@rule A ::= A A@rule A ::= \"x\" => drop rule A ::= A A => 2+3!0 2+0!0
+rule START ::= A \"c\"@rule A ::= B A \"x\"@rule B ::=@rule A ::= \"x\" => drop rule B ::= => 6+2!0 3+0!0
+rule START ::= N@token N = [0-9]+@token R = [0-9]+\\.[0-9] => drop token R => 3+0!0 0+4!0
+rule START ::= N@token N = [0-9]+@skip W = [ \\n]+ => drop skip W => 3+0!0 1+2!0
+rule START ::= N@token N = [0-9]+ => skip W = [ ] => 3+0!0 1+1!0
+rule START ::= N@token N = [0-9]+ => rule N2 ::= U => 3+0!0 2+0!0
+rule START ::= U \"if\"@rule V ::= \"if\" \"in\" => drop rule V ::= \"if\" \"in\" => 4+0!0 1+3!0
+rule START ::= U \"if\"@token ID = [a-z]+ => rule U ::= \"if\" => 3+1!0 4+0!0";
     let all = all_told(rt.alloc(), rows)?;
     assert_eq!(rt; all.trim_end(), rows);
     Ok(())

@@ -10,7 +10,8 @@ bounds-rest-0 c =
 
 pub returns-then-found-wanted : goal.returns-then-found-wanted
 returns-then-found-wanted c =
-    head_decides c.args.payload.now c.loop.rest.now c.loop.counter c.from-wanted.result c.loop.invariant.moves c.args.symbol c.from-wanted.ensures c.loop-test.true c.if-found-wanted.true
+    head_decides c.args.payload.now c.loop.rest.now c.loop.counter c.from-wanted.result c.loop.invariant.moves c.args.symbol c.from-wanted.ensures
+        c.loop-test.true c.if-found-wanted.true
 
 pub bounds-rest-1 : goal.bounds-rest-1
 bounds-rest-1 c =
@@ -38,7 +39,8 @@ slice_bounds-rest-start-in-loop c =
 
 pub loop-preserved : goal.loop-preserved
 loop-preserved c = record {
-  moves = next_rest c.args.payload.now c.loop.rest.now c.loop.counter c.from-wanted.result c.loop.invariant.moves c.loop-test.true c.if-found-wanted.false (2 + get_or c.loop.rest.now 1 0) refl;
+  moves = next_rest c.args.payload.now c.loop.rest.now c.loop.counter c.from-wanted.result c.loop.invariant.moves c.loop-test.true c.if-found-wanted.false
+      (2 + get_or c.loop.rest.now 1 0) refl;
   short = let k = 2 + get_or c.loop.rest.now 1 0 in
       omega (arith, length-take (length c.loop.rest.now - k) (drop k c.loop.rest.now), length-drop k c.loop.rest.now);
 }
@@ -52,5 +54,7 @@ loop-init c = record {
 pub returns : goal.returns
 returns c = λ e is. (
   λ yes. absurd cc,
-  λ (upper, there). absurd (none_decides c.args.payload.now c.loop.rest.now c.loop.counter c.from-wanted.result c.loop.invariant.moves c.args.symbol c.from-wanted.ensures c.loop-test.false e is upper there),
+  λ (upper, there). absurd
+      (none_decides c.args.payload.now c.loop.rest.now c.loop.counter c.from-wanted.result c.loop.invariant.moves c.args.symbol c.from-wanted.ensures
+      c.loop-test.false e is upper there),
 )

@@ -8,7 +8,8 @@ use Rattle.graph_content.proofs.modify.Modify.keep.Goals as goal
 use Rattle.graph_content.proofs.modify.Modify.keep.Goals.{Then-not-is_touched, After-count}
 
 -- the row is not touched, by the touch that the contract sees
-none : (c : Then-not-is_touched) (key : Key) → FitsKey key → IsRowOf c.args.self.now.grammar key c.args.row.now → IsTouched c.args.self.now.grammar c.args.self.now.touch key → ⊥
+none : (c : Then-not-is_touched) (key : Key) → FitsKey key → IsRowOf c.args.self.now.grammar key c.args.row.now
+    → IsTouched c.args.self.now.grammar c.args.self.now.touch key → ⊥
 none c key fit is touched =
     c.if-not-is_touched.ensures c.args.self.now.grammar key fit is
     (subst (λ touch. IsTouched c.args.self.now.grammar touch key) (sym (ap (λ (m : Modification). m.touch) c.self.view_is)) touched)
@@ -20,10 +21,12 @@ returns-then-not-is_touched-clause-kept c = λ next key change is. (
 )
 
 pub returns-then-not-is_touched-clause-fits : goal.returns-then-not-is_touched-clause-fits
-returns-then-not-is_touched-clause-fits c = λ next change kept. fits_next c.args.self.now.grammar c.args.self.now.touch c.args.row.now (none c) c.requires next change
+returns-then-not-is_touched-clause-fits c =
+    λ next change kept. fits_next c.args.self.now.grammar c.args.self.now.touch c.args.row.now (none c) c.requires next change
 
 -- the row is touched, by that touch
-some : (c : After-count) (key : Key) → FitsKey key → IsRowOf c.args.self.now.grammar key c.args.row.now → IsTouched c.args.self.now.grammar c.args.self.now.touch key
+some : (c : After-count) (key : Key) → FitsKey key → IsRowOf c.args.self.now.grammar key c.args.row.now
+    → IsTouched c.args.self.now.grammar c.args.self.now.touch key
 some c key fit is =
     subst (λ touch. IsTouched c.args.self.now.grammar touch key) (ap (λ (m : Modification). m.touch) c.self.view_is)
     (c.if-not-is_touched.ensures c.args.self.now.grammar key fit is)
