@@ -2,6 +2,7 @@
 use Rattle.std.specs.Prelude.{ℕ, ◌≡◌, ◌+◌, ◌<◌, ◌≤◌, ◌⊎◌, if◌then◌else◌, List, [], ◌∷◌, ◌++◌, length, map, IsTrue, Contains, slice_index_or}
 use Rattle.regex_ast.specs.Bytes.{has}
 use Rattle.regex_ast.specs.Positions.{Table, IsTableOf}
+use Rattle.regex_ast.specs.declared.limits.TheConstants.{POSITION_LIMIT}
 use Rattle.edit_log.specs.declared.definitions.DefId.{DefId}
 use Rattle.edit_log.specs.History.{Grammar}
 use Rattle.isg_states.specs.declared.mark.Mark.{Mark}
@@ -23,7 +24,7 @@ pub record ArePositions (grammar : Grammar) (definition : DefId) (table : Table)
   pub pattern : Pattern
   pub has_pattern : HasPattern grammar definition pattern
   pub positions : IsTableOf (MarkedWord pattern) (classes_in pattern) table
-  pub few : length (classes_in pattern) ≤ 200
+  pub few : length (classes_in pattern) ≤ POSITION_LIMIT
 
 -- the class of the mark
 abbrev pub IsClass : Grammar → Mark → List ℕ → Type 0

@@ -15,7 +15,7 @@ use crate::NoMemory;
 use crate::mark::Mark;
 use crate::scan_key::ScanKey;
 use edit_log::{DefId, Grammar};
-use regex_ast::Positions;
+use regex_ast::{POSITION_LIMIT, Positions};
 use std::alloc::Global;
 use std::sync::ledger::Ledger;
 use steps::Steps;
@@ -28,7 +28,7 @@ pub(crate) fn live_positions(grammar: &Grammar, definition: DefId) -> &Positions
     match grammar.positions(definition) {
         Some(positions) => {
             // So an index is below 256, and the numbers of marks tell them apart.
-            prove!(positions.count() <= 200);
+            prove!(positions.count() <= POSITION_LIMIT);
             positions
         }
         None => unreachable!(),

@@ -78,7 +78,7 @@ impl Positions {
     /// How many positions there are, at most 200.
     pub fn count(&self) -> u32
         ensures count { result ≡ length self.now.classes }
-        ensures few { length self.now.classes ≤ 200 }
+        ensures few { length self.now.classes ≤ POSITION_LIMIT }
     {
         self.classes.len() as u32
     }

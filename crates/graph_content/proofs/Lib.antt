@@ -1,0 +1,15 @@
+pub mod Change
+pub mod RuleChanges
+pub mod KernelLaws
+pub mod Patterns
+pub mod LiteralBytes
+pub mod FirstBytes
+pub mod Readable
+pub mod ScanLaws
+pub mod ChangeLaws
+pub mod MoveLists
+pub mod WordTests
+pub mod MoveHeads
+pub mod RowTests
+pub mod KeySizes
+pub mod RowChanges

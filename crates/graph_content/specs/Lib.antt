@@ -1,0 +1,5 @@
+pub mod Affected
+pub mod Changes
+pub mod Rows
+pub mod Modifications
+pub mod Parts
