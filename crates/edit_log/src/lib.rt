@@ -26,7 +26,7 @@ pub use definitions::{DefId, DefIds, DefKind};
 pub use edit_entry::{BadEntry, ENTRY_WORDS, Entry, decode, encode, entry_or_cause, one_entry};
 pub use grammar::Grammar;
 pub use laws::{numbers_are_new, well_formed_always};
-pub use limits::{LOG_LIMIT, TOKEN_LIMIT};
+pub use limits::{LOG_LIMIT, NEW_LIMIT, TOKEN_LIMIT, limits_of_log};
 pub use ready::Ready;
 pub use refusal::Refusal;
 pub use touch::Touch;

@@ -1,6 +1,7 @@
 //! The live tokens and skips.
 
 ghost use Rattle.std.specs.Prelude.{◌≡◌, ◌≤◌, ◌==◌, length, map, find, filter, not, option_map, slice_get, IfOk, Some};
+ghost use Rattle.grammar_text.specs.declared.limits.TheConstants.{EDIT_LIMIT};
 ghost use Rattle.std.specs.List.Sorted.{IsStrictlySortedBy};
 ghost use Rattle.edit_log.specs.Replicas.{seen_of, HasPositions};
 ghost use Rattle.edit_log.specs.Facts.{definition_order};
@@ -31,7 +32,7 @@ pub(crate) fn named(
     expression: Text,
 ) -> Result<NamedDefinition, AllocError>
     requires read { (e : Expression) × SpellsWithinLimits expression e }
-    requires short { length expression ≤ 248 }
+    requires short { length expression ≤ EDIT_LIMIT }
     ensures seen { IfOk result (λ live. seen_of live ≡ record { number = number; name = name; is_skip = is_skip; expression = expression }) }
     ensures positions { IfOk result HasPositions }
 {

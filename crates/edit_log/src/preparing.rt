@@ -17,6 +17,7 @@ use crate::NoMemory;
 use crate::definitions::{DefId, DefIds};
 use crate::fresh_symbols::{FreshSymbol, has_literal, number_in, rule_in};
 use crate::grammar::Grammar;
+use crate::limits::NEW_LIMIT;
 use crate::live_numbers::live_number;
 use crate::named_definitions::named;
 use crate::ready::{NewDefinition, NewRule, OldDefinition, OldRule, Plan, Ready};
@@ -28,9 +29,6 @@ use edit_entry::{Entry, read_entry};
 use forest::{RuleId, SymbolId};
 use grammar_text::{DefText, Edit, Name, RuleText, Symbol};
 use std::alloc::AllocError;
-
-/// The most symbols, or definitions, that one edit brings.
-const MOST_NEW: usize = 17;
 
 /// Whether a rule with this right side, once it is added with these fresh symbols, makes a literal live.
 fn makes_live(fresh: &[FreshSymbol], rows: &[Row], right: &[SymbolId]) -> bool
@@ -49,8 +47,8 @@ impl Grammar {
         ensures grows { IsNoMoreThan self.old.room self.new.room }
         ensures room { OnOk result (HasRoom self.new.room) }
     {
-        self.table.reserve(MOST_NEW)?;
-        self.live.reserve(MOST_NEW)?;
+        self.table.reserve(NEW_LIMIT)?;
+        self.live.reserve(NEW_LIMIT)?;
         let rules = self.rules.rules.as_slice().len();
         self.spare_rules.reserve(rules + 1)?;
         self.rule_numbers.reserve(1)?;
