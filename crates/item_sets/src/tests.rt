@@ -72,38 +72,43 @@ fn start_expanded<L: Ledger>(
 }
 
 /// The moves as numbers: each symbol, the items behind it, and a row's end.
-fn told(alloc: Global, expansion: &Expansion) -> Result<Vec<u32>, AllocError> {
-    let mut told = Vec::new(alloc);
-    for (symbol, kernel) in expansion.moves.as_slice() {
+fn tell_moves(told: &mut Vec<u32>, moves: &[(SymbolId, Kernel)]) -> Result<(), AllocError> {
+    for (symbol, kernel) in moves {
         told.push(symbol.0)?;
         for item in kernel.items() {
             told.push(item.rule.0)?;
-            told.push(item.dot as u32)?;
+            told.push(u32::from(item.dot))?;
         }
         told.push(END)?;
     }
+    Ok(())
+}
+
+/// The moves of the start kernel, whether it has no reduction, and whether it moves on symbols 2 and 3.
+fn told(alloc: Global, edits: &str) -> Result<Vec<u32>, Refusal> {
+    let grammar = grammar_of(alloc, edits)?;
+    let expansion = start_expanded::<Brand>(alloc, &grammar, Blank::new(1))?;
+    let mut told = Vec::new(alloc);
+    tell_moves(&mut told, expansion.moves.as_slice())?;
+    told.push(u32::from(expansion.reductions.as_slice().is_empty()))?;
+    told.push(u32::from(has_move(&expansion, SymbolId(2))))?;
+    told.push(u32::from(has_move(&expansion, SymbolId(3))))?;
     Ok(told)
 }
 
+const SUMS: &str = "rule START ::= E;rule E ::= E \"+\" E;rule E ::= \"a\"";
+
+const WANT: &[u32] = &[0, 0, 1, END, 1, 1, 1, 2, 1, END, 3, 3, 1, END, 1, 0, 1];
+
 #[test]
 fn expands_the_start_kernel(rt: HostRuntime) -> Result<(), Fail> {
-    let alloc = rt.alloc();
-    let grammar = grammar_of(alloc, "rule START ::= E;rule E ::= E \"+\" E;rule E ::= \"a\"")?;
-    let expansion = start_expanded::<Brand>(alloc, &grammar, Blank::new(1))?;
-    let want = [0, 0, 1, END, 1, 1, 1, 2, 1, END, 3, 3, 1, END];
-    assert_eq!(rt; told(alloc, &expansion)?.as_slice(), want.as_slice());
-    assert_eq!(rt; expansion.reductions.as_slice().len(), 0);
-    assert_eq!(rt; has_move(&expansion, SymbolId(3)), true);
-    assert_eq!(rt; has_move(&expansion, SymbolId(2)), false);
+    assert_eq!(rt; told(rt.alloc(), SUMS)?.as_slice(), WANT);
     Ok(())
 }
 
 #[test]
 fn makes_a_kernel_of_items(rt: HostRuntime) -> Result<(), Fail> {
-    let alloc = rt.alloc();
-    let start = Kernel::start(alloc);
-    let copy = Kernel::of(alloc, start.items())?;
-    assert!(rt; copy == start);
-    assert_eq!(rt; copy.items().len(), 1);
+    let start = Kernel::start(rt.alloc());
+    assert!(rt; Kernel::of(rt.alloc(), start.items())? == start);
     Ok(())
 }
