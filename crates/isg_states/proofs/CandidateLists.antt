@@ -36,7 +36,8 @@ with_push (x ∷ cs) c byte =
     with_cons x (cs ++ c ∷ []) byte ∙ ap (λ t. chosen x byte ++ t) (with_push cs c byte)
     ∙ sym (append_assoc (chosen x byte) (marks_with cs byte) (chosen c byte)) ∙ ap (λ t. t ++ chosen c byte) (sym (with_cons x cs byte))
 
-one_more : (cs : List Candidate) (i : ℕ) (c : Candidate) (byte : ℕ) → i < length cs → c ≡ get_or cs i c → marks_with (take (i + 1) cs) byte ≡ marks_with (take i cs) byte ++ chosen c byte
+one_more : (cs : List Candidate) (i : ℕ) (c : Candidate) (byte : ℕ) → i < length cs → c ≡ get_or cs i c
+    → marks_with (take (i + 1) cs) byte ≡ marks_with (take i cs) byte ++ chosen c byte
 one_more cs i c byte within is =
     ap (λ t. marks_with t byte) (take_more cs i c within) ∙ with_push (take i cs) (get_or cs i c) byte ∙ ap (λ x. marks_with (take i cs) byte ++ chosen x byte) (sym is)
 
@@ -45,7 +46,8 @@ pub with_more : (cs : List Candidate) (i : ℕ) (c : Candidate) (byte : ℕ) →
 unfolding chosen
 with_more cs i c byte within is e = one_more cs i c byte within is ∙ ap (λ b. marks_with (take i cs) byte ++ (if b then c.mark ∷ [] else [])) e
 
-pub with_same : (cs : List Candidate) (i : ℕ) (c : Candidate) (byte : ℕ) → i < length cs → c ≡ get_or cs i c → has c.class.now byte ≡ false → marks_with (take (i + 1) cs) byte ≡ marks_with (take i cs) byte
+pub with_same : (cs : List Candidate) (i : ℕ) (c : Candidate) (byte : ℕ) → i < length cs → c ≡ get_or cs i c → has c.class.now byte ≡ false
+    → marks_with (take (i + 1) cs) byte ≡ marks_with (take i cs) byte
 unfolding chosen
 with_same cs i c byte within is e =
     one_more cs i c byte within is ∙ ap (λ b. marks_with (take i cs) byte ++ (if b then c.mark ∷ [] else [])) e ∙ append-nil (marks_with (take i cs) byte)
@@ -54,7 +56,8 @@ pub marks_push : (cs : List Candidate) (c : Candidate) → marks_of (cs ++ c ∷
 marks_push [] c = refl
 marks_push (x ∷ cs) c = ap (λ t. x.mark ∷ t) (marks_push cs c)
 
-pub classes_push : (grammar : Grammar) (cs : List Candidate) (c : Candidate) → AreClasses grammar cs → IsClass grammar c.mark c.class.now → AreClasses grammar (cs ++ c ∷ [])
+pub classes_push : (grammar : Grammar) (cs : List Candidate) (c : Candidate) → AreClasses grammar cs → IsClass grammar c.mark c.class.now
+    → AreClasses grammar (cs ++ c ∷ [])
 classes_push grammar cs c all one x there = elim (Contains-push_cases cs c x there) [
   | inl k ↦ all x k
   | inr e ↦ subst (λ (y : Candidate). IsClass grammar y.mark y.class.now) e one
@@ -72,7 +75,8 @@ pub record WithByte (cs : List Candidate) (byte : ℕ) (mark : Mark) : Type 0 wh
 later : {c : Candidate} {cs : List Candidate} {byte : ℕ} {mark : Mark} → WithByte cs byte mark → WithByte (c ∷ cs) byte mark
 later {c} {cs} w = record { candidate = w.candidate; there = contains_there c cs w.candidate w.there; mark_is = w.mark_is; byte_in = w.byte_in }
 
-in_cons : (c : Candidate) (cs : List Candidate) (byte : ℕ) (mark : Mark) (b : Bool) → has c.class.now byte ≡ b → (Contains (marks_with cs byte) mark → WithByte cs byte mark)
+in_cons : (c : Candidate) (cs : List Candidate) (byte : ℕ) (mark : Mark) (b : Bool) → has c.class.now byte ≡ b → (Contains (marks_with cs byte) mark
+    → WithByte cs byte mark)
     → Contains (if b then c.mark ∷ marks_with cs byte else marks_with cs byte) mark → WithByte (c ∷ cs) byte mark
 in_cons c cs byte mark true e rest k = elim (contains_cases c.mark (marks_with cs byte) mark k) [
   | inl same ↦ record { candidate = c; there = contains_here c cs; mark_is = same; byte_in = e }
@@ -116,7 +120,8 @@ to_marks (x ∷ cs) c k = elim (contains_cases x cs c k) [
 
 -- ---- order
 
-order_cons : (c : Candidate) (cs : List Candidate) (byte : ℕ) → AllByRecursion (λ y. mark_cmp c.mark y ≡ Less) (marks_of cs) → IsStrictlySortedBy mark_cmp (marks_with cs byte)
+order_cons : (c : Candidate) (cs : List Candidate) (byte : ℕ) → AllByRecursion (λ y. mark_cmp c.mark y ≡ Less) (marks_of cs)
+    → IsStrictlySortedBy mark_cmp (marks_with cs byte)
     → (b : Bool) → IsStrictlySortedBy mark_cmp (if b then c.mark ∷ marks_with cs byte else marks_with cs byte)
 unfolding IsStrictlySortedBy
 order_cons c cs byte above sorted true = (

@@ -117,7 +117,8 @@ module _ (xs : List Mark) (x : Mark) (sorted : IsStrictlySortedBy mark_cmp xs) w
   ])
 
   -- it is there
-  pub put_there : AreSmall xs → x.index < 256 → (at : ℕ) → at < length xs → HoldsAt (λ y. mark_cmp y x ≡ Equal) xs at → ListsMarks (λ y. Contains xs y ⊎ (y ≡ x)) xs
+  pub put_there : AreSmall xs → x.index < 256 → (at : ℕ) → at < length xs → HoldsAt (λ y. mark_cmp y x ≡ Equal) xs at
+      → ListsMarks (λ y. Contains xs y ⊎ (y ≡ x)) xs
   put_there small index at within found =
       let y : Mark = get_or xs at x in
       let there : Contains xs y = (at, within, get_same xs at x y within refl) in

@@ -21,7 +21,8 @@ in_range n (plus a) u q v h = let k = cut_pieces (MarksFrom n a) u q v (h.0 ∷ 
 in_range n (maybe a) u q v (inl h) = absurd (cut_nil u q v h)
 in_range n (maybe a) u q v (inr h) = in_range n a u q v h
 
-all_joined : (P : List ℕ → Type 0) (xs : List (List ℕ)) (x : List ℕ) (ys : List (List ℕ)) → AllByRecursion P xs → P x → AllByRecursion P ys → AllByRecursion P (xs ++ x ∷ ys)
+all_joined : (P : List ℕ → Type 0) (xs : List (List ℕ)) (x : List ℕ) (ys : List (List ℕ)) → AllByRecursion P xs → P x → AllByRecursion P ys
+    → AllByRecursion P (xs ++ x ∷ ys)
 all_joined P [] x ys a p b = (p, b)
 all_joined P (z ∷ xs) x ys a p b = (a.0, all_joined P xs x ys a.1 p b)
 
@@ -30,7 +31,8 @@ concat_joined [] x ys = refl
 concat_joined (z ∷ xs) x ys = ap (λ t. z ++ t) (concat_joined xs x ys) ∙ sym (append_assoc z (concat xs) (x ++ concat ys))
 
 -- the words before the number of one cut, and those after it of another
-joined : (P : List ℕ → Type 0) (u : List ℕ) (q : ℕ) (v w z : List ℕ) (one : InPiece P u q v) (other : InPiece P w q z) (middle : List ℕ) → middle ≡ one.front ++ q ∷ other.back
+joined : (P : List ℕ → Type 0) (u : List ℕ) (q : ℕ) (v w z : List ℕ) (one : InPiece P u q v) (other : InPiece P w q z) (middle : List ℕ)
+    → middle ≡ one.front ++ q ∷ other.back
     → u ++ q ∷ z ≡ concat (one.before ++ middle ∷ other.after)
 joined P u q v w z one other middle is =
     ap (λ t. t ++ q ∷ z) one.left ∙ append_assoc (concat one.before) one.front (q ∷ z)
@@ -40,13 +42,15 @@ joined P u q v w z one other middle is =
     ∙ sym (concat_joined one.before middle other.after)
 
 -- some word, and others
-some_pieces : (P : List ℕ → Type 0) (word : List ℕ) (xs : List (List ℕ)) (x : List ℕ) (ys : List (List ℕ)) → AllByRecursion P (xs ++ x ∷ ys) → word ≡ concat (xs ++ x ∷ ys)
+some_pieces : (P : List ℕ → Type 0) (word : List ℕ) (xs : List (List ℕ)) (x : List ℕ) (ys : List (List ℕ)) → AllByRecursion P (xs ++ x ∷ ys)
+    → word ≡ concat (xs ++ x ∷ ys)
     → (piece : List ℕ) × (pieces : List (List ℕ)) × AllByRecursion P (piece ∷ pieces) × (word ≡ concat (piece ∷ pieces))
 some_pieces P word [] x ys all e = (x, ys, all, e)
 some_pieces P word (z ∷ xs) x ys all e = (z, xs ++ x ∷ ys, all, e)
 
 -- what stands before the number in one marked word, and after it in another
-pub exchange : (n : ℕ) (e : Expression) (u : List ℕ) (q : ℕ) (v w z : List ℕ) → MarksFrom n e (u ++ q ∷ v) → MarksFrom n e (w ++ q ∷ z) → MarksFrom n e (u ++ q ∷ z)
+pub exchange : (n : ℕ) (e : Expression) (u : List ℕ) (q : ℕ) (v w z : List ℕ) → MarksFrom n e (u ++ q ∷ v) → MarksFrom n e (w ++ q ∷ z)
+    → MarksFrom n e (u ++ q ∷ z)
 exchange n (class set) u q v w z h k =
     let back : v ≡ z = (cut_one u q v n h).2 ∙ sym (cut_one w q z n k).2 in
     ap (λ t. u ++ q ∷ t) (sym back) ∙ h
@@ -103,7 +107,8 @@ exchange n (maybe a) u q v w z (inl h) k = absurd (cut_nil u q v h)
 exchange n (maybe a) u q v w z (inr h) (inl k) = absurd (cut_nil w q z k)
 exchange n (maybe a) u q v w z (inr h) (inr k) = inr (exchange n a u q v w z h k)
 
-pub literal_exchange : (text u : List ℕ) (q : ℕ) (v w z : List ℕ) → IsMarkedLiteral text (u ++ q ∷ v) → IsMarkedLiteral text (w ++ q ∷ z) → IsMarkedLiteral text (u ++ q ∷ z)
+pub literal_exchange : (text u : List ℕ) (q : ℕ) (v w z : List ℕ) → IsMarkedLiteral text (u ++ q ∷ v) → IsMarkedLiteral text (w ++ q ∷ z)
+    → IsMarkedLiteral text (u ++ q ∷ z)
 literal_exchange text u q v w z h k =
     let one : q ≡ 0 + length u = place_is 0 (length text) u q v h in
     let other : q ≡ 0 + length w = place_is 0 (length text) w q z k in

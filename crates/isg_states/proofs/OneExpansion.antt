@@ -50,7 +50,8 @@ one_accepted grammar key a b h k =
 -- the last part of an expansion: what it tells of the bytes from a number on
 record TellsFrom (grammar : Grammar) (key : ScanKey) (from : ℕ) (ranges : List Range) : Type 0 where
   each : (range : Range) → Contains ranges range → IsRange grammar key range × (from ≤ range.0)
-  whole : (byte : ℕ) (mark : Mark) → from ≤ byte → byte < 256 → LeadsTo grammar key byte mark → (range : Range) × Contains ranges range × (range.0 ≤ byte) × (byte ≤ range.1)
+  whole : (byte : ℕ) (mark : Mark) → from ≤ byte → byte < 256 → LeadsTo grammar key byte mark
+      → (range : Range) × Contains ranges range × (range.0 ≤ byte) × (byte ≤ range.1)
   apart : AreApart ranges
   joined : AreJoined ranges
 
@@ -73,7 +74,8 @@ module _ (grammar : Grammar) (key : ScanKey) where
       is.is ∙ ap (λ m. Set m) (one_list (is.leads byte la ha) (other.leads byte lb hb)) ∙ sym other.is
 
   -- the first range begins lowest
-  lowest : (from : ℕ) (first : Range) (others : List Range) → TellsFrom grammar key from (first ∷ others) → (range : Range) → Contains (first ∷ others) range → first.0 ≤ range.0
+  lowest : (from : ℕ) (first : Range) (others : List Range) → TellsFrom grammar key from (first ∷ others) → (range : Range)
+      → Contains (first ∷ others) range → first.0 ≤ range.0
   lowest from first others t range c = elim (contains_cases first others range c) [
     | inl e ↦ subst (λ (r : Range). first.0 ≤ r.0) e (omega arith)
     | inr d ↦ (let some = (t.each first (contains_here first others)).0.some in let above : first.1 < range.0 = all_here _ others t.apart.0 range d in omega arith)
@@ -112,7 +114,8 @@ module _ (grammar : Grammar) (key : ScanKey) where
         | inl e ↦ (let high : a.1 ≡ r.1 = ap (λ (x : Range). x.1) e in absurd (omega arith))
         | inr d ↦ touches xs t r d starts stops keys
       ] where
-        touches : (others : List Range) → TellsFrom grammar key from (a ∷ others) → (r : Range) → Contains others r → r.0 ≤ a.1 + 1 → a.1 + 1 ≤ r.1 → a.2 ≡ r.2 → ⊥
+        touches : (others : List Range) → TellsFrom grammar key from (a ∷ others) → (r : Range) → Contains others r → r.0 ≤ a.1 + 1 → a.1 + 1 ≤ r.1
+            → a.2 ≡ r.2 → ⊥
         touches [] v r d starts stops keys = absurd (omega (arith, d.1))
         touches (x ∷ others) v r d starts stops keys =
             let above : a.1 < x.0 = v.apart.0.0 in

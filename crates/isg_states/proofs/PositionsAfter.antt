@@ -48,7 +48,8 @@ snoc_of : (x : ℕ) (xs : List ℕ) → (front : List ℕ) × (q : ℕ) × (x �
 snoc_of x [] = ([], x, refl)
 snoc_of x (y ∷ ys) = let r = snoc_of y ys in (x ∷ r.0, r.1, ap (λ t. x ∷ t) r.2)
 
-front_is : (classes : List (List ℕ)) (word piece : List ℕ) → HoldBytes classes word piece → 0 < length piece → (front : List ℕ) × (q : ℕ) × (word ≡ front ++ q ∷ [])
+front_is : (classes : List (List ℕ)) (word piece : List ℕ) → HoldBytes classes word piece → 0 < length piece
+    → (front : List ℕ) × (q : ℕ) × (word ≡ front ++ q ∷ [])
 front_is classes [] [] h some = absurd (omega arith)
 front_is classes [] (x ∷ piece) h some = absurd h
 front_is classes (y ∷ word) piece h some = snoc_of y word
@@ -99,7 +100,8 @@ from_longer grammar piece marks lists byte mark l =
       bytes = AllZip-join (classes_in a.pattern) (a.front ++ member.index ∷ []) (mark.index ∷ []) piece (byte ∷ []) a.bytes (held, tt);
     }
 
-pub to_longer : (grammar : Grammar) (piece : List ℕ) (marks : List Mark) → 0 < length piece → ListsMarks (IsAfter grammar piece) marks → (byte : ℕ) (mark : Mark)
+pub to_longer : (grammar : Grammar) (piece : List ℕ) (marks : List Mark) → 0 < length piece → ListsMarks (IsAfter grammar piece) marks
+    → (byte : ℕ) (mark : Mark)
     → IsAfter grammar (piece ++ byte ∷ []) mark → LeadsTo grammar (Set marks) byte mark
 to_longer grammar piece marks some lists byte mark a =
     let held = held_last (classes_in a.pattern) a.front mark.index piece byte a.bytes in
@@ -160,7 +162,8 @@ marked_match grammar (literal symbol) piece small h = (bytes piece, h, (numbers_
 marked_match grammar (named number) piece small h =
     let m = marked (classes_of h.2) 0 h.2 (AreAt-own h.2) piece h.4 in (expression h.2, (h.0, h.1, h.3), (m.0, m.1, m.2))
 
-match_of : (grammar : Grammar) (definition : DefId) (p : Pattern) (word piece : List ℕ) → IsPatternOf grammar definition p → MarkedWord p word → HoldBytes (classes_in p) word piece
+match_of : (grammar : Grammar) (definition : DefId) (p : Pattern) (word piece : List ℕ) → IsPatternOf grammar definition p → MarkedWord p word
+    → HoldBytes (classes_in p) word piece
     → MatchesPiece grammar definition piece
 match_of grammar (literal symbol) (bytes text) word piece is m h =
     is ∙ ap (λ t. Literal t) (literal_text [] text piece (subst (λ w. HoldBytes (map only text) w piece) m h))
@@ -168,7 +171,8 @@ match_of grammar (literal symbol) (expression e) word piece is m h = absurd is
 match_of grammar (named number) (bytes text) word piece is m h = absurd is
 match_of grammar (named number) (expression e) word piece is m h = (is.0, is.1, e, is.2, matched (classes_of e) 0 e (AreAt-own e) word piece m h)
 
-pub from_match : (grammar : Grammar) (piece : List ℕ) (definition : DefId) → 0 < length piece → AreBytes piece → IsLive grammar definition → MatchesPiece grammar definition piece
+pub from_match : (grammar : Grammar) (piece : List ℕ) (definition : DefId) → 0 < length piece → AreBytes piece → IsLive grammar definition
+    → MatchesPiece grammar definition piece
     → (mark : Mark) × (mark.def ≡ definition) × IsAfter grammar piece mark × IsLast grammar mark
 from_match grammar piece definition some small live h =
     let m = marked_match grammar definition piece small h in

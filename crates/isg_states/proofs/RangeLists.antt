@@ -29,7 +29,8 @@ two_ends (z ∷ xs) (w ∷ ys) x y e =
     let rest = two_ends xs ys x y tails in
     (ap (λ t. z ∷ t) rest.0 ∙ ap (λ h. h ∷ ys) heads, rest.1)
 
-apart_push : (ranges : List Range) (next : Range) → AreApart ranges → ((range : Range) → Contains ranges range → range.1 < next.0) → AreApart (ranges ++ next ∷ [])
+apart_push : (ranges : List Range) (next : Range) → AreApart ranges → ((range : Range) → Contains ranges range → range.1 < next.0)
+    → AreApart (ranges ++ next ∷ [])
 apart_push [] next apart below = (tt, tt)
 apart_push (r ∷ ranges) next apart below = (
   all_of _ (ranges ++ next ∷ []) (λ x c. elim (Contains-append_cases ranges (next ∷ []) x c) [
@@ -39,7 +40,8 @@ apart_push (r ∷ ranges) next apart below = (
   apart_push ranges next apart.1 (λ x c. below x (contains_there r ranges x c)),
 )
 
-apart_before : (before : List Range) (last : Range) → AreApart (before ++ last ∷ []) → AreApart before × ((range : Range) → Contains before range → range.1 < last.0)
+apart_before : (before : List Range) (last : Range) → AreApart (before ++ last ∷ []) → AreApart before × ((range : Range) → Contains before range
+    → range.1 < last.0)
 apart_before [] last apart = (tt, λ range c. absurd (contains_none range c))
 apart_before (r ∷ before) last apart =
     let rest = apart_before before last apart.1 in (
@@ -81,7 +83,8 @@ last_of (y ∷ z ∷ ranges) x e =
     (y ∷ r.0, ap (λ t. y ∷ t) r.1)
 
 -- the last range ends before the byte, and leads to a key
-pub goes_on_key : (ranges : List Range) (byte : ℕ) (last : Range) (key marks : List Mark) → slice_get ranges (length ranges - 1) ≡ Some last → last.2 ≡ Set key → last.1 + 1 ≡ byte
+pub goes_on_key : (ranges : List Range) (byte : ℕ) (last : Range) (key marks : List Mark) → slice_get ranges (length ranges - 1) ≡ Some last
+    → last.2 ≡ Set key → last.1 + 1 ≡ byte
     → (key ≡ marks → GoesOn ranges byte marks) × (GoesOn ranges byte marks → key ≡ marks)
 goes_on_key ranges byte last key marks there is touch =
     let r = last_of ranges last there in (
@@ -90,14 +93,16 @@ goes_on_key ranges byte last key marks there is touch =
     )
 
 -- it ends elsewhere
-pub goes_on_not : (ranges : List Range) (byte : ℕ) (last : Range) (marks : List Mark) → slice_get ranges (length ranges - 1) ≡ Some last → (last.1 + 1 ≡ byte → ⊥) → GoesOn ranges byte marks → ⊥
+pub goes_on_not : (ranges : List Range) (byte : ℕ) (last : Range) (marks : List Mark) → slice_get ranges (length ranges - 1) ≡ Some last
+    → (last.1 + 1 ≡ byte → ⊥) → GoesOn ranges byte marks → ⊥
 goes_on_not ranges byte last marks there apart g =
     let r = last_of ranges last there in
     let ends = two_ends r.0 g.0 last (g.1, g.2, Set marks) (sym r.1 ∙ g.3) in
     apart (ap (λ (x : Range). x.1 + 1) ends.1 ∙ g.4)
 
 -- it leads to no set
-pub goes_on_start : (ranges : List Range) (byte : ℕ) (last : Range) (marks : List Mark) → slice_get ranges (length ranges - 1) ≡ Some last → last.2 ≡ Start → GoesOn ranges byte marks → ⊥
+pub goes_on_start : (ranges : List Range) (byte : ℕ) (last : Range) (marks : List Mark) → slice_get ranges (length ranges - 1) ≡ Some last → last.2 ≡ Start
+    → GoesOn ranges byte marks → ⊥
 goes_on_start ranges byte last marks there is g =
     let r = last_of ranges last there in
     let ends = two_ends r.0 g.0 last (g.1, g.2, Set marks) (sym r.1 ∙ g.3) in
@@ -124,7 +129,8 @@ get_last [] last d k e = subst (λ n. get_or (last ∷ []) n d ≡ last) (sym e)
 get_last (b ∷ before) last d k e = subst (λ n. get_or (b ∷ (before ++ last ∷ [])) n d ≡ last) (sym e) (get_last before last d (length before) refl)
 
 -- the last range goes on in place
-pub set_goes_on : (ranges : List Range) (byte : ℕ) (marks : List Mark) (k : ℕ) (last : Range) → GoesOn ranges byte marks → k ≡ length ranges - 1 → last ≡ get_or ranges k last
+pub set_goes_on : (ranges : List Range) (byte : ℕ) (marks : List Mark) (k : ℕ) (last : Range) → GoesOn ranges byte marks → k ≡ length ranges - 1
+    → last ≡ get_or ranges k last
     → IsWithByte ranges byte marks (slice_set ranges k (last.0, byte, last.2))
 set_goes_on ranges byte marks k last g place is =
     let here : Range = (g.1, g.2, Set marks) in
@@ -207,7 +213,8 @@ module _ (led : ℕ → List Mark) where
     last = (n, n, Set marks)
 
   -- the last range goes on
-  extend : (n : ℕ) (before : List Range) (low high : ℕ) (marks : List Mark) → TellsBelow led n (before ++ (low, high, Set marks) ∷ []) → high + 1 ≡ n → led n ≡ marks
+  extend : (n : ℕ) (before : List Range) (low high : ℕ) (marks : List Mark) → TellsBelow led n (before ++ (low, high, Set marks) ∷ []) → high + 1 ≡ n
+      → led n ≡ marks
       → TellsBelow led (n + 1) (before ++ (low, n, Set marks) ∷ [])
   extend n before low high marks t touch is = record {
     each = λ range c. elim (Contains-append_cases before (new ∷ []) range c) [
@@ -258,7 +265,8 @@ module _ (led : ℕ → List Mark) where
           somewhere = subst (λ m. 0 < length m) (same_set was.marks marks (Set marks) was.is refl) was.somewhere;
         }
 
-  pub tells_more : (n : ℕ) (old new : List Range) (marks : List Mark) → TellsBelow led n old → led n ≡ marks → 0 < length marks → IsWithByte old n marks new → TellsBelow led (n + 1) new
+  pub tells_more : (n : ℕ) (old new : List Range) (marks : List Mark) → TellsBelow led n old → led n ≡ marks → 0 < length marks
+      → IsWithByte old n marks new → TellsBelow led (n + 1) new
   tells_more n old new marks t is some (inl k) = subst (TellsBelow led (n + 1)) (sym k.5) (extend n k.0 k.1 k.2 marks (subst (TellsBelow led n) k.3 t) k.4 is)
   tells_more n old new marks t is some (inr k) = subst (TellsBelow led (n + 1)) (sym k.1) (push n old marks t is some k.0)
 
@@ -266,7 +274,8 @@ module _ (led : ℕ → List Mark) where
   some_mark marks mark c = let below = c.1 in omega arith
 
   -- ranges that tell of all bytes are the expansion
-  pub tells_all : (grammar : Grammar) (key : ScanKey) (ranges : List Range) → TellsBelow led 256 ranges → ((byte : ℕ) → ListsMarks (LeadsTo grammar key byte) (led byte)) → IsScanExpansionOf grammar key ranges
+  pub tells_all : (grammar : Grammar) (key : ScanKey) (ranges : List Range) → TellsBelow led 256 ranges → ((byte : ℕ)
+      → ListsMarks (LeadsTo grammar key byte) (led byte)) → IsScanExpansionOf grammar key ranges
   tells_all grammar key ranges t lists = record {
     each = λ range c. (
         let r = t.each range c in

@@ -21,7 +21,8 @@ use Rattle.isg_states.specs.Candidates.{AreSmall, OneOf, ArePositions, IsClass}
 use Rattle.isg_states.proofs.Patterns.{same_pattern, in_pattern}
 use Rattle.isg_states.proofs.MarkLists.{relist}
 
-pub pattern_table : (grammar : Grammar) (definition : DefId) (table : Table) → IsLive grammar definition → ArePositionsFor grammar definition table → length table.classes ≤ 200 → ArePositions grammar definition table
+pub pattern_table : (grammar : Grammar) (definition : DefId) (table : Table) → IsLive grammar definition → ArePositionsFor grammar definition table
+    → length table.classes ≤ 200 → ArePositions grammar definition table
 pattern_table grammar (literal symbol) table live h few = record {
   pattern = bytes h.0;
   has_pattern = record { live = live; is = h.1 };
@@ -72,7 +73,8 @@ module _ {grammar : Grammar} {table : Table} (mark : Mark) (a : ArePositions gra
 
 -- ---- indices are small
 
-pub firsts_small : {grammar : Grammar} {definition : DefId} {table : Table} → ArePositions grammar definition table → (index : ℕ) → IsTrue (has table.first index) → index < 256
+pub firsts_small : {grammar : Grammar} {definition : DefId} {table : Table} → ArePositions grammar definition table → (index : ℕ)
+    → IsTrue (has table.first index) → index < 256
 firsts_small a index h =
     let begins = (a.positions.first.members index).0 h in
     let few = a.few in
@@ -85,13 +87,15 @@ row_at rows q row e = some_same _ _ _ (slice_get-get_or rows q [] (slice_get_wit
   some_same o x y h k = cc
 
 -- the row of a position has those that follow it
-row_members : {grammar : Grammar} {definition : DefId} {table : Table} (a : ArePositions grammar definition table) (q : ℕ) (row : List ℕ) → q < length table.classes → slice_get table.follow q ≡ Some row
+row_members : {grammar : Grammar} {definition : DefId} {table : Table} (a : ArePositions grammar definition table) (q : ℕ) (row : List ℕ)
+    → q < length table.classes → slice_get table.follow q ≡ Some row
     → (p : ℕ) → IsTrue (has row p) ↔ Succeeds (MarkedWord a.pattern) q p
 row_members {table = table} a q row within e p =
     subst (λ r. IsTrue (has r p) ↔ Succeeds (MarkedWord a.pattern) q p) (row_at table.follow q row e)
     ((a.positions.follow q (subst (λ sets. q < length sets) a.positions.classes within)).members p)
 
-pub row_small : {grammar : Grammar} {definition : DefId} {table : Table} → ArePositions grammar definition table → (q : ℕ) (row : List ℕ) → q < length table.classes → slice_get table.follow q ≡ Some row
+pub row_small : {grammar : Grammar} {definition : DefId} {table : Table} → ArePositions grammar definition table → (q : ℕ) (row : List ℕ)
+    → q < length table.classes → slice_get table.follow q ≡ Some row
     → (index : ℕ) → IsTrue (has row index) → index < 256
 row_small a q row within e index h =
     let s = (row_members a q row within e index).0 h in
@@ -100,12 +104,14 @@ row_small a q row within e index h =
     let within = in_pattern a.pattern (s.0 ++ q ∷ []) index s.1 whole in
     omega arith
 
-pub from_row : {grammar : Grammar} {table : Table} (member mark : Mark) → ArePositions grammar member.def table → (row : List ℕ) → member.index < length table.classes → slice_get table.follow member.index ≡ Some row
+pub from_row : {grammar : Grammar} {table : Table} (member mark : Mark) → ArePositions grammar member.def table → (row : List ℕ)
+    → member.index < length table.classes → slice_get table.follow member.index ≡ Some row
     → OneOf member.def row mark → Follows grammar member mark
 from_row {grammar} member mark a row within e one =
     (sym one.0, (a.pattern, subst (λ d. HasPattern grammar d a.pattern) (sym one.0) a.has_pattern, (row_members a member.index row within e mark.index).0 one.1))
 
-pub to_row : {grammar : Grammar} {table : Table} (member mark : Mark) → ArePositions grammar member.def table → (row : List ℕ) → member.index < length table.classes → slice_get table.follow member.index ≡ Some row
+pub to_row : {grammar : Grammar} {table : Table} (member mark : Mark) → ArePositions grammar member.def table → (row : List ℕ)
+    → member.index < length table.classes → slice_get table.follow member.index ≡ Some row
     → Follows grammar member mark → OneOf member.def row mark
 to_row {grammar} member mark a row within e f =
     let here : HasPattern grammar member.def f.1.0 = subst (λ d. HasPattern grammar d f.1.0) (sym f.0) f.1.1 in
@@ -131,7 +137,8 @@ range_marks grammar key range r =
 
 -- ---- more marks
 
-pub small_more : (old new : List Mark) (definition : DefId) (indices : List ℕ) → ListsMarks (λ m. Contains old m ⊎ OneOf definition indices m) new → AreSmall old
+pub small_more : (old new : List Mark) (definition : DefId) (indices : List ℕ) → ListsMarks (λ m. Contains old m ⊎ OneOf definition indices m) new
+    → AreSmall old
     → ((index : ℕ) → IsTrue (has indices index) → index < 256) → AreSmall new
 small_more old new definition indices lists small few mark c = elim ((lists.members mark).0 c) [ inl d ↦ small mark d | inr one ↦ few mark.index one.1 ]
 
@@ -159,8 +166,10 @@ has_push (y ∷ xs) x p h = elim (or_cases (y == p) (has (xs ++ x ∷ []) p) h) 
 ]
 
 -- the mark with one more of the indices
-pub index_more : (old mid new : List Mark) (definition : DefId) (indices : List ℕ) (i d : ℕ) → i < length indices → ListsMarks (λ m. Contains old m ⊎ OneOf definition (take i indices) m) mid
-    → ListsMarks (λ m. Contains mid m ⊎ (m ≡ record { def = definition; index = get_or indices i d })) new → ListsMarks (λ m. Contains old m ⊎ OneOf definition (take (i + 1) indices) m) new
+pub index_more : (old mid new : List Mark) (definition : DefId) (indices : List ℕ) (i d : ℕ) → i < length indices
+    → ListsMarks (λ m. Contains old m ⊎ OneOf definition (take i indices) m) mid
+    → ListsMarks (λ m. Contains mid m ⊎ (m ≡ record { def = definition; index = get_or indices i d })) new
+    → ListsMarks (λ m. Contains old m ⊎ OneOf definition (take (i + 1) indices) m) new
 index_more old mid new definition indices i d within lists added =
     let x : ℕ = get_or indices i d in
     let more : take (i + 1) indices ≡ take i indices ++ x ∷ [] = take_more indices i d within in
@@ -182,13 +191,16 @@ index_more old mid new definition indices i d within lists added =
     ])
 
 -- all of the indices
-pub index_all : (old new : List Mark) (definition : DefId) (indices : List ℕ) (i : ℕ) → length indices ≤ i → ListsMarks (λ m. Contains old m ⊎ OneOf definition (take i indices) m) new
+pub index_all : (old new : List Mark) (definition : DefId) (indices : List ℕ) (i : ℕ) → length indices ≤ i
+    → ListsMarks (λ m. Contains old m ⊎ OneOf definition (take i indices) m) new
     → ListsMarks (λ m. Contains old m ⊎ OneOf definition indices m) new
 index_all old new definition indices i whole lists = subst (λ t. ListsMarks (λ m. Contains old m ⊎ OneOf definition t m) new) (take_all i indices whole) lists
 
 -- the first positions of one more definition
-pub first_more : (grammar : Grammar) (definitions : List DefId) (i : ℕ) (d : DefId) (table : Table) (old new : List Mark) → i < length definitions → ArePositions grammar (get_or definitions i d) table
-    → ListsMarks (λ m. IsFirst grammar m × Contains (take i definitions) m.def) old → ListsMarks (λ m. Contains old m ⊎ OneOf (get_or definitions i d) table.first m) new
+pub first_more : (grammar : Grammar) (definitions : List DefId) (i : ℕ) (d : DefId) (table : Table) (old new : List Mark) → i < length definitions
+    → ArePositions grammar (get_or definitions i d) table
+    → ListsMarks (λ m. IsFirst grammar m × Contains (take i definitions) m.def) old
+    → ListsMarks (λ m. Contains old m ⊎ OneOf (get_or definitions i d) table.first m) new
     → ListsMarks (λ m. IsFirst grammar m × Contains (take (i + 1) definitions) m.def) new
 first_more grammar definitions i d table old new within a lists added =
     let definition : DefId = get_or definitions i d in
@@ -207,15 +219,18 @@ first_more grammar definitions i d table old new within a lists added =
     ])
 
 -- those of all live definitions
-pub first_all : (grammar : Grammar) (definitions : List DefId) (i : ℕ) (found : List Mark) → length definitions ≤ i → ((k : DefId) → Contains definitions k ↔ IsLive grammar k)
+pub first_all : (grammar : Grammar) (definitions : List DefId) (i : ℕ) (found : List Mark) → length definitions ≤ i → ((k : DefId)
+    → Contains definitions k ↔ IsLive grammar k)
     → ListsMarks (λ m. IsFirst grammar m × Contains (take i definitions) m.def) found → ListsMarks (IsFirst grammar) found
 first_all grammar definitions i found whole live lists =
     relist lists (λ m w. w.0) (λ m f. (f, subst (λ ds. Contains ds m.def) (sym (take_all i definitions whole)) ((live m.def).1 f.1.live)))
 
 -- the positions that follow one more member
 pub following_more : (grammar : Grammar) (members : List Mark) (i : ℕ) (d : Mark) (table : Table) (row : List ℕ) (old new : List Mark) → i < length members
-    → ArePositions grammar (get_or members i d).def table → (get_or members i d).index < length table.classes → slice_get table.follow (get_or members i d).index ≡ Some row
-    → ListsMarks (λ m. (x : Mark) × Contains (take i members) x × Follows grammar x m) old → ListsMarks (λ m. Contains old m ⊎ OneOf (get_or members i d).def row m) new
+    → ArePositions grammar (get_or members i d).def table → (get_or members i d).index < length table.classes
+    → slice_get table.follow (get_or members i d).index ≡ Some row
+    → ListsMarks (λ m. (x : Mark) × Contains (take i members) x × Follows grammar x m) old
+    → ListsMarks (λ m. Contains old m ⊎ OneOf (get_or members i d).def row m) new
     → ListsMarks (λ m. (x : Mark) × Contains (take (i + 1) members) x × Follows grammar x m) new
 following_more grammar members i d table row old new within a here e lists added =
     let member : Mark = get_or members i d in
@@ -231,6 +246,7 @@ following_more grammar members i d table row old new within a here e lists added
     ])
 
 -- those of all members
-pub following_all : (grammar : Grammar) (members : List Mark) (i : ℕ) (found : List Mark) → length members ≤ i → ListsMarks (λ m. (x : Mark) × Contains (take i members) x × Follows grammar x m) found
+pub following_all : (grammar : Grammar) (members : List Mark) (i : ℕ) (found : List Mark) → length members ≤ i
+    → ListsMarks (λ m. (x : Mark) × Contains (take i members) x × Follows grammar x m) found
     → ListsMarks (λ m. (x : Mark) × Contains members x × Follows grammar x m) found
 following_all grammar members i found whole lists = subst (λ t. ListsMarks (λ m. (x : Mark) × Contains t x × Follows grammar x m) found) (take_all i members whole) lists

@@ -97,16 +97,19 @@ module _ (grammar : Grammar) (marks : List Mark) (m : Mark) where
       ];
     }
 
-pub ended_same : (grammar : Grammar) (marks : List Mark) (i : ℕ) (d : Mark) (w : Option DefId) → i < length marks → IsFirstEnded grammar (take i marks) w → (IsLast grammar (get_or marks i d) → ⊥)
+pub ended_same : (grammar : Grammar) (marks : List Mark) (i : ℕ) (d : Mark) (w : Option DefId) → i < length marks → IsFirstEnded grammar (take i marks) w
+    → (IsLast grammar (get_or marks i d) → ⊥)
     → IsFirstEnded grammar (take (i + 1) marks) w
 ended_same grammar marks i d w within a apart = subst (λ ms. IsFirstEnded grammar ms w) (sym (take_more marks i d within)) (same_push grammar (take i marks) (get_or marks i d) w a apart)
 
-pub ended_more : (grammar : Grammar) (marks : List Mark) (i : ℕ) (d : Mark) (w : Option DefId) → i < length marks → IsFirstEnded grammar (take i marks) w → IsLast grammar (get_or marks i d)
+pub ended_more : (grammar : Grammar) (marks : List Mark) (i : ℕ) (d : Mark) (w : Option DefId) → i < length marks → IsFirstEnded grammar (take i marks) w
+    → IsLast grammar (get_or marks i d)
     → IsFirstEnded grammar (take (i + 1) marks) (Some (first_of w (get_or marks i d).def))
 ended_more grammar marks i d w within a last =
     subst (λ ms. Accepts grammar (Set ms) (first_of w (get_or marks i d).def)) (sym (take_more marks i d within)) (more_push grammar (take i marks) (get_or marks i d) w a last)
 
-pub ended_all : (grammar : Grammar) (marks : List Mark) (i : ℕ) (w : Option DefId) → length marks ≤ i → IsFirstEnded grammar (take i marks) w → IsFirstEnded grammar marks w
+pub ended_all : (grammar : Grammar) (marks : List Mark) (i : ℕ) (w : Option DefId) → length marks ≤ i → IsFirstEnded grammar (take i marks) w
+    → IsFirstEnded grammar marks w
 ended_all grammar marks i w whole a = subst (λ ms. IsFirstEnded grammar ms w) (take_all i marks whole) a
 
 -- ---- last positions

@@ -51,7 +51,8 @@ pub record InPiece (P : List ℕ → Type 0) (u : List ℕ) (q : ℕ) (v : List 
   pub left : u ≡ concat before ++ front
   pub right : v ≡ back ++ concat after
 
-pub cut_pieces : (P : List ℕ → Type 0) (u : List ℕ) (q : ℕ) (v : List ℕ) (words : List (List ℕ)) → AllByRecursion P words → u ++ q ∷ v ≡ concat words → InPiece P u q v
+pub cut_pieces : (P : List ℕ → Type 0) (u : List ℕ) (q : ℕ) (v : List ℕ) (words : List (List ℕ)) → AllByRecursion P words → u ++ q ∷ v ≡ concat words
+    → InPiece P u q v
 cut_pieces P u q v [] all e = absurd (cut_nil u q v e)
 cut_pieces P u q v (x ∷ words) all e =
     elim (cut_two u q v x (concat words) e) [

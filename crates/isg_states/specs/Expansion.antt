@@ -47,7 +47,8 @@ AreJoined ranges = (before after : List Range) (one next : Range) → ranges ≡
 -- the ranges tell for each byte where it leads from the key, in the one way that joins as much as can be
 pub record IsScanExpansionOf (grammar : Grammar) (key : ScanKey) (ranges : List Range) : Type 0 where
   pub each : (range : Range) → Contains ranges range → IsRange grammar key range
-  pub whole : (byte : ℕ) (mark : Mark) → byte < 256 → LeadsTo grammar key byte mark → (range : Range) × Contains ranges range × (range.0 ≤ byte) × (byte ≤ range.1)
+  pub whole : (byte : ℕ) (mark : Mark) → byte < 256 → LeadsTo grammar key byte mark
+      → (range : Range) × Contains ranges range × (range.0 ≤ byte) × (byte ≤ range.1)
   pub apart : AreApart ranges
   pub joined : AreJoined ranges
 

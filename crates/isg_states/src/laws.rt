@@ -39,12 +39,14 @@ pub fn accepted_is_winner()
 
 /// A byte leads to a state of the grammar.
 pub fn targets_are_marks()
-    ensures { (grammar : Grammar) (key : ScanKey) (ranges : List Range) → IsScanExpansionOf grammar key ranges → (range : Range) → Contains ranges range → AreMarks grammar range.2 }
+    ensures { (grammar : Grammar) (key : ScanKey) (ranges : List Range) → IsScanExpansionOf grammar key ranges
+        → (range : Range) → Contains ranges range → AreMarks grammar range.2 }
 {}
 
 /// A state has one expansion.
 pub fn one_expansion()
-    ensures { (grammar : Grammar) (key : ScanKey) (one other : List Range) → IsScanExpansionOf grammar key one → IsScanExpansionOf grammar key other → one ≡ other }
+    ensures { (grammar : Grammar) (key : ScanKey) (one other : List Range)
+        → IsScanExpansionOf grammar key one → IsScanExpansionOf grammar key other → one ≡ other }
 {}
 
 /// A state has one cost.

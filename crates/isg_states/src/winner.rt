@@ -64,7 +64,8 @@ fn first_ended(grammar: &Grammar, marks: &[Mark]) -> Option<DefId>
 /// then the lower number. There is none for the start.
 pub fn accepts(grammar: &Grammar, key: &ScanKey) -> Option<DefId>
     requires { AreMarks grammar.now.grammar key.now }
-    ensures { MatchOption result ((definition : DefId) → Ends grammar.now.grammar key.now definition → ⊥) (λ winner. Accepts grammar.now.grammar key.now winner) }
+    ensures { MatchOption result ((definition : DefId) → Ends grammar.now.grammar key.now definition → ⊥)
+        (λ winner. Accepts grammar.now.grammar key.now winner) }
 {
     match key {
         ScanKey::Start => None,
