@@ -20,7 +20,7 @@ at_place P [] i x all e = absurd cc
 at_place P (y ∷ ys) zero x all e = let same : y ≡ x = cc in subst P same all.0
 at_place P (y ∷ ys) (suc i) x all e = at_place P ys i x all.1 e
 
-member : {X : Type 0} (P : X → Type 0) (xs : List X) (x : X) → AllByRecursion P xs → Contains xs x → P x
+pub member : {X : Type 0} (P : X → Type 0) (xs : List X) (x : X) → AllByRecursion P xs → Contains xs x → P x
 member P xs x all there = All-contains P xs x (All-from_recursion P xs all) there
 
 abbrev IsSmall : SymbolId → Type 0
