@@ -1,8 +1,6 @@
 -- The expansion of a state of the scanner has room in its words, and numbers of 32 bits.
-use Rattle.std.proofs.Common.{◌≡◌, ℕ, zero, suc, ◌+◌, ◌<◌, ◌≤◌, ◌^◌, Bool, true, false, eqb, List, [], ◌∷◌, length, get_or, Contains, IsTrue, Some, None, find, sym, ◌∙◌, subst, arith}
+use Rattle.std.proofs.Common.{◌≡◌, ℕ, zero, suc, ◌<◌, eqb, List, [], ◌∷◌, length, get_or, Contains, IsTrue, sym, ◌∙◌, subst, arith}
 use Rattle.std.proofs.lemmas.Bool.{false≢true, eqb-true}
-use Rattle.std.specs.List.{AllByRecursion}
-use Rattle.std.proofs.lemmas.List.Elements.{All-contains, All-from_recursion}
 use Rattle.grammar_text.specs.declared.symbol.Symbol.{Symbol}
 use Rattle.grammar_text.specs.declared.symbol.Symbol.TheVariants.{Named, Literal}
 use Rattle.regex_ast.specs.Bytes.{has}
@@ -17,7 +15,7 @@ use Rattle.isg_states.specs.declared.scan_key.ScanKey.TheVariants.{Set}
 use Rattle.isg_states.specs.declared.ranges.ScanExpansion.{ScanExpansion}
 use Rattle.isg_states.specs.Marks.{AreAscending}
 use Rattle.isg_states.specs.Patterns.{Pattern, bytes, expression, IsPatternOf, IsMark, HasByte, classes_in}
-use Rattle.isg_states.specs.Expansion.{Range, IsRange, LeadsTo, IsScanExpansionOf}
+use Rattle.isg_states.specs.Expansion.{Range, IsRange, IsScanExpansionOf}
 use Rattle.row_coding.specs.Conditions.{FitsScanCoding, IsTypedDefinition, AreTypedMarks, IsTypedScan}
 use Rattle.row_coding.proofs.ExpansionsFit.{member}
 
