@@ -1,5 +1,5 @@
 -- The expansion of a kernel in a grammar has room in its words, and numbers of 32 bits.
-use Rattle.std.proofs.Common.{◌≡◌, ℕ, zero, suc, ◌+◌, ◌*◌, ◌<◌, ◌≤◌, ◌^◌, List, [], ◌∷◌, length, Contains, slice_get, Some, None, subst, arith}
+use Rattle.std.proofs.Common.{◌≡◌, ℕ, zero, suc, ◌<◌, ◌≤◌, ◌^◌, List, [], ◌∷◌, length, Contains, slice_get, Some, subst, arith}
 use Rattle.std.specs.List.{AllByRecursion}
 use Rattle.std.proofs.lemmas.List.Elements.{All-contains, All-from_recursion}
 use Rattle.std.proofs.lemmas.Option.{slice_get_within}
@@ -11,8 +11,8 @@ use Rattle.edit_log.specs.Facts.{IsNumber, IsRight, IsWellFormed}
 use Rattle.item_sets.specs.declared.item.Item.{Item}
 use Rattle.item_sets.specs.declared.expansion.Expansion.{Expansion}
 use Rattle.item_sets.specs.Prefixes.{HasRight, whole, live, IsNext}
-use Rattle.item_sets.specs.Expansions.{InMove, past, IsMoveOf, IsExpansionOf}
-use Rattle.row_coding.specs.Conditions.{FitsCoding, IsTypedMove, IsTyped}
+use Rattle.item_sets.specs.Expansions.{InMove, past, IsExpansionOf}
+use Rattle.row_coding.specs.Conditions.{FitsCoding, IsTyped}
 
 -- what holds of each element holds of the one at a place
 at_place : {X : Type 0} (P : X → Type 0) (xs : List X) (i : ℕ) (x : X) → AllByRecursion P xs → slice_get xs i ≡ Some x → P x
@@ -20,7 +20,7 @@ at_place P [] i x all e = absurd cc
 at_place P (y ∷ ys) zero x all e = let same : y ≡ x = cc in subst P same all.0
 at_place P (y ∷ ys) (suc i) x all e = at_place P ys i x all.1 e
 
-member : {X : Type 0} (P : X → Type 0) (xs : List X) (x : X) → AllByRecursion P xs → Contains xs x → P x
+pub member : {X : Type 0} (P : X → Type 0) (xs : List X) (x : X) → AllByRecursion P xs → Contains xs x → P x
 member P xs x all there = All-contains P xs x (All-from_recursion P xs all) there
 
 abbrev IsSmall : SymbolId → Type 0

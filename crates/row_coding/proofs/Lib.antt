@@ -5,3 +5,4 @@ pub mod MovesRead
 pub mod OneCoding
 pub mod RangesRead
 pub mod ExpansionsFit
+pub mod ScanExpansionsFit

@@ -115,7 +115,13 @@ module _ (payload : List ℕ) (coded : Expansion) (fits : FitsCoding coded) (typ
       let front = length coded.moves ∷ length coded.reductions ∷ flat_map move_words coded.moves in
       let first = length payload - get_or payload 1 0 in
       take_rest payload first ∙ ap (drop first) is
-      ∙ drop_at front own first (omega (arith, ap length is, reductions_count, length-append (flat_map move_words coded.moves) own, length-map coded.reductions (λ (rule : RuleId). rule.0)))
+      ∙ drop_at front own first (omega (
+        arith,
+        ap length is,
+        reductions_count,
+        length-append (flat_map move_words coded.moves) own,
+        length-map coded.reductions (λ (rule : RuleId). rule.0),
+      ))
 
   pub last_fit : All (λ word. word < 2 ^ 32) (map (λ (rule : RuleId). rule.0) coded.reductions)
   last_fit = All-map (λ word. word < 2 ^ 32) (λ (rule : RuleId). rule.0) coded.reductions

@@ -70,7 +70,8 @@ fits_moves : (a : Expansion) → FitsCoding a → All FitsMove a.moves
 fits_moves a fits = at_each_place FitsMove a.moves (λ move there. at_each_place HasSmallDot move.1 (fits move.0 move.1 there))
 
 -- expansions are told by their lists
-abbrev expansion_of : (moves : List Move) (reductions : List RuleId) → IsStrictlySortedBy move_cmp moves → IsStrictlySortedBy reduction_cmp reductions → Expansion
+abbrev expansion_of : (moves : List Move) (reductions : List RuleId) → IsStrictlySortedBy move_cmp moves → IsStrictlySortedBy reduction_cmp reductions
+    → Expansion
 expansion_of moves reductions h k = record { moves = moves; reductions = reductions; moves_ascend = h; reductions_ascend = k }
 
 module _ (moves : List Move) (reductions : List RuleId) (h : IsStrictlySortedBy move_cmp moves) (k : IsStrictlySortedBy reduction_cmp reductions) where
@@ -97,8 +98,10 @@ same_expansion a b moves reductions =
 pub one_item_payload : (a b : Expansion) → FitsCoding a → FitsCoding b → item_payload_words a ≡ item_payload_words b → a ≡ b
 one_item_payload a b fa fb e =
     let len : length a.moves ≡ length b.moves = cc in
-    let tails : flat_map move_words a.moves ++ map (λ (rule : RuleId). rule.0) a.reductions ≡ flat_map move_words b.moves ++ map (λ (rule : RuleId). rule.0) b.reductions = cc in
-    let parts = one_list move_words FitsMove one_move a.moves b.moves (map (λ (rule : RuleId). rule.0) a.reductions) (map (λ (rule : RuleId). rule.0) b.reductions)
+    let rules_a = map (λ (rule : RuleId). rule.0) a.reductions in
+    let rules_b = map (λ (rule : RuleId). rule.0) b.reductions in
+    let tails : flat_map move_words a.moves ++ rules_a ≡ flat_map move_words b.moves ++ rules_b = cc in
+    let parts = one_list move_words FitsMove one_move a.moves b.moves rules_a rules_b
     (fits_moves a fa) (fits_moves b fb) len tails in
     same_expansion a b parts.0 (sym (rules_back a.reductions) ∙ ap (map rule_of) parts.1 ∙ rules_back b.reductions)
 

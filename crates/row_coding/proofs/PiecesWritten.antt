@@ -4,7 +4,8 @@ use Rattle.std.proofs.lemmas.List.{take_more, drop_more, take-append-drop}
 use Rattle.std.proofs.lemmas.List.Concat.{flat_map-append}
 
 -- one element more is read
-pub one_more : {X : Type 0} (old new xs : List X) (i : ℕ) (x d : X) → i < length xs → old ≡ take i xs → new ≡ old ++ x ∷ [] → x ≡ get_or xs i d → new ≡ take (i + 1) xs
+pub one_more : {X : Type 0} (old new xs : List X) (i : ℕ) (x d : X) → i < length xs → old ≡ take i xs → new ≡ old ++ x ∷ [] → x ≡ get_or xs i d
+    → new ≡ take (i + 1) xs
 one_more old new xs i x d below far step is =
     step ∙ ap (λ ys. ys ++ x ∷ []) far ∙ ap (λ y. take i xs ++ y ∷ []) is ∙ sym (take_more xs i d below)
 

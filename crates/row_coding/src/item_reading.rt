@@ -56,7 +56,8 @@ fn read_moves(
     words: &[u64],
 ) -> Result<Vec<(SymbolId, Kernel)>, NoMemory>
     requires { (moves : List Move) × (rest : List ℕ) × BeginWithMoves words.now moves rest × (length moves ≡ count) }
-    ensures { IfOk result (λ found. (moves : List Move) (rest : List ℕ) → BeginWithMoves words.now moves rest → length moves ≡ count → found.items ≡ moves) }
+    ensures { IfOk result (λ found. (moves : List Move) (rest : List ℕ) → BeginWithMoves words.now moves rest → length moves ≡ count
+        → found.items ≡ moves) }
 {
     let mut moves = Vec::with_capacity(alloc, count)?;
     let mut items = SmallVec::new(alloc);

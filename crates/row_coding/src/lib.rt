@@ -17,7 +17,7 @@ mod scan_writing;
 pub use item_reading::read_items;
 pub use item_writing::{item_key, item_payload};
 pub use kinds::{Kind, kind_of};
-pub use laws::{expansions_fit, one_key, one_payload, one_scan_payload};
+pub use laws::{expansions_fit, one_key, one_payload, one_scan_payload, scan_expansions_fit};
 pub use scan_reading::read_scan;
 pub use scan_writing::{scan_key, scan_payload};
 

@@ -69,7 +69,8 @@ fn read_ranges(
     words: &[u64],
 ) -> Result<Vec<(u8, u8, ScanKey)>, NoMemory>
     requires { (ranges : List Range) × (rest : List ℕ) × BeginWithRanges words.now ranges rest × (length ranges ≡ count) }
-    ensures { IfOk result (λ found. (ranges : List Range) (rest : List ℕ) → BeginWithRanges words.now ranges rest → length ranges ≡ count → found.items ≡ ranges) }
+    ensures { IfOk result (λ found. (ranges : List Range) (rest : List ℕ) → BeginWithRanges words.now ranges rest → length ranges ≡ count
+        → found.items ≡ ranges) }
 {
     let mut ranges = Vec::with_capacity(alloc, count)?;
     let mut marks = SmallVec::new(alloc);

@@ -6,5 +6,6 @@ use Rattle.row_coding.proofs.scan_reading.read_ranges.Given as goal
 
 abbrev pub invariant-loop-i : goal.invariant-loop-i
 invariant-loop-i l =
-    (vec_len l.ranges ≡ l._i) × (vec_capacity l.ranges ≡ l.count) × ((ranges : List Range) (rest : List ℕ) → BeginWithRanges l.fn.words ranges rest → length ranges ≡ l.count
+    (vec_len l.ranges ≡ l._i) × (vec_capacity l.ranges ≡ l.count)
+    × ((ranges : List Range) (rest : List ℕ) → BeginWithRanges l.fn.words ranges rest → length ranges ≡ l.count
     → (l.ranges.items ≡ take l._i ranges) × (l.rest ≡ flat_map range_words (drop l._i ranges) ++ rest))
