@@ -45,7 +45,7 @@ untouched : (g : Grammar) (edit : Edit) (touch : Touch) (key : Key) → IsTaken 
     → IsUnaffected g (after g edit) key
 untouched g edit touch (kernel items) t is none =
     let both = untouched_items g.rules (after g edit).rules touch items (rule_change g edit touch t.well t.accepted t.touches) is.1
-        (λ w. none (items_touched g touch items w)) in
+    (λ w. none (items_touched g touch items w)) in
     record { stays = (is.0, both.0); same = both.1 }
 untouched g edit touch (scan Start) t is none = record { stays = tt; same = untouched_start g edit touch t.well t.accepted t.touches none }
 untouched g edit touch (scan (Set marks)) t is none =

@@ -76,17 +76,32 @@ mutual
       → MatchesSome e
   factor_some (one_class {set = []}) full = absurd (full.0.2 refl)
   factor_some (one_class {set = x ∷ xs}) full =
-      record { first = x; rest = []; small = small_class (one_class {set = x ∷ xs}) full.0.1 refl (x ∷ xs) refl x (has_first x xs); matches =
-          (x, has_first x xs, refl) }
+      record {
+        first = x;
+        rest = [];
+        small = small_class (one_class {set = x ∷ xs}) full.0.1 refl (x ∷ xs) refl x (has_first x xs);
+        matches =
+            (x, has_first x xs, refl);
+      }
   factor_some (group {ps} {e} h) full = choice_some h (parted _ ps _ full.1).0
   factor_some (starred {ps} {e} h) full =
       let one = factor_some h (parted _ ps _ full).0 in
-      record { first = one.first; rest = one.rest; small = one.small; matches =
-          ((one.first ∷ one.rest) ∷ [], (one.matches, tt), sym (append-nil (one.first ∷ one.rest))) }
+      record {
+        first = one.first;
+        rest = one.rest;
+        small = one.small;
+        matches =
+            ((one.first ∷ one.rest) ∷ [], (one.matches, tt), sym (append-nil (one.first ∷ one.rest)));
+      }
   factor_some (repeated {ps} {e} h) full =
       let one = factor_some h (parted _ ps _ full).0 in
-      record { first = one.first; rest = one.rest; small = one.small; matches =
-          (one.first ∷ one.rest, [], (one.matches, tt), sym (append-nil (one.first ∷ one.rest))) }
+      record {
+        first = one.first;
+        rest = one.rest;
+        small = one.small;
+        matches =
+            (one.first ∷ one.rest, [], (one.matches, tt), sym (append-nil (one.first ∷ one.rest)));
+      }
   factor_some (optional {ps} {e} h) full =
       let one = factor_some h (parted _ ps _ full).0 in
       record { first = one.first; rest = one.rest; small = one.small; matches = inr one.matches }
@@ -98,8 +113,13 @@ mutual
       let both = parted _ ps qs full in
       let one = branch_some h both.0 in
       let two = factor_some k both.1 in
-      record { first = one.first; rest = one.rest ++ two.first ∷ two.rest; small = one.small; matches =
-          (one.first ∷ one.rest, two.first ∷ two.rest, one.matches, two.matches, refl) }
+      record {
+        first = one.first;
+        rest = one.rest ++ two.first ∷ two.rest;
+        small = one.small;
+        matches =
+            (one.first ∷ one.rest, two.first ∷ two.rest, one.matches, two.matches, refl);
+      }
 
   choice_some : {ps : _} {e : Expression} → SpellsChoice ps e → AllByRecursion (λ p. (t : List ℕ) × IsPiece t p × (IsEmptyClass [] (t, p) → ⊥)) ps
       → MatchesSome e

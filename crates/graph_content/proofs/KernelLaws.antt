@@ -79,7 +79,7 @@ untouched_items rules next touch items (one_less {r = r} w left gone) are none =
     )
 untouched_items rules next touch items (as_before e left gone) are none =
     subst (λ others. AreItems others items × AreSameMoves rules others items) (sym e)
-        (are, record { moves = λ x item. (λ m. m, λ m. m); reductions = λ k. (λ m. m, λ m. m) })
+    (are, record { moves = λ x item. (λ m. m, λ m. m); reductions = λ k. (λ m. m, λ m. m) })
 
 pub touched_items : (rules next : List Rule) (touch : Touch) (items : List Item) → RuleChange rules next touch → AreItems rules items
     → TouchesItems rules touch items
@@ -88,7 +88,7 @@ touched_items rules next touch items (one_more {r = r} w left gone) are (names_g
 touched_items rules next touch items (one_more {r = r} w left gone) are (moves_on_left {left = x} e m) =
     let same : x ≡ r.left = same_some x r.left (sym e ∙ left) in
     inr (λ s. differs_at_move rules r next w (Contains items) (named rules items are) (subst (HasMove rules (Contains items)) same m)
-        (of_same rules next items s))
+    (of_same rules next items s))
 touched_items rules next touch items (one_less {r = r} w left gone) are (names_gone {item = item} c e) =
     let same : item.rule ≡ r.number = same_some item.rule r.number (sym e ∙ gone) in
     inl (λ stay. unnamed next r rules w (stay item c).has same)

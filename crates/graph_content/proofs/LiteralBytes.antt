@@ -70,12 +70,16 @@ rest_bytes line edit spelled of =
 
 -- the symbols of an edit that can be written
 pub solid_edit : (edit : Edit) → IsSound edit → AllByRecursion IsSolid (symbols_of edit)
-solid_edit (AddRule r) sound =
-    (tt, solid_symbols sound.spelled.rest r.right sound.spelled.tail sound.within.parts.1
-    (rest_bytes (canonical (AddRule r)) (AddRule r) sound.spelled sound.bytes))
-solid_edit (DropRule r) sound =
-    (tt, solid_symbols sound.spelled.rest r.right sound.spelled.tail sound.within.parts.1
-    (rest_bytes (canonical (DropRule r)) (DropRule r) sound.spelled sound.bytes))
+solid_edit (AddRule r) sound = (
+  tt,
+  solid_symbols sound.spelled.rest r.right sound.spelled.tail sound.within.parts.1
+      (rest_bytes (canonical (AddRule r)) (AddRule r) sound.spelled sound.bytes),
+)
+solid_edit (DropRule r) sound = (
+  tt,
+  solid_symbols sound.spelled.rest r.right sound.spelled.tail sound.within.parts.1
+      (rest_bytes (canonical (DropRule r)) (DropRule r) sound.spelled sound.bytes),
+)
 solid_edit (AddToken d) sound = (tt, tt)
 solid_edit (DropToken name) sound = (tt, tt)
 solid_edit (AddSkip d) sound = (tt, tt)

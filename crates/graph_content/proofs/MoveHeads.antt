@@ -163,7 +163,7 @@ module _ (payload rest : List ℕ) (done wanted : ℕ) (known : (e : Expansion) 
       let h = head_of e is some in
       let symbol = head_symbol e rest done wanted h in
       subst (λ ws. IsRest e ws (done + 1) wanted) (sym (take_rest rest k))
-          (next e rest done wanted h (omega (arith, less, symbol)) k (is-next ∙ ap (λ n. 2 + n) (head_count e rest done wanted h)))
+      (next e rest done wanted h (omega (arith, less, symbol)) k (is-next ∙ ap (λ n. 2 + n) (head_count e rest done wanted h)))
 
   pub head_decides : (symbol : SymbolId) → wanted ≡ symbol.0 → done < get_or payload 0 0 → wanted ≤ get_or rest 0 0 → (e : Expansion)
       → payload ≡ item_payload_words e

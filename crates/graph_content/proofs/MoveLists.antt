@@ -76,8 +76,13 @@ with_item-ascends c [] sorted = (tt, tt)
 with_item-ascends c (y ∷ ys) sorted = by (item_cmp c y) refl (with_item-ascends c ys sorted.1)
   where
     by : (o : Ordering) → item_cmp c y ≡ o → IsStrictlySortedBy item_cmp (with_item c ys) → IsStrictlySortedBy item_cmp (placed o c y ys (with_item c ys))
-    by Less e rest = ((e,
-        all_contained (λ z. item_cmp c z ≡ Less) ys (λ z d. item_cmp_total.trans c y z e (each_contained (λ z. item_cmp y z ≡ Less) ys z sorted.0 d))), sorted)
+    by Less e rest = (
+      (
+        e,
+        all_contained (λ z. item_cmp c z ≡ Less) ys (λ z d. item_cmp_total.trans c y z e (each_contained (λ z. item_cmp y z ≡ Less) ys z sorted.0 d)),
+      ),
+      sorted,
+    )
     by Equal e rest = sorted
     by Greater e rest =
         let less : item_cmp y c ≡ Less = item_cmp_total.antisymm y c ∙ ap ordering_reverse e in (
@@ -102,19 +107,25 @@ listed : (S : Item → Type 0) (C : List Item) → (((L : List Item) × IsListWi
 unfolding IsStrictlySortedBy
 listed S [] none = none ([], record { ascends = tt; within = λ z h. absurd (contains_none z h); whole = λ z h s. absurd (contains_none z h) })
 listed S (c ∷ C) none = listed S C (λ (L, l). either (λ (inside : S c ⊎ (S c → ⊥)). elim inside [
-    | inl s ↦
-        let more = with_item-members c L in
-        none (with_item c L, record {
+  | inl s ↦
+      let more = with_item-members c L in
+      none (
+        with_item c L,
+        record {
           ascends = with_item-ascends c L l.ascends;
           within = λ z h. elim (more.only z h) [ inl e ↦ subst S e s | inr d ↦ l.within z d ];
           whole = λ z h t. elim (contains_cases c C z h) [ inl e ↦ subst (Contains (with_item c L)) e more.has | inr d ↦ more.kept z (l.whole z d t) ];
-        })
-    | inr out ↦ none (L, record {
+        },
+      )
+  | inr out ↦ none (
+    L,
+    record {
       ascends = l.ascends;
       within = l.within;
       whole = λ z h t. elim (contains_cases c C z h) [ inl e ↦ absurd (out (subst S (sym e) t)) | inr d ↦ l.whole z d t ];
-    })
-  ]))
+    },
+  )
+]))
 
 -- ---- moves
 

@@ -61,11 +61,11 @@ added_same : (g : Grammar) (skip : Bool) (d : DefText) (n : RuleId) → n.0 ≤ 
 unfolding after
 added_same g true d n old =
     find_push-first (λ (live : Definition). live.number.0 == n.0) g.definitions
-        (defined (with_symbols g.symbols (symbols_of (AddSkip d))) (g.version + 1) true d)
+    (defined (with_symbols g.symbols (symbols_of (AddSkip d))) (g.version + 1) true d)
     (ne_eqb (g.version + 1) n.0 (λ e. omega arith))
 added_same g false d n old =
     find_push-first (λ (live : Definition). live.number.0 == n.0) g.definitions
-        (defined (with_symbols g.symbols (symbols_of (AddToken d))) (g.version + 1) false d)
+    (defined (with_symbols g.symbols (symbols_of (AddToken d))) (g.version + 1) false d)
     (ne_eqb (g.version + 1) n.0 (λ e. omega arith))
 
 dropped_same : (g : Grammar) (skip : Bool) (name : List ℕ) (gone : Definition) (n : RuleId) → IsWellFormed g → IsAccepted g (drops skip name)

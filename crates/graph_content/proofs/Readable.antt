@@ -54,8 +54,11 @@ unfolding after
 readable_after g (AddRule r) read accepted =
     record { symbols = symbols_read g.symbols (symbols_of (AddRule r)) read.symbols (solid_edit (AddRule r) accepted.proper.0); definitions = read.definitions }
 readable_after g (DropRule r) read accepted =
-    record { symbols = symbols_read g.symbols (symbols_of (DropRule r)) read.symbols (solid_edit (DropRule r) accepted.proper.0); definitions =
-    read.definitions }
+    record {
+      symbols = symbols_read g.symbols (symbols_of (DropRule r)) read.symbols (solid_edit (DropRule r) accepted.proper.0);
+      definitions =
+          read.definitions;
+    }
 readable_after g (AddToken d) read accepted = record {
   symbols = symbols_read g.symbols (symbols_of (AddToken d)) read.symbols (solid_edit (AddToken d) accepted.proper.0);
   definitions = all_push IsSpelled g.definitions _ read.definitions accepted.proper.1;

@@ -22,24 +22,34 @@ move_over : (rules others : List Rule) (items : List Item) → AreSameMoves rule
     → IsMoveOf rules items x upper → IsMoveOf others items x upper
 move_over rules others items same x upper is = record {
   some = let (item, m) = is.some in (item, (same.moves x item).0 m);
-  list = record { ascends = is.list.ascends; within = λ item c. (same.moves x item).0 (is.list.within item c); whole =
-      λ item m. is.list.whole item ((same.moves x item).1 m) };
+  list = record {
+    ascends = is.list.ascends;
+    within = λ item c. (same.moves x item).0 (is.list.within item c);
+    whole =
+        λ item m. is.list.whole item ((same.moves x item).1 m);
+  };
 }
 
 move_back : (rules others : List Rule) (items : List Item) → AreSameMoves rules others items → (x : SymbolId) (upper : List Item)
     → IsMoveOf others items x upper → IsMoveOf rules items x upper
 move_back rules others items same x upper is = record {
   some = let (item, m) = is.some in (item, (same.moves x item).1 m);
-  list = record { ascends = is.list.ascends; within = λ item c. (same.moves x item).1 (is.list.within item c); whole =
-      λ item m. is.list.whole item ((same.moves x item).0 m) };
+  list = record {
+    ascends = is.list.ascends;
+    within = λ item c. (same.moves x item).1 (is.list.within item c);
+    whole =
+        λ item m. is.list.whole item ((same.moves x item).0 m);
+  };
 }
 
 expansion_over : (rules others : List Rule) (items : List Item) (e : Expansion) → AreSameMoves rules others items → IsExpansionOf rules items e
     → IsExpansionOf others items e
 expansion_over rules others items e same is = record {
   move_order = is.move_order;
-  moves = λ x upper. (λ c. move_over rules others items same x upper ((is.moves x upper).0 c),
-      λ m. (is.moves x upper).1 (move_back rules others items same x upper m));
+  moves = λ x upper. (
+    λ c. move_over rules others items same x upper ((is.moves x upper).0 c),
+    λ m. (is.moves x upper).1 (move_back rules others items same x upper m),
+  );
   reduction_order = is.reduction_order;
   reductions = λ k. (λ c. (same.reductions k).0 ((is.reductions k).0 c), λ r. (is.reductions k).1 ((same.reductions k).1 r));
 }

@@ -45,7 +45,7 @@ rule_decides touch rule items words gone fit is = by (names_rule rule.0 words) r
 pub left_decides : (g : Grammar) (touch : Touch) (items : List Item) (e : Expansion) (left : SymbolId) (moves : Bool) → IsExpansionOf g.rules items e
     → touch.left ≡ Some left → (NamesEnded touch items → ⊥)
     → (IsTrue moves ↔ ((upper : List Item) × Contains e.moves (left, upper)))
-        → MatchBool moves (IsTouched g touch (kernel items)) (IsTouched g touch (kernel items) → ⊥)
+    → MatchBool moves (IsTouched g touch (kernel items)) (IsTouched g touch (kernel items) → ⊥)
 left_decides g touch items e left true is at none tells =
     let (upper, there) = tells.0 refl in
     inr (left, at, ((is.moves left upper).0 there).some)
@@ -54,7 +54,7 @@ left_decides g touch items e left false is at none tells = λ w. elim w [
   | inr (x, at', move) ↦
       let same : x ≡ left = same_some x left (sym at' ∙ at) in
       has_upper g.rules items left (subst (HasMove g.rules (Contains items)) same move)
-          (λ upper m. let told : false ≡ true = tells.1 (upper, (is.moves left upper).1 m) in absurd cc)
+      (λ upper m. let told : false ≡ true = tells.1 (upper, (is.moves left upper).1 m) in absurd cc)
 ]
 
 pub no_left : (g : Grammar) (touch : Touch) (items : List Item) → touch.left ≡ None → (NamesEnded touch items → ⊥) → IsTouched g touch (kernel items) → ⊥
@@ -93,7 +93,7 @@ pub set_row : (g : Grammar) (touch : Touch) (key : ScanKey) (row payload names :
 set_row g touch Start row payload names is other fit same b told = absurd (other (ap (λ ws. get_or ws 2 0) is))
 set_row g touch (Set marks) row payload names is other fit same b told =
     subst (λ c. MatchBool c (IsTouched g touch (scan (Set marks))) (IsTouched g touch (scan (Set marks)) → ⊥)) (sym told)
-        (marks_decide g touch marks names fit same)
+    (marks_decide g touch marks names fit same)
 
 pub scan_row_long : (key : ScanKey) (row payload : List ℕ) → row ≡ row_words (scan key) payload → 2 < length row
 scan_row_long Start row payload is = omega (arith, ap length is)
@@ -104,7 +104,7 @@ scan_row_long (Set marks) row payload is = omega (arith, ap length is)
 pub of_items : (g : Grammar) (touch : Touch) (row : List ℕ) (told : Bool)
     → ((key : Key) (payload : List ℕ) → row ≡ row_words key payload → Items ≡ kind_of_key key)
     → ((h : Grammar) (items : List Item) → FitItems items → IsRowOf h (kernel items) row
-        → MatchBool told (IsTouched h touch (kernel items)) (IsTouched h touch (kernel items) → ⊥))
+    → MatchBool told (IsTouched h touch (kernel items)) (IsTouched h touch (kernel items) → ⊥))
     → (key : Key) → FitsKey key → IsRowOf g key row → MatchBool told (IsTouched g touch key) (IsTouched g touch key → ⊥)
 of_items g touch row told kind answer (kernel items) fit is = answer g items fit is
 of_items g touch row told kind answer (scan key) fit is = let other : Items ≡ Scan = kind (scan key) is.payload is.words in absurd cc
@@ -112,7 +112,7 @@ of_items g touch row told kind answer (scan key) fit is = let other : Items ≡ 
 pub of_scan : (g : Grammar) (touch : Touch) (row : List ℕ) (told : Bool)
     → ((key : Key) (payload : List ℕ) → row ≡ row_words key payload → Scan ≡ kind_of_key key)
     → ((h : Grammar) (key : ScanKey) → FitsScanKey key → IsRowOf h (scan key) row
-        → MatchBool told (IsTouched h touch (scan key)) (IsTouched h touch (scan key) → ⊥))
+    → MatchBool told (IsTouched h touch (scan key)) (IsTouched h touch (scan key) → ⊥))
     → (key : Key) → FitsKey key → IsRowOf g key row → MatchBool told (IsTouched g touch key) (IsTouched g touch key → ⊥)
 of_scan g touch row told kind answer (kernel items) fit is = let other : Scan ≡ Items = kind (kernel items) is.payload is.words in absurd cc
 of_scan g touch row told kind answer (scan key) fit is = answer g key fit is

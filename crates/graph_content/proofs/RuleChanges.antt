@@ -42,7 +42,7 @@ numbers_differ : (g : Grammar) → IsWellFormed g → IsNumbered g.rules
 numbers_differ g well = record {
   same = λ a b left right e.
       distinct_map (λ (r : Rule). r.number.0) g.rules a b (sorted_keys (λ (r : Rule). r.number.0) g.rules well.rule_order) left right
-          (ap (λ (n : RuleId). n.0) e);
+      (ap (λ (n : RuleId). n.0) e);
   some = λ a there e.
       let number = each_contained (λ (r : Rule). IsNumber g.version r.number.0) g.rules a well.rule_numbers there in
       let zero : a.number.0 ≡ 0 = ap (λ (n : RuleId). n.0) e in

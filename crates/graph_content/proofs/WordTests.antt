@@ -74,8 +74,8 @@ pub named_among : (definitions : List DefId) (marks : List Mark) → FitMarks ma
     → (mark : Mark) × Contains marks mark × Contains definitions mark.def
 named_among definitions marks fit e =
     let (mark, c, passes) =
-        any_of (λ (mark : Mark). is_among definitions (mark_number mark / 256)) marks
-        (sym (any_map mark_number (λ word. is_among definitions (word / 256)) marks) ∙ e) in
+    any_of (λ (mark : Mark). is_among definitions (mark_number mark / 256)) marks
+    (sym (any_map mark_number (λ word. is_among definitions (word / 256)) marks) ∙ e) in
     (mark, c, is_among_of definitions mark.def (sym (ap (is_among definitions) (definition_in mark (fit mark c))) ∙ passes))
 
 pub among_named : (definitions : List DefId) (marks : List Mark) → FitMarks marks → (mark : Mark) → Contains marks mark → Contains definitions mark.def
@@ -83,4 +83,4 @@ pub among_named : (definitions : List DefId) (marks : List Mark) → FitMarks ma
 among_named definitions marks fit mark c gone =
     any_map mark_number (λ word. is_among definitions (word / 256)) marks
     ∙ of_any (λ (mark : Mark). is_among definitions (mark_number mark / 256)) marks mark c
-        (ap (is_among definitions) (definition_in mark (fit mark c)) ∙ of_among definitions mark.def gone)
+    (ap (is_among definitions) (definition_in mark (fit mark c)) ∙ of_among definitions mark.def gone)

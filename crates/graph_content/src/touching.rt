@@ -47,9 +47,7 @@ fn is_among(definitions: &[DefId], number: u64) -> bool
 fn names_among(words: &[u64], definitions: &[DefId]) -> bool
     ensures { result ≡ names_among definitions.now words.now }
 {
-    words
-        .iter()
-        .any(|word| is_among(definitions, *word / 256))
+    words.iter().any(|word| is_among(definitions, *word / 256))
 }
 
 /// Whether an expansion has a move on the symbol. The words are its payload. Moves ascend by symbol, so the

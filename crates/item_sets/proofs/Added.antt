@@ -145,7 +145,7 @@ module _ (rules : List Rule) (numbers : IsNumbered rules) (kernel : List Item) (
   pub added_distinct : IsStrictlySortedBy rule_cmp rules → IsDistinct adds
   added_distinct ascend = distinct_mapped (λ (k : RuleId). item_at k 0) (λ a b e. ap (λ (item : Item). item.rule) e) (filter is_new (numbers_of_left rules x))
       (distinct_filtered is_new (numbers_of_left rules x)
-        (distinct_filter (λ (r : Rule). r.number) (λ (r : Rule). r.left.0 == x.0) rules (distinct_numbers rules (sorted_keys (λ (r : Rule). r.number.0) rules ascend))))
+      (distinct_filter (λ (r : Rule). r.number) (λ (r : Rule). r.left.0 == x.0) rules (distinct_numbers rules (sorted_keys (λ (r : Rule). r.number.0) rules ascend))))
 
 -- a rule of the symbol with the dot at 0 is an item of the rules
 pub number_item : (rules : List Rule) (x : SymbolId) (some : List RuleId) (i : ℕ) (d : RuleId) → some ≡ numbers_of_left rules x → i < length some → IsItem rules (item_at (get_or some i d) 0)

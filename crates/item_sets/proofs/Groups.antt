@@ -78,7 +78,7 @@ first_group s (t ∷ shifts) = rw (eq-eqb s.symbol.0 s.symbol.0 refl) (by (is_of
     by true e rec =
         let same : t.symbol ≡ s.symbol = same_symbol t.symbol s.symbol (eqb-true t.symbol.0 s.symbol.0 e) in
         let rest : grouped (t ∷ shifts) ≡ (s.symbol, map item_of (run s.symbol (t ∷ shifts))) ∷ grouped (behind s.symbol (t ∷ shifts)) =
-            subst (λ (x : SymbolId). grouped (t ∷ shifts) ≡ (x, map item_of (run x (t ∷ shifts))) ∷ grouped (behind x (t ∷ shifts))) same rec in
+        subst (λ (x : SymbolId). grouped (t ∷ shifts) ≡ (x, map item_of (run x (t ∷ shifts))) ∷ grouped (behind x (t ∷ shifts))) same rec in
         rw (rest, eq-eqb s.symbol.0 s.symbol.0 refl, e) refl
     by false e rec =
         let head = starts t (grouped shifts) in

@@ -11,7 +11,7 @@ bounds-rest-0 c =
 pub returns-then-found-wanted : goal.returns-then-found-wanted
 returns-then-found-wanted c =
     head_decides c.args.payload.now c.loop.rest.now c.loop.counter c.from-wanted.result c.loop.invariant.moves c.args.symbol c.from-wanted.ensures
-        c.loop-test.true c.if-found-wanted.true
+    c.loop-test.true c.if-found-wanted.true
 
 pub bounds-rest-1 : goal.bounds-rest-1
 bounds-rest-1 c =

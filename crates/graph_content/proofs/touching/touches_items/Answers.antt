@@ -14,7 +14,7 @@ moves_on-requires c =
 pub returns-in-Some : goal.returns-in-Some
 returns-in-Some c = λ g items fit is.
     left_decides g c.args.touch.now items is.codes.0 c.in-Some.left c.moves_on.result is.codes.1 c.in-Some.is
-        (c.if-names_ended.ensures items is.payload fit is.words)
+    (c.if-names_ended.ensures items is.payload fit is.words)
     (c.moves_on.ensures is.codes.0 (c.payload_in.ensures (kernel items) is.payload is.words ∙ is.codes.2))
 
 pub returns-in-None : goal.returns-in-None

@@ -13,5 +13,5 @@ returns-then-row-eq2 c = λ g key fit is. start_row g c.args.touch.now key c.arg
 pub returns : goal.returns
 returns c = λ g key fit is.
     set_row g c.args.touch.now key c.args.row.now is.payload c.names_in.result.now is.words c.if-row-eq2.false fit
-        (c.names_in.ensures (scan key) is.payload is.words) c.names_among.result
+    (c.names_in.ensures (scan key) is.payload is.words) c.names_among.result
     (c.names_among.ensures ∙ ap (λ ds. names_among ds c.names_in.result.now) c.as_slice.ensures)
