@@ -37,7 +37,7 @@ fn read(alloc: Global, line: &str) -> Result<Edit, AllocError>
 }
 
 fn check_expression(alloc: Global, expression: &Text) -> Result<(), AllocError>
-    requires { length expression.now ≤ 248 }
+    requires { length expression.now ≤ EDIT_LIMIT }
     ensures { OnOk result ((e : Expression) × SpellsWithinLimits expression.now e) }
 {
     match read_regex(alloc, expression.bytes()) {

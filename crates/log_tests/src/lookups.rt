@@ -49,36 +49,69 @@ fn finds_rules(rt: HostRuntime) -> Result<(), Fail> {
     Ok(())
 }
 
-/// Whether each symbol of the grammar is found by its name under its own number.
-fn finds_each(grammar: &Grammar) -> bool {
-    for number in 0..grammar.symbols() {
-        let symbol = SymbolId(number);
-        if grammar.symbol(grammar.name(symbol)) != Some(symbol) {
-            return false;
-        }
+/// The number of the symbol, or 99 where it never appeared.
+fn number_of(grammar: &Grammar, symbol: &Symbol) -> u32 {
+    match grammar.symbol(symbol) {
+        Some(number) => number.0,
+        None => 99,
     }
-    true
 }
 
-/// The number of the literal with these bytes, or none.
-fn tell_literal(alloc: Global, grammar: &Grammar, bytes: &[u8]) -> Result<String, AllocError> {
-    let literal = Symbol::Literal(Text::from_vec(Vec::from_slice(alloc, bytes)?));
-    match grammar.symbol(&literal) {
-        Some(symbol) => format!(in alloc; "{}", symbol.0),
-        None => String::from_str(alloc, "none"),
+/// The number of the symbol that has this number, by its name.
+fn number_by_name(grammar: &Grammar, number: u32) -> u32 {
+    if number >= grammar.symbols() {
+        return 99;
     }
+    number_of(grammar, grammar.name(SymbolId(number)))
+}
+
+/// The numbers of all symbols, each found by its name.
+fn numbers_by_name(alloc: Global, grammar: &Grammar) -> Result<Vec<u32>, AllocError> {
+    let mut numbers = Vec::new(alloc);
+    for number in 0..grammar.symbols() {
+        numbers.push(number_by_name(grammar, number))?;
+    }
+    Ok(numbers)
+}
+
+/// The number of the literal with these bytes, or 99.
+fn number_of_literal(alloc: Global, grammar: &Grammar, bytes: &[u8]) -> Result<u32, AllocError> {
+    let literal = Symbol::Literal(Text::from_vec(Vec::from_slice(alloc, bytes)?));
+    Ok(number_of(grammar, &literal))
 }
 
 #[test]
 fn finds_symbols(rt: HostRuntime) -> Result<(), Fail> {
     let grammar = grammar_from(rt.alloc(), LINES)?;
-    assert_eq!(rt; grammar.symbols(), 6);
-    assert!(rt; finds_each(&grammar));
-    let plus = tell_literal(rt.alloc(), &grammar, "+".as_bytes())?;
-    assert_eq!(rt; plus.as_str(), "4");
-    let times = tell_literal(rt.alloc(), &grammar, "*".as_bytes())?;
-    assert_eq!(rt; times.as_str(), "none");
+    let numbers = numbers_by_name(rt.alloc(), &grammar)?;
+    assert_eq!(rt; numbers.as_slice(), [0, 1, 2, 3, 4, 5].as_slice());
+    let plus = number_of_literal(rt.alloc(), &grammar, "+".as_bytes())?;
+    assert_eq!(rt; plus, 4);
+    let times = number_of_literal(rt.alloc(), &grammar, "*".as_bytes())?;
+    assert_eq!(rt; times, 99);
     Ok(())
+}
+
+/// What the definition is: 100 and the number of its symbol for a token, 1 for a skip, 0 where it is not live.
+fn kind_in_number(grammar: &Grammar, definition: DefId) -> u32 {
+    match grammar.kind(definition) {
+        Some(DefKind::Token(symbol)) => symbol.0.saturating_add(100),
+        Some(DefKind::Skip) => 1,
+        None => 0,
+    }
+}
+
+/// What each of the definitions is, in a number.
+fn kinds_in_numbers(
+    alloc: Global,
+    grammar: &Grammar,
+    definitions: &[DefId],
+) -> Result<Vec<u32>, AllocError> {
+    let mut kinds = Vec::new(alloc);
+    for definition in definitions {
+        kinds.push(kind_in_number(grammar, *definition))?;
+    }
+    Ok(kinds)
 }
 
 #[test]
@@ -89,11 +122,11 @@ fn finds_definitions(rt: HostRuntime) -> Result<(), Fail> {
     let name = DefId::Named(RuleId(1));
     let space = DefId::Named(RuleId(2));
     assert_eq!(rt; grammar.live_defs(), [plus, minus, name, space].as_slice());
-    assert_eq!(rt; grammar.kind(plus), Some(DefKind::Token(SymbolId(4))));
-    assert_eq!(rt; grammar.kind(name), Some(DefKind::Token(SymbolId(1))));
-    assert_eq!(rt; grammar.kind(space), Some(DefKind::Skip));
-    assert_eq!(rt; grammar.kind(DefId::Literal(SymbolId(3))), None);
-    assert_eq!(rt; grammar.kind(DefId::Named(RuleId(3))), None);
+    let dead = DefId::Literal(SymbolId(3));
+    let other = DefId::Named(RuleId(3));
+    let all = [plus, name, space, dead, other];
+    let kinds = kinds_in_numbers(rt.alloc(), &grammar, all.as_slice())?;
+    assert_eq!(rt; kinds.as_slice(), [104, 101, 1, 0, 0].as_slice());
     Ok(())
 }
 

@@ -120,17 +120,24 @@ fn longest(
     Ok(None)
 }
 
+/// The symbol of a token, and none of a skip.
+fn symbol_of(grammar: &Grammar, definition: DefId) -> Option<u32> {
+    match grammar.kind(definition) {
+        Some(DefKind::Token(kind)) => Some(kind.0),
+        _ => None,
+    }
+}
+
 /// The token with the number of its symbol and the offsets of its ends, and nothing of a skip.
 fn tell_token(
     alloc: Global,
-    grammar: &Grammar,
-    definition: DefId,
+    symbol: Option<u32>,
     from: usize,
     to: usize,
 ) -> Result<String, AllocError> {
-    match grammar.kind(definition) {
-        Some(DefKind::Token(kind)) => format!(in alloc; "{} {from} {to},", kind.0),
-        _ => Ok(String::new(alloc)),
+    match symbol {
+        Some(number) => format!(in alloc; "{number} {from} {to},"),
+        None => Ok(String::new(alloc)),
     }
 }
 
@@ -150,7 +157,7 @@ fn tell_next(
         return Ok(text.len());
     };
     let end = offset + len.min(text.len() - offset);
-    told.push_str(&tell_token(alloc, grammar, definition, offset, end)?)?;
+    told.push_str(&tell_token(alloc, symbol_of(grammar, definition), offset, end)?)?;
     Ok(end)
 }
 
