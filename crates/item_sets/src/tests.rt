@@ -3,6 +3,7 @@
 ghost use Rattle.std.specs.Prelude.{◌≡◌, ◌<◌, ◌==◌, not, IsTrue, IfOk};
 ghost use Rattle.std.specs.List.{list_all};
 ghost use Rattle.grammar_text.specs.Limits.{IsSound};
+ghost use Rattle.edit_log.specs.Verdict.{IsProper};
 
 use super::*;
 use edit_log::{Grammar, Refusal, may};
@@ -34,18 +35,24 @@ fn read(alloc: Global, line: &str) -> Result<Edit, BadEdit>
     read_edit(alloc, bytes)
 }
 
+fn take(alloc: Global, grammar: &mut Grammar, edit: &Edit) -> Result<(), Refusal>
+    requires { IsProper edit.now }
+{
+    let entry = may(alloc, grammar, edit)?;
+    let ready = grammar.prepare(&entry)?;
+    grammar.apply(ready);
+    Ok(())
+}
+
 fn take_line(alloc: Global, grammar: &mut Grammar, line: &str) -> Result<(), Refusal> {
     let Ok(edit) = read(alloc, line) else {
         return Err(Refusal::NoMemory);
     };
-    let entry = match &edit {
-        Edit::AddRule(_) => may(alloc, grammar, &edit)?,
-        Edit::DropRule(_) => may(alloc, grammar, &edit)?,
-        _ => return Err(Refusal::NoSuch),
-    };
-    let ready = grammar.prepare(&entry)?;
-    grammar.apply(ready);
-    Ok(())
+    match &edit {
+        Edit::AddRule(_) => take(alloc, grammar, &edit),
+        Edit::DropRule(_) => take(alloc, grammar, &edit),
+        _ => Err(Refusal::NoSuch),
+    }
 }
 
 fn grammar_of(alloc: Global, edits: &str) -> Result<Grammar, Refusal> {
