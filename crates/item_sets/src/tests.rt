@@ -3,6 +3,7 @@
 ghost use Rattle.std.specs.Prelude.{◌≡◌, ◌<◌, ◌==◌, not, IsTrue, IfOk};
 ghost use Rattle.std.specs.List.{list_all};
 ghost use Rattle.grammar_text.specs.Limits.{IsSound};
+ghost use Rattle.edit_log.specs.Verdict.{IsProper};
 
 use super::*;
 use edit_log::{Grammar, Refusal, may};
@@ -34,18 +35,24 @@ fn read(alloc: Global, line: &str) -> Result<Edit, BadEdit>
     read_edit(alloc, bytes)
 }
 
+fn take(alloc: Global, grammar: &mut Grammar, edit: &Edit) -> Result<(), Refusal>
+    requires { IsProper edit.now }
+{
+    let entry = may(alloc, grammar, edit)?;
+    let ready = grammar.prepare(&entry)?;
+    grammar.apply(ready);
+    Ok(())
+}
+
 fn take_line(alloc: Global, grammar: &mut Grammar, line: &str) -> Result<(), Refusal> {
     let Ok(edit) = read(alloc, line) else {
         return Err(Refusal::NoMemory);
     };
-    let entry = match &edit {
-        Edit::AddRule(_) => may(alloc, grammar, &edit)?,
-        Edit::DropRule(_) => may(alloc, grammar, &edit)?,
-        _ => return Err(Refusal::NoSuch),
-    };
-    let ready = grammar.prepare(&entry)?;
-    grammar.apply(ready);
-    Ok(())
+    match &edit {
+        Edit::AddRule(_) => take(alloc, grammar, &edit),
+        Edit::DropRule(_) => take(alloc, grammar, &edit),
+        _ => Err(Refusal::NoSuch),
+    }
 }
 
 fn grammar_of(alloc: Global, edits: &str) -> Result<Grammar, Refusal> {
@@ -84,15 +91,13 @@ fn tell_moves(told: &mut Vec<u32>, moves: &[(SymbolId, Kernel)]) -> Result<(), A
     Ok(())
 }
 
-/// The moves of the start kernel, whether it has no reduction, and whether it moves on symbols 2 and 3.
-fn told(alloc: Global, edits: &str) -> Result<Vec<u32>, Refusal> {
-    let grammar = grammar_of(alloc, edits)?;
-    let expansion = start_expanded::<Brand>(alloc, &grammar, Blank::new(1))?;
+/// The moves, whether there is no reduction, and whether there are moves on symbols 2 and 3.
+fn told(alloc: Global, expansion: &Expansion) -> Result<Vec<u32>, AllocError> {
     let mut told = Vec::new(alloc);
     tell_moves(&mut told, expansion.moves.as_slice())?;
     told.push(u32::from(expansion.reductions.as_slice().is_empty()))?;
-    told.push(u32::from(has_move(&expansion, SymbolId(2))))?;
-    told.push(u32::from(has_move(&expansion, SymbolId(3))))?;
+    told.push(u32::from(has_move(expansion, SymbolId(2))))?;
+    told.push(u32::from(has_move(expansion, SymbolId(3))))?;
     Ok(told)
 }
 
@@ -102,7 +107,9 @@ const WANT: &[u32] = &[0, 0, 1, END, 1, 1, 1, 2, 1, END, 3, 3, 1, END, 1, 0, 1];
 
 #[test]
 fn expands_the_start_kernel(rt: HostRuntime) -> Result<(), Fail> {
-    assert_eq!(rt; told(rt.alloc(), SUMS)?.as_slice(), WANT);
+    let grammar = grammar_of(rt.alloc(), SUMS)?;
+    let expansion = start_expanded::<Brand>(rt.alloc(), &grammar, Blank::new(1))?;
+    assert_eq!(rt; told(rt.alloc(), &expansion)?.as_slice(), WANT);
     Ok(())
 }
 
