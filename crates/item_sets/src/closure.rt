@@ -62,7 +62,7 @@ fn visit_rules<L: Ledger>(
     ensures walk { OnOk result ((items : List Item)
         → IsWalk grammar.now.grammar.rules items walk.old.symbols.keys walk.old.shifts.items walk.old.reductions.items
         → IsWalk grammar.now.grammar.rules (items ++ added_items early.now (numbers_of_left grammar.now.grammar.rules symbol))
-            walk.new.symbols.keys walk.new.shifts.items walk.new.reductions.items) }
+        walk.new.symbols.keys walk.new.shifts.items walk.new.reductions.items) }
     ensures extends { OnOk result (Extends walk.old.symbols.keys walk.new.symbols.keys) }
     ensures steps { OnOk result (steps.new ≡ steps.old + length (added_items early.now (numbers_of_left grammar.now.grammar.rules symbol))) }
     ensures never_back { steps.old ≤ steps.new }

@@ -35,10 +35,7 @@ fn kernel_of(alloc: Global, shifts: &[Shift]) -> Result<Kernel, NoMemory>
 }
 
 /// The moves that the shifts make: one for each symbol.
-pub(crate) fn moves_of(
-    alloc: Global,
-    shifts: &[Shift],
-) -> Result<Vec<(SymbolId, Kernel)>, NoMemory>
+pub(crate) fn moves_of(alloc: Global, shifts: &[Shift]) -> Result<Vec<(SymbolId, Kernel)>, NoMemory>
     requires { IsStrictlySortedBy shift_cmp shifts.now }
     ensures { IfOk result (λ moves. moves.items ≡ grouped shifts.now) }
 {

@@ -33,7 +33,7 @@ returns-clause-expansion g c =
     let sort = c.sort_unstable.ensures in
     let sort_ends = c.sort_unstable-2.ensures in
     expanded _ (numbered c.args.grammar.now.grammar c.is_formed.ensures) c.args.kernel.now c.requires _ _ w c.sort_unstable.new.self.items c.sort_unstable-2.new.self.items
-        sort.permutation sort.sorted sort_ends.permutation sort_ends.sorted _ (c.from_vec.ensures ∙ c.in_ok-moves.ensures ∙ ap grouped c.deref.ensures.value) c.from_vec-2.ensures
+    sort.permutation sort.sorted sort_ends.permutation sort_ends.sorted _ (c.from_vec.ensures ∙ c.in_ok-moves.ensures ∙ ap grouped c.deref.ensures.value) c.from_vec-2.ensures
 
 pub returns-clause-steps : goal.returns-clause-steps
 returns-clause-steps g c =
