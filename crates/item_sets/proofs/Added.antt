@@ -1,5 +1,5 @@
 -- The items that a symbol adds to a closure: its rules with the dot at 0, but for those that begin in the kernel.
-use Rattle.std.proofs.Common.{◌≡◌, ℕ, ◌<◌, ◌==◌, ◌&&◌, ◌⊎◌, inl, inr, Bool, true, false, cond, not, List, [], ◌∷◌, ◌++◌, length, map, filter, nat_eq, refl, sym, ◌∙◌, ap, subst, arith, Contains, slice_get, Some, get_or}
+use Rattle.std.proofs.Common.{◌≡◌, ℕ, ◌<◌, ◌==◌, ◌⊎◌, inl, inr, Bool, true, false, cond, not, List, [], ◌∷◌, length, map, filter, nat_eq, refl, sym, ◌∙◌, ap, subst, arith, Contains, slice_get, Some, get_or}
 use Rattle.std.specs.List.{list_any}
 use Rattle.std.specs.Cmp.{IsEquivalence, nat_eq_equiv}
 use Rattle.std.specs.List.Sorted.{IsStrictlySortedBy}
@@ -11,7 +11,6 @@ use Rattle.forest.specs.declared.rules.RuleId.{RuleId}
 use Rattle.forest.specs.declared.rules.Rule.{Rule}
 use Rattle.forest.specs.Distinct.{IsDistinct}
 use Rattle.forest.specs.Orders.{rule_cmp}
-use Rattle.forest.proofs.Ascending.{contains_here, contains_there, contains_cases}
 use Rattle.edit_log.specs.Lookups.{numbers_of_left}
 use Rattle.edit_log.proofs.PlainLists.{each_contained, contains_map, contains_map_from, contains_at, contains_filter, filter_passes, distinct_filter, sorted_keys}
 use Rattle.item_sets.specs.declared.item.Item.{Item}

@@ -1,10 +1,9 @@
 -- A closure on the way: the rules of some of the symbols that stand after dots were met.
-use Rattle.std.proofs.Common.{◌≡◌, ℕ, suc, ◌+◌, ◌<◌, ◌≤◌, ◌⊎◌, inl, inr, List, [], ◌∷◌, ◌++◌, length, refl, sym, ◌∙◌, ap, subst, arith, Contains, slice_get, Option, Some, get_or}
+use Rattle.std.proofs.Common.{◌≡◌, ℕ, ◌+◌, ◌<◌, ◌≤◌, ◌⊎◌, inl, inr, List, [], ◌∷◌, ◌++◌, length, refl, sym, ◌∙◌, ap, subst, arith, Contains, slice_get, Some, get_or}
 use Rattle.std.specs.List.{flat_map}
 use Rattle.std.specs.List.Sorted.{IsStrictlySortedBy}
 use Rattle.std.specs.Ordering.{ordering_reverse}
 use Rattle.std.specs.declared.cmp.Ordering.TheVariants.{Less}
-use Rattle.std.specs.Cmp.{IsTotalOrder}
 use Rattle.std.proofs.lemmas.Bool.{cases_lt}
 use Rattle.std.proofs.lemmas.List.{length-append}
 use Rattle.std.proofs.lemmas.List.Elements.{Contains-append_left, Contains-append_right, Contains-append_cases}
@@ -30,7 +29,7 @@ use Rattle.item_sets.proofs.DistinctLists.{distinct_append}
 use Rattle.item_sets.proofs.Numbering.{IsNumbered}
 use Rattle.item_sets.proofs.Positions.{next_to, next_from}
 use Rattle.item_sets.proofs.Kernels.{item_cmp_total}
-use Rattle.item_sets.proofs.Added.{IsRuleOf, IsAddedBy, adds, added_from, added_to, added_distinct}
+use Rattle.item_sets.proofs.Added.{IsAddedBy, adds, added_from, added_to, added_distinct}
 
 -- ---- plain lists
 

@@ -1,9 +1,9 @@
 -- The shifts and reductions of a closure, in order, are the kernel's expansion.
-use Rattle.std.proofs.Common.{◌≡◌, ℕ, suc, ◌+◌, ◌↔◌, Bool, true, List, [], ◌∷◌, length, refl, sym, ◌∙◌, ap, subst, arith, add-one, Contains, Option, Some, None, nat_eq}
+use Rattle.std.proofs.Common.{◌≡◌, suc, ◌+◌, ◌↔◌, Bool, true, List, length, refl, sym, ◌∙◌, ap, subst, arith, add-one, Contains, Option, Some, None, nat_eq}
 use Rattle.std.specs.List.{filter_map}
 use Rattle.std.specs.List.Sorted.{IsSorted, IsStrictlySortedBy, IsPermutation}
 use Rattle.std.specs.Option.{option_map}
-use Rattle.std.specs.Ordering.{on, eq_of_both, eq_by_cmp}
+use Rattle.std.specs.Ordering.{on, eq_of_both}
 use Rattle.std.specs.Cmp.{IsEquivalence, on_equiv, and_equiv, nat_eq_equiv, first_so, second_so}
 use Rattle.std.proofs.lemmas.Bool.{eqb-true}
 use Rattle.std.proofs.lemmas.List.Sorted.{Contains-permutation, IsPermutation-sym}
@@ -17,8 +17,8 @@ use Rattle.item_sets.specs.contracts.walk.ShiftOrd.TheImpl.Laws.{total-law as sh
 use Rattle.item_sets.specs.declared.item.Item.{Item}
 use Rattle.item_sets.specs.declared.expansion.Expansion.{Expansion}
 use Rattle.item_sets.specs.declared.walk.Shift.{Shift}
-use Rattle.item_sets.specs.Orders.{item_cmp, item_eq, item_equiv, move_cmp, reduction_cmp, number_eq}
-use Rattle.item_sets.specs.Prefixes.{item_at, HasRight, IsNext, IsItem, AreItems, IsListOf}
+use Rattle.item_sets.specs.Orders.{item_eq, item_equiv, reduction_cmp, number_eq}
+use Rattle.item_sets.specs.Prefixes.{item_at, HasRight, IsItem, AreItems, IsListOf}
 use Rattle.item_sets.specs.Expansions.{InClosure, InMove, past, IsReduction, IsMoveOf, IsExpansionOf}
 use Rattle.item_sets.specs.Walks.{next_of, shift_of, reduction_of, finished, shift_cmp, grouped, IsWalk, IsClosureOf}
 use Rattle.item_sets.proofs.DistinctLists.{makes, made, distinct_made, strictly}

@@ -1,8 +1,6 @@
 -- What a kernel expands to is told by the kernel, and by its prefix where it is that of one.
-use Rattle.std.proofs.Common.{◌≡◌, ℕ, ◌↔◌, List, [], ◌∷◌, ◌++◌, length, refl, sym, ◌∙◌, ap, subst, arith, Contains}
-use Rattle.std.specs.Ordering.{nat_cmp, on}
+use Rattle.std.proofs.Common.{◌≡◌, ℕ, ◌↔◌, List, [], ◌∷◌, ◌++◌, arith, Contains}
 use Rattle.std.specs.Cmp.{IsTotalOrder, nat_cmp_total, on_total}
-use Rattle.std.specs.List.Sorted.{IsStrictlySortedBy}
 use Rattle.forest.specs.declared.symbols.SymbolId.{SymbolId}
 use Rattle.forest.specs.declared.rules.RuleId.{RuleId}
 use Rattle.forest.specs.declared.rules.Rule.{Rule}
@@ -11,10 +9,10 @@ use Rattle.forest.proofs.Counting.{at_most}
 use Rattle.item_sets.specs.declared.item.Item.{Item}
 use Rattle.item_sets.specs.declared.expansion.Expansion.{Expansion}
 use Rattle.item_sets.specs.Orders.{move_cmp, reduction_cmp}
-use Rattle.item_sets.specs.Prefixes.{AreItems, EndsChain, InKernel, IsViable, IsKernelOf, IsListOf}
-use Rattle.item_sets.specs.Expansions.{InClosure, own, added, InMove, past, HasMove, IsMoveOf, IsExpansionOf, IsCost}
+use Rattle.item_sets.specs.Prefixes.{AreItems, EndsChain, InKernel, IsViable, IsKernelOf}
+use Rattle.item_sets.specs.Expansions.{InClosure, own, added, InMove, past, IsMoveOf, IsExpansionOf, IsCost}
 use Rattle.item_sets.proofs.Chains.{HasOneRight, closure_is_valid, kernel_is_move, viable_is_move}
-use Rattle.item_sets.proofs.Kernels.{one_list, same_set, moved_is_item}
+use Rattle.item_sets.proofs.Kernels.{same_set, moved_is_item}
 
 pub closure_of_more : {rules : List Rule} {K L : Item → Type 0} {item : Item} → ((it : Item) → K it → L it) → InClosure rules K item → InClosure rules L item
 closure_of_more f (own k) = own (f _ k)

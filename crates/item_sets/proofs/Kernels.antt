@@ -1,17 +1,16 @@
 -- A list of items is known by its set, and what the kernels of prefixes are.
-use Rattle.std.proofs.Common.{◌≡◌, ℕ, suc, ◌<◌, ◌≤◌, ◌↔◌, inl, inr, List, [], ◌∷◌, ◌++◌, length, refl, sym, ◌∙◌, ap, subst, arith, Contains}
+use Rattle.std.proofs.Common.{◌≡◌, ◌<◌, ◌↔◌, inl, inr, List, [], ◌∷◌, refl, sym, subst, arith, Contains}
 use Rattle.std.proofs.lemmas.Option.{slice_get_within}
-use Rattle.std.specs.Ordering.{nat_cmp, ordering_then, on}
+use Rattle.std.specs.Ordering.{nat_cmp, on}
 use Rattle.std.specs.Cmp.{IsTotalOrder, nat_cmp_total, then_total, on_total}
 use Rattle.std.specs.List.Sorted.{IsStrictlySortedBy}
 use Rattle.forest.specs.declared.symbols.SymbolId.{SymbolId}
 use Rattle.forest.specs.declared.symbols.TheConstants.{START}
-use Rattle.forest.specs.declared.rules.RuleId.{RuleId}
 use Rattle.forest.specs.declared.rules.Rule.{Rule}
 use Rattle.forest.proofs.Ascending.{same_list, contains_here, contains_cases}
 use Rattle.item_sets.specs.declared.item.Item.{Item}
 use Rattle.item_sets.specs.Orders.{item_cmp}
-use Rattle.item_sets.specs.Prefixes.{rule_zero, item_at, start_item, start_kernel, whole, live, IsItem, AreItems, EndsChain, first, later, InKernel, IsListOf, IsKernelOf}
+use Rattle.item_sets.specs.Prefixes.{start_item, start_kernel, whole, live, IsItem, AreItems, EndsChain, first, later, InKernel, IsListOf, IsKernelOf}
 use Rattle.item_sets.specs.Expansions.{InMove, past}
 use Rattle.item_sets.proofs.Chains.{snoc_some, Steps, begin, shift, predict, to_steps}
 

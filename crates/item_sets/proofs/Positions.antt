@@ -1,10 +1,8 @@
 -- The symbol after an item's dot, found by the number of its rule.
-use Rattle.std.proofs.Common.{◌≡◌, ℕ, zero, suc, ◌+◌, ◌<◌, ◌≤◌, ◌==◌, ◌↔◌, inl, inr, Bool, true, false, cond, List, [], ◌∷◌, length, refl, sym, ◌∙◌, ap, subst, arith, Contains, Option, Some, None, slice_get, find}
-use Rattle.std.specs.Option.{option_and_then}
+use Rattle.std.proofs.Common.{◌≡◌, ℕ, ◌≤◌, ◌==◌, inl, inr, false, List, [], ◌∷◌, length, refl, sym, ◌∙◌, ap, arith, Contains, Some, None, slice_get}
 use Rattle.std.proofs.lemmas.Bool.{eqb-true, eq-eqb, ne_eqb}
-use Rattle.std.proofs.lemmas.Option.{slice_get_within, slice_get_cases}
+use Rattle.std.proofs.lemmas.Option.{slice_get_cases}
 use Rattle.forest.specs.declared.symbols.SymbolId.{SymbolId}
-use Rattle.forest.specs.declared.symbols.TheConstants.{START}
 use Rattle.forest.specs.declared.rules.RuleId.{RuleId}
 use Rattle.forest.specs.declared.rules.Rule.{Rule}
 use Rattle.edit_log.specs.History.{Grammar}
@@ -14,7 +12,7 @@ use Rattle.edit_log.proofs.PlainLists.{each_contained, find_only}
 use Rattle.item_sets.specs.declared.item.Item.{Item}
 use Rattle.item_sets.specs.Prefixes.{rule_zero, item_at, HasRight, whole, live, IsNext, IsItem}
 use Rattle.item_sets.specs.Walks.{next_of}
-use Rattle.item_sets.proofs.Numbering.{IsNumbered, one_right, numbered}
+use Rattle.item_sets.proofs.Numbering.{IsNumbered}
 
 pub number_same : (a b : RuleId) → a.0 ≡ b.0 → a ≡ b
 number_same a b e = let f : ℕ → RuleId = λ n. record { 0 = n } in ap f e

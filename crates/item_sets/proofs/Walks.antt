@@ -1,6 +1,5 @@
 -- One more item of a walk.
-use Rattle.std.proofs.Common.{◌≡◌, ℕ, ◌+◌, ◌↔◌, ◌⊎◌, inl, inr, Bool, true, false, cond, List, [], ◌∷◌, ◌++◌, length, refl, sym, ◌∙◌, ap, subst, arith, Contains, Option, Some, None, nat_eq}
-use Rattle.std.specs.Bool.{Decides}
+use Rattle.std.proofs.Common.{◌≡◌, ℕ, ◌+◌, ◌⊎◌, inl, inr, Bool, true, false, cond, List, [], ◌∷◌, ◌++◌, refl, sym, ◌∙◌, ap, subst, arith, Contains, Option, Some, None}
 use Rattle.std.specs.List.{filter_map, cons_option, list_any}
 use Rattle.std.specs.Cmp.{unsigned_Decides}
 use Rattle.std.proofs.lemmas.List.{append-nil}
@@ -17,7 +16,7 @@ use Rattle.edit_log.proofs.PlainLists.{distinct_push}
 use Rattle.item_sets.specs.declared.item.Item.{Item}
 use Rattle.item_sets.specs.declared.walk.Shift.{Shift}
 use Rattle.item_sets.specs.Prefixes.{item_at}
-use Rattle.item_sets.specs.Walks.{next_of, shift_of, reduction_of, finished, IsWalk, Extends}
+use Rattle.item_sets.specs.Walks.{next_of, shift_of, reduction_of, IsWalk, Extends}
 
 pub symbol_exact : (a b : SymbolId) → symbol_eq a b ≡ true → a ≡ b
 symbol_exact a b e = let f : ℕ → SymbolId = λ n. record { 0 = n } in ap f ((unsigned_Decides a.0 b.0).0 e)

@@ -1,6 +1,4 @@
-use Rattle.std.proofs.Common.{◌≡◌, ◌+◌, ◌-◌, ◌<◌, ◌≤◌, [], length, rules, refl, sym, ◌∙◌, ap, subst, arith}
-use Rattle.forest.specs.declared.symbols.SymbolId.{SymbolId}
-use Rattle.item_sets.specs.Walks.{IsWalk}
+use Rattle.std.proofs.Common.{◌+◌, ◌-◌, ◌<◌, ◌≤◌, [], length, rules, ◌∙◌, arith}
 use Rattle.item_sets.proofs.Walks.{nothing_met}
 use Rattle.item_sets.proofs.Numbering.{numbered}
 use Rattle.item_sets.proofs.Closures.{universe, begun, few, finished, turn}

@@ -1,4 +1,4 @@
-use Rattle.std.proofs.Common.{◌≡◌, ◌+◌, ◌-◌, ◌≤◌, ℕ, length}
+use Rattle.std.proofs.Common.{◌≡◌, ◌+◌, ◌-◌, ℕ, length}
 use Rattle.item_sets.specs.Walks.{early_rules}
 use Rattle.item_sets.proofs.Closures.{IsOnTheWay, universe}
 use Rattle.item_sets.proofs.closure.closure_of.Given as goal

@@ -1,6 +1,6 @@
-use Rattle.std.proofs.Common.{◌≡◌, ◌+◌, ◌≤◌, arith, rules, Some, None}
+use Rattle.std.proofs.Common.{◌≡◌, ◌≤◌, arith, rules, Some, None}
 use Rattle.item_sets.specs.Walks.{next_of}
-use Rattle.item_sets.proofs.Walks.{met_some, met_none, extends_insert}
+use Rattle.item_sets.proofs.Walks.{met_some, met_none}
 use Rattle.item_sets.proofs.Positions.{dot_short}
 use Rattle.item_sets.proofs.walk.Walk.visit.Goals as goal
 
