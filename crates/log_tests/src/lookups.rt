@@ -1,5 +1,6 @@
 //! What a grammar finds.
 
+use crate::answers::{kind_of, number_of, positions_of, rule_of, rules_of};
 use crate::histories::{LINES, grammar_from};
 use edit_log::{DefId, DefKind, Grammar};
 use forest::{Rule, RuleId, SymbolId};
@@ -12,7 +13,7 @@ use std::test::Fail;
 fn tell_rules(alloc: Global, grammar: &Grammar, lefts: &[u32]) -> Result<String, AllocError> {
     let mut all = String::new(alloc);
     for left in lefts {
-        let numbers = grammar.rules_of(SymbolId(*left));
+        let numbers = rules_of(grammar, SymbolId(*left));
         all.push_str(&format!(in alloc; "{left} {numbers:?}\n")?)?;
     }
     Ok(all)
@@ -25,7 +26,7 @@ fn tell_rule(alloc: Global, rule: &Rule) -> Result<String, AllocError> {
 
 /// The rule with the number, by the numbers of its symbols.
 fn tell_number(alloc: Global, grammar: &Grammar, number: u32) -> Result<String, AllocError> {
-    match grammar.rule(RuleId(number)) {
+    match rule_of(grammar, RuleId(number)) {
         Some(rule) => tell_rule(alloc, rule),
         None => String::from_str(alloc, "none"),
     }
@@ -50,8 +51,8 @@ fn finds_rules(rt: HostRuntime) -> Result<(), Fail> {
 }
 
 /// The number of the symbol, or 99 where it never appeared.
-fn number_of(grammar: &Grammar, symbol: &Symbol) -> u32 {
-    match grammar.symbol(symbol) {
+fn told_number(grammar: &Grammar, symbol: &Symbol) -> u32 {
+    match number_of(grammar, symbol) {
         Some(number) => number.0,
         None => 99,
     }
@@ -62,7 +63,7 @@ fn number_by_name(grammar: &Grammar, number: u32) -> u32 {
     if number >= grammar.symbols() {
         return 99;
     }
-    number_of(grammar, grammar.name(SymbolId(number)))
+    told_number(grammar, grammar.name(SymbolId(number)))
 }
 
 /// The numbers of all symbols, each found by its name.
@@ -77,7 +78,7 @@ fn numbers_by_name(alloc: Global, grammar: &Grammar) -> Result<Vec<u32>, AllocEr
 /// The number of the literal with these bytes, or 99.
 fn number_of_literal(alloc: Global, grammar: &Grammar, bytes: &[u8]) -> Result<u32, AllocError> {
     let literal = Symbol::Literal(Text::from_vec(Vec::from_slice(alloc, bytes)?));
-    Ok(number_of(grammar, &literal))
+    Ok(told_number(grammar, &literal))
 }
 
 #[test]
@@ -94,7 +95,7 @@ fn finds_symbols(rt: HostRuntime) -> Result<(), Fail> {
 
 /// What the definition is: 100 and the number of its symbol for a token, 1 for a skip, 0 where it is not live.
 fn kind_in_number(grammar: &Grammar, definition: DefId) -> u32 {
-    match grammar.kind(definition) {
+    match kind_of(grammar, definition) {
         Some(DefKind::Token(symbol)) => symbol.0.saturating_add(100),
         Some(DefKind::Skip) => 1,
         None => 0,
@@ -131,7 +132,7 @@ fn finds_definitions(rt: HostRuntime) -> Result<(), Fail> {
 }
 
 fn count_positions(grammar: &Grammar, def: DefId) -> Option<u32> {
-    Some(grammar.positions(def)?.count())
+    Some(positions_of(grammar, def)?.count())
 }
 
 #[test]

@@ -3,6 +3,7 @@
 
 ghost use Rattle.std.specs.Prelude.{◌≤◌, length};
 
+use crate::answers::{kind_of, positions_of};
 use crate::histories::grammar_from;
 use edit_log::{DefId, DefKind, Grammar};
 use regex_ast::Positions;
@@ -88,7 +89,7 @@ fn matches(
     definition: DefId,
     piece: &[u8],
 ) -> Result<bool, AllocError> {
-    let Some(positions) = grammar.positions(definition) else {
+    let Some(positions) = positions_of(grammar, definition) else {
         return Ok(false);
     };
     let reached = reached(alloc, positions, piece)?;
@@ -122,7 +123,7 @@ fn longest(
 
 /// The symbol of a token, and none of a skip.
 fn symbol_of(grammar: &Grammar, definition: DefId) -> Option<u32> {
-    match grammar.kind(definition) {
+    match kind_of(grammar, definition) {
         Some(DefKind::Token(kind)) => Some(kind.0),
         _ => None,
     }
