@@ -8,45 +8,57 @@ use grammar_text::{Symbol, Text};
 use std::alloc::{AllocError, Global};
 use std::test::Fail;
 
-/// The rules of each of these left sides, a left side a line, and behind each of their numbers the symbols of
-/// its right side.
-fn tell_rules(alloc: Global, grammar: &Grammar, lefts: &[u32]) -> Result<String, AllocError> {
-    let mut all = String::new(alloc);
-    for left in lefts {
-        let numbers = rules_of(grammar, SymbolId(*left));
-        all.push_str(&format!(in alloc; "{left} {numbers:?}\n")?)?;
+/// Adds the numbers of the rules.
+fn add_rules(told: &mut Vec<u32>, rules: &[RuleId]) -> Result<(), AllocError> {
+    for rule in rules {
+        told.push(rule.0)?;
     }
-    Ok(all)
+    Ok(())
 }
 
-fn tell_rule(alloc: Global, rule: &Rule) -> Result<String, AllocError> {
-    let right = rule.right.as_slice();
-    format!(in alloc; "{} {} {right:?}", rule.number.0, rule.left.0)
+/// Adds the numbers of the symbols.
+fn add_symbols(told: &mut Vec<u32>, symbols: &[SymbolId]) -> Result<(), AllocError> {
+    for symbol in symbols {
+        told.push(symbol.0)?;
+    }
+    Ok(())
 }
 
-/// The rule with the number, by the numbers of its symbols.
-fn tell_number(alloc: Global, grammar: &Grammar, number: u32) -> Result<String, AllocError> {
-    match rule_of(grammar, RuleId(number)) {
-        Some(rule) => tell_rule(alloc, rule),
-        None => String::from_str(alloc, "none"),
+/// Adds the rule: its number, its left side and its right side.
+fn add_rule(told: &mut Vec<u32>, rule: &Rule) -> Result<(), AllocError> {
+    told.push(rule.number.0)?;
+    told.push(rule.left.0)?;
+    add_symbols(told, rule.right.as_slice())
+}
+
+/// The rule with the number, in numbers: none where it is not live.
+fn told_rule(alloc: Global, grammar: &Grammar, number: u32) -> Result<Vec<u32>, AllocError> {
+    let mut told = Vec::new(alloc);
+    if let Some(rule) = rule_of(grammar, RuleId(number)) {
+        add_rule(&mut told, rule)?;
     }
+    Ok(told)
+}
+
+/// The numbers of the rules with the left side.
+fn told_rules(alloc: Global, grammar: &Grammar, left: u32) -> Result<Vec<u32>, AllocError> {
+    let mut told = Vec::new(alloc);
+    add_rules(&mut told, rules_of(grammar, SymbolId(left)))?;
+    Ok(told)
 }
 
 #[test]
 fn finds_rules(rt: HostRuntime) -> Result<(), Fail> {
-    let grammar = grammar_from(rt.alloc(), LINES)?;
-    let fourth = tell_number(rt.alloc(), &grammar, 4)?;
-    assert_eq!(rt;
-        fourth.as_str(),
-        "4 3 [SymbolId(3), SymbolId(4), SymbolId(3)]"
-    );
-    let second = tell_number(rt.alloc(), &grammar, 2)?;
-    assert_eq!(rt; second.as_str(), "none");
-    let rules = tell_rules(rt.alloc(), &grammar, &[3, 6])?;
-    assert_eq!(rt;
-        rules.as_str(),
-        "3 [RuleId(4), RuleId(5), RuleId(6)]\n6 []\n"
-    );
+    let alloc = rt.alloc();
+    let grammar = grammar_from(alloc, LINES)?;
+    let fourth = told_rule(alloc, &grammar, 4)?;
+    assert_eq!(rt; fourth.as_slice(), [4, 3, 3, 4, 3].as_slice());
+    let second = told_rule(alloc, &grammar, 2)?;
+    assert_eq!(rt; second.len(), 0);
+    let third = told_rules(alloc, &grammar, 3)?;
+    assert_eq!(rt; third.as_slice(), [4, 5, 6].as_slice());
+    let none = told_rules(alloc, &grammar, 6)?;
+    assert_eq!(rt; none.len(), 0);
     Ok(())
 }
 
