@@ -31,34 +31,38 @@ fn add_rule(told: &mut Vec<u32>, rule: &Rule) -> Result<(), AllocError> {
     add_symbols(told, rule.right.as_slice())
 }
 
-/// The rule with the number, in numbers: none where it is not live.
-fn told_rule(alloc: Global, grammar: &Grammar, number: u32) -> Result<Vec<u32>, AllocError> {
-    let mut told = Vec::new(alloc);
+/// Adds the rule with the number, where it is live, and 99 behind it.
+fn add_live(told: &mut Vec<u32>, grammar: &Grammar, number: u32) -> Result<(), AllocError> {
     if let Some(rule) = rule_of(grammar, RuleId(number)) {
-        add_rule(&mut told, rule)?;
+        add_rule(told, rule)?;
     }
-    Ok(told)
+    told.push(99)?;
+    Ok(())
 }
 
-/// The numbers of the rules with the left side.
-fn told_rules(alloc: Global, grammar: &Grammar, left: u32) -> Result<Vec<u32>, AllocError> {
+/// Adds the numbers of the rules with the left side, and 99 behind them.
+fn add_under(told: &mut Vec<u32>, grammar: &Grammar, left: u32) -> Result<(), AllocError> {
+    add_rules(told, rules_of(grammar, SymbolId(left)))?;
+    told.push(99)?;
+    Ok(())
+}
+
+/// Rules 4 and 2, and the numbers of the rules under 3 and 6.
+fn told_rules(alloc: Global, grammar: &Grammar) -> Result<Vec<u32>, AllocError> {
     let mut told = Vec::new(alloc);
-    add_rules(&mut told, rules_of(grammar, SymbolId(left)))?;
+    add_live(&mut told, grammar, 4)?;
+    add_live(&mut told, grammar, 2)?;
+    add_under(&mut told, grammar, 3)?;
+    add_under(&mut told, grammar, 6)?;
     Ok(told)
 }
 
 #[test]
 fn finds_rules(rt: HostRuntime) -> Result<(), Fail> {
-    let alloc = rt.alloc();
-    let grammar = grammar_from(alloc, LINES)?;
-    let fourth = told_rule(alloc, &grammar, 4)?;
-    assert_eq!(rt; fourth.as_slice(), [4, 3, 3, 4, 3].as_slice());
-    let second = told_rule(alloc, &grammar, 2)?;
-    assert_eq!(rt; second.len(), 0);
-    let third = told_rules(alloc, &grammar, 3)?;
-    assert_eq!(rt; third.as_slice(), [4, 5, 6].as_slice());
-    let none = told_rules(alloc, &grammar, 6)?;
-    assert_eq!(rt; none.len(), 0);
+    let grammar = grammar_from(rt.alloc(), LINES)?;
+    let told = told_rules(rt.alloc(), &grammar)?;
+    let wanted = [4, 3, 3, 4, 3, 99, 99, 4, 5, 6, 99, 99];
+    assert_eq!(rt; told.as_slice(), wanted.as_slice());
     Ok(())
 }
 
@@ -93,15 +97,20 @@ fn number_of_literal(alloc: Global, grammar: &Grammar, bytes: &[u8]) -> Result<u
     Ok(told_number(grammar, &literal))
 }
 
+/// The numbers of all symbols, each found by its name, and those of the literals `+` and `*`.
+fn told_symbols(alloc: Global, grammar: &Grammar) -> Result<Vec<u32>, AllocError> {
+    let mut told = numbers_by_name(alloc, grammar)?;
+    told.push(number_of_literal(alloc, grammar, "+".as_bytes())?)?;
+    told.push(number_of_literal(alloc, grammar, "*".as_bytes())?)?;
+    Ok(told)
+}
+
 #[test]
 fn finds_symbols(rt: HostRuntime) -> Result<(), Fail> {
     let grammar = grammar_from(rt.alloc(), LINES)?;
-    let numbers = numbers_by_name(rt.alloc(), &grammar)?;
-    assert_eq!(rt; numbers.as_slice(), [0, 1, 2, 3, 4, 5].as_slice());
-    let plus = number_of_literal(rt.alloc(), &grammar, "+".as_bytes())?;
-    assert_eq!(rt; plus, 4);
-    let times = number_of_literal(rt.alloc(), &grammar, "*".as_bytes())?;
-    assert_eq!(rt; times, 99);
+    let told = told_symbols(rt.alloc(), &grammar)?;
+    let wanted = [0, 1, 2, 3, 4, 5, 4, 99];
+    assert_eq!(rt; told.as_slice(), wanted.as_slice());
     Ok(())
 }
 
