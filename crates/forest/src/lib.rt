@@ -14,7 +14,7 @@ mod symbols;
 pub use forest::Forest;
 pub use nodes::{Cuts, Node, Nodes, Split, Splits};
 pub use rules::{Rule, RuleId, RuleList, Rules};
-pub use symbols::{START, SymbolId, Symbols, Token};
+pub use symbols::{START, SymbolId, Symbols, Token, number_of_start};
 
 #[cfg(test)]
 mod tests {

@@ -1,5 +1,5 @@
 -- What the tables of spans find, and how they grow.
-use Rattle.std.proofs.Common.{◌≡◌, ℕ, zero, suc, ◌<◌, ◌⊎◌, inl, inr, List, [], ◌∷◌, ◌++◌, length, get_or, set, replicate, refl, sym, ◌∙◌, ap, subst, arith, Contains, Bool, true, false, IsTrue, slice_get, Some, unwrap_or}
+use Rattle.std.proofs.Common.{◌≡◌, ℕ, zero, suc, ◌*◌, ◌<◌, ◌⊎◌, inl, inr, List, [], ◌∷◌, ◌++◌, length, get_or, set, replicate, refl, sym, ◌∙◌, ap, subst, arith, Contains, Bool, true, false, IsTrue, slice_get, Some, unwrap_or}
 use Rattle.std.proofs.lemmas.Bool.{cases_lt}
 use Rattle.std.proofs.lemmas.List.{length-replicate, get_or-replicate, length-set}
 use Rattle.std.proofs.lemmas.List.Elements.{Contains-append_left, Contains-append_right}
@@ -11,6 +11,7 @@ use Rattle.plain_chart.specs.declared.spans.Table.{Table}
 use Rattle.plain_chart.specs.Span.{span}
 use Rattle.plain_chart.specs.Tables.{bit, IsTableAt, IsSet, IsIndexed, KeepsTables, same, added}
 use Rattle.plain_chart.proofs.Fine.{contains_push}
+use Rattle.plain_chart.specs.declared.limits.TheConstants.{PLACES}
 
 pub some_same : {X : Type 0} (a b : X) → Some a ≡ Some b → a ≡ b
 some_same a b e = ap (λ o. unwrap_or o a) e
@@ -64,7 +65,7 @@ not_set n k e =
     cc
 
 -- a bit tells whether its span is there
-pub has_bit : (items : List Span) (tables : List Table) → IsIndexed items tables → (x : SymbolId) (i j at : ℕ) (t : Table) (b : Bool) → IsTableAt tables x at → t ≡ get_or tables at t → b ≡ get_or t.bits.items (bit i j) b → i < 65 → j < 65 → (IsTrue b → Contains items (span x i j)) × (Contains items (span x i j) → IsTrue b)
+pub has_bit : (items : List Span) (tables : List Table) → IsIndexed items tables → (x : SymbolId) (i j at : ℕ) (t : Table) (b : Bool) → IsTableAt tables x at → t ≡ get_or tables at t → b ≡ get_or t.bits.items (bit i j) b → i < PLACES → j < PLACES → (IsTrue b → Contains items (span x i j)) × (Contains items (span x i j) → IsTrue b)
 has_bit items tables inv x i j at t b here is_t is_b li lj =
     let there : slice_get tables at ≡ Some t = read_is tables at t is_t (slice_get_within tables at here.0 here.1) in
     let bound : bit i j < length t.bits.items = omega (arith, inv.wide at t there) in
@@ -100,7 +101,7 @@ indexed_keeps items old new x inv same = inv
 indexed_keeps items old new x inv (added t sx empty none) = record {
   wide = λ at u e. elim (get_push old t at u e) [
     | inl f ↦ inv.wide at u f
-    | inr f ↦ subst (λ (v : Table). length v.bits.items ≡ 4225) f.1 (ap length empty ∙ length-replicate 4225 false)
+    | inr f ↦ subst (λ (v : Table). length v.bits.items ≡ PLACES * PLACES) f.1 (ap length empty ∙ length-replicate (PLACES * PLACES) false)
   ];
   single = λ y a b ta tb. elim (table_cases old t y a ta) [
     | inl ea ↦ elim (table_cases old t y b tb) [
@@ -120,8 +121,8 @@ indexed_keeps items old new x inv (added t sx empty none) = record {
       | inr e ↦ absurd (omega (arith, e.0, slice_get_within old at s.table f))
     ]
     | inr f ↦
-        let bits : s.table.bits.items ≡ replicate 4225 false = subst (λ (v : Table). v.bits.items ≡ replicate 4225 false) f.1 empty in
-        absurd (not_set 4225 (bit i j) (subst (λ (v : List Bool). slice_get v (bit i j) ≡ Some true) bits s.bit))
+        let bits : s.table.bits.items ≡ replicate (PLACES * PLACES) false = subst (λ (v : Table). v.bits.items ≡ replicate (PLACES * PLACES) false) f.1 empty in
+        absurd (not_set (PLACES * PLACES) (bit i j) (subst (λ (v : List Bool). slice_get v (bit i j) ≡ Some true) bits s.bit))
   ];
 }
 
@@ -131,11 +132,11 @@ same_or a b = elim (cases_lt a b) [
   | inr g ↦ elim (cases_lt b a) [ inl l ↦ inr (λ e. omega (arith, e)) | inr h ↦ inl (omega arith) ]
 ]
 
-one_bit : (i j a b : ℕ) → j < 65 → b < 65 → bit i j ≡ bit a b → (i ≡ a) × (j ≡ b)
+one_bit : (i j a b : ℕ) → j < PLACES → b < PLACES → bit i j ≡ bit a b → (i ≡ a) × (j ≡ b)
 one_bit i j a b lj lb e = (omega arith, omega arith)
 
 -- a span comes, and its bit is set
-module _ (items : List Span) (tables : List Table) (inv : IsIndexed items tables) (x : SymbolId) (i j at : ℕ) (t u : Table) (here : slice_get tables at ≡ Some t) (sx : t.symbol ≡ x) (su : u.symbol ≡ t.symbol) (bits_set : u.bits.items ≡ set t.bits.items (bit i j) true) (li : i < 65) (lj : j < 65) where
+module _ (items : List Span) (tables : List Table) (inv : IsIndexed items tables) (x : SymbolId) (i j at : ℕ) (t u : Table) (here : slice_get tables at ≡ Some t) (sx : t.symbol ≡ x) (su : u.symbol ≡ t.symbol) (bits_set : u.bits.items ≡ set t.bits.items (bit i j) true) (li : i < PLACES) (lj : j < PLACES) where
   within : at < length tables
   within = slice_get_within tables at t here
 
@@ -176,7 +177,7 @@ module _ (items : List Span) (tables : List Table) (inv : IsIndexed items tables
   new_set : IsSet (set tables at u) at i j
   new_set = record { table = u; is = there at refl; bit = rw bits_set (set_here t.bits.items (bit i j) true bound) }
 
-  new_bits : (a k l : ℕ) (y : SymbolId) → IsTableAt (set tables at u) y a → k < 65 → l < 65 → IsSet (set tables at u) a k l → Contains (items ++ span x i j ∷ []) (span y k l)
+  new_bits : (a k l : ℕ) (y : SymbolId) → IsTableAt (set tables at u) y a → k < PLACES → l < PLACES → IsSet (set tables at u) a k l → Contains (items ++ span x i j ∷ []) (span y k l)
   new_bits a k l y ta lk ll s =
       let old : IsTableAt tables y a = table_there y a ta in
       elim (get_set tables at u a s.table s.is) [
@@ -199,7 +200,7 @@ module _ (items : List Span) (tables : List Table) (inv : IsIndexed items tables
   pub indexed_insert : IsIndexed (items ++ span x i j ∷ []) (set tables at u)
   indexed_insert = record {
     wide = λ a v e. elim (get_set tables at u a v e) [
-      | inl f ↦ subst (λ (w : Table). length w.bits.items ≡ 4225) f.1 (ap length bits_set ∙ length-set t.bits.items (bit i j) true ∙ inv.wide at t here)
+      | inl f ↦ subst (λ (w : Table). length w.bits.items ≡ PLACES * PLACES) f.1 (ap length bits_set ∙ length-set t.bits.items (bit i j) true ∙ inv.wide at t here)
       | inr f ↦ inv.wide a v f.1
     ];
     single = λ y a b ta tb. inv.single y a b (table_there y a ta) (table_there y b tb);

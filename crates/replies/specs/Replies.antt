@@ -6,7 +6,7 @@ use Rattle.forest.specs.declared.symbols.Token.{Token}
 use Rattle.forest.specs.declared.forest.Forest.{Forest}
 use Rattle.forest.specs.Derivation.{IsSentence}
 use Rattle.forest.specs.Forests.{IsForestOf}
-use Rattle.plain_chart.specs.declared.TheConstants.{MOST_TOKENS}
+use Rattle.plain_chart.specs.declared.limits.TheConstants.{MOST_TOKENS}
 use Rattle.edit_log.specs.declared.refusal.Refusal.{Refusal}
 use Rattle.edit_log.specs.declared.refusal.Refusal.TheVariants.{NameClash, Exists, NoSuch, LogFull}
 use Rattle.edit_log.specs.History.{Grammar, after}

@@ -3,9 +3,10 @@ use Rattle.std.proofs.lemmas.List.{length-set}
 use Rattle.plain_chart.specs.Known.{LeadsTo}
 use Rattle.plain_chart.proofs.Places.{none_set, bits_more, clear_more, leads_all}
 use Rattle.plain_chart.proofs.derive.places_before.Goals as goal
+use Rattle.plain_chart.specs.declared.limits.TheConstants.{PLACES}
 
 pub loop-from-init : goal.loop-from-init
-loop-from-init c = record { wide = refl; below = λ i l. absurd (omega arith); above = λ i k l. none_set 65 i l }
+loop-from-init c = record { wide = refl; below = λ i l. absurd (omega arith); above = λ i k l. none_set PLACES i l }
 
 pub loop-from-preserved : goal.loop-from-preserved
 loop-from-preserved c = record {

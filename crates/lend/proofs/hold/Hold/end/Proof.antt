@@ -34,6 +34,7 @@ use Rattle.lend.specs.contracts.hold.Hold.end.{ended, clauses}
 use Rattle.lend.specs.contracts.hold.Hold.end.Key.{name as #self}
 use Rattle.lend.proofs.hold.Hold.end.Statement.{statement}
 use Rattle.lend.proofs.hold.Hold.end.Code as code
+use Rattle.lend.specs.declared.limits.TheConstants.{WHOLE}
 
 pub end_spec : {M : Type 1} → statement M
 end_spec 𝓤 𝓛 𝓜 𝓡 wired T A L LA dx g d dd glue allocator glued =
@@ -43,7 +44,7 @@ end_spec 𝓤 𝓛 𝓜 𝓡 wired T A L LA dx g d dd glue allocator glued =
     proved_at 𝓛 En hs c 𝓜 𝓡 (Goes-dropped 𝓛 2 (plain (λ _. Hold 𝓛 R)) no (λ κs x f. refl), (Goes-blank 𝓛 2 (plain (λ _. Lent R Z LZ g)) no (λ κs x f. tt), tt)) (#self inst) fn (code.unfolded 𝓤 H 𝓜 𝓡 wired (T, (A, tt)) dx d dd) (λ z are.
     let κs = z.0.0 in let qs = z.0.1 in let m = z.0.3.0 in let v = z.0.3.1.0 in let a = v.alloc in let x = v.value in let Post : Val → SProp 𝓤 = (walk_of 𝓛 En hs c).post z in let Run : List Val → SProp 𝓤 = λ ws. WpFn 𝓤 H 𝓣.C 𝓣.Λ fn ws Post in
     let toks = ‵ (flft κs.0 qs.0) ⊛ ‵ (flft κs.1.0 qs.1.0) ⊛ ‵ ftrue in
-    let Asked : Type 0 = (v.age ≡ m.age) × (m.parts ≡ 4294967296) in let Told : Type 0 = x ≡ x in
+    let Asked : Type 0 = (v.age ≡ m.age) × (m.parts ≡ WHOLE) in let Told : Type 0 = x ≡ x in
     let k = one (layout (Hold 𝓛 R)) z.0.4.0 (((hold_laws.the_row_laws R LR).lawful 𝓛).typed m z.0.4.0 are.0) in
     qed 𝓛 ((toks ⊛ ‵ (owns (types_at En.signature.params κs) z.0.3 z.0.4)) ∷ raw (fact 𝓤 (κs.0 ⊑ T.lives)) ∷ raw (fact 𝓤 (κs.1.0 ⊑ A.lives)) ∷ raw (fact 𝓤 Asked) ∷ []) ∵
     move ! (3 ∷ []) $ heard ! Asked (λ asked. keep ! (0 ∷ []) $ split ! $ move ! (1 ∷ []) $ fsplit3 ! $ fsplit ! $ move ! (2 ∷ []) $ lent_out R Z LZ g ! v z.0.4.1.0 (λ b o h e ws fits.

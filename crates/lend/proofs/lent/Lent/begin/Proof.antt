@@ -36,6 +36,7 @@ use Rattle.lend.specs.contracts.lent.Lent.begin.{ended, clauses}
 use Rattle.lend.specs.contracts.lent.Lent.begin.Key.{name as #self}
 use Rattle.lend.proofs.lent.Lent.begin.Statement.{statement}
 use Rattle.lend.proofs.lent.Lent.begin.Code as code
+use Rattle.lend.specs.declared.limits.TheConstants.{WHOLE}
 
 pub begin_spec : {M : Type 1} → statement M
 begin_spec 𝓤 𝓛 𝓜 𝓡 wired T A L LA g d dx dd allocator glue glued =
@@ -51,9 +52,9 @@ begin_spec 𝓤 𝓛 𝓜 𝓡 wired T A L LA g d dx dd allocator glue glued =
     move ! (4 ∷ []) $ use1 𝓛 (raw (fact 𝓤 (κs.0 ⊑ T.lives)) ⊛ raw (fact 𝓤 (κs.1.0 ⊑ A.lives)) ⊛ ‵ ftrue) (id⊢ 𝓤 _) $ split3 ! $ heard ! (κs.0 ⊑ T.lives) (λ within. keep ! (2 ∷ 3 ∷ 5 ∷ []) $
     suffices ! (Run (w ∷ [])) (subst (λ (us : List Val). ent 𝓤 (Run (w ∷ [])) (Run us)) (sym (λ i. ws i ++ [])) (id⊢ 𝓤 (Run (w ∷ [])))) $
     enter ! 𝓣.C 𝓣.Λ fn (w ∷ []) Post $ alloc_all ! (λ l. pass_all ! refl (typed, tt) $
-    move ! (2 ∷ []) $ split3 ! $ move ! (3 ∷ 0 ∷ []) $ use2 𝓛 (later (some (λ (ν : ℕ). ‵ (hold_owns R p x ν 4294967296) ⊛ ‵ (flent (ν ∷ []) B) ⊛ ‵ (flft κs.0 qs.0)))) (begins 𝓛 R LR (g.dealloc_token a) p x κs.0 qs.0 within) $ await ! tt $ pick ! (λ ν. split3 ! $
+    move ! (2 ∷ []) $ split3 ! $ move ! (3 ∷ 0 ∷ []) $ use2 𝓛 (later (some (λ (ν : ℕ). ‵ (hold_owns R p x ν WHOLE) ⊛ ‵ (flent (ν ∷ []) B) ⊛ ‵ (flft κs.0 qs.0)))) (begins 𝓛 R LR (g.dealloc_token a) p x κs.0 qs.0 within) $ await ! tt $ pick ! (λ ν. split3 ! $
     -- [the parts; the right; t0; t1; true; the handle]
-    let r : Row.Denot = record { at = p; alloc = a; value = x; age = ν } in let s : Pr.Denot = record { marker = record {}; at = p; value = x; age = ν; parts = 4294967296 } in let u : Val = vstruct (vcons w (vcons token (vcons (vptr b o) vnil))) in
+    let r : Row.Denot = record { at = p; alloc = a; value = x; age = ν } in let s : Pr.Denot = record { marker = record {}; at = p; value = x; age = ν; parts = WHOLE } in let u : Val = vstruct (vcons w (vcons token (vcons (vptr b o) vnil))) in
     let Told : Type 0 = ((p ≡ v.at) × (x ≡ x)) × ((p ≡ v.at) × (x ≡ x) × (ν ≡ ν) × (s.parts ≡ s.parts)) × (p ≡ v.at) in
     sets ! (of_opd ! (get_in ! (fld ! refl (stop !)) (sub ! 0 refl (whole !)))) refl (tt, tt) $ sets ! (of_opd ! (get_in ! (fld ! refl (stop !)) (sub ! 1 refl (whole !)))) refl fits $
     sets ! (of_opd ! (get ! refl)) refl fits $ sets ! (agg ! (and_then ! (get ! refl) (and_then ! (get ! refl) (no_more !)))) refl typed $
