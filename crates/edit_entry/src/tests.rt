@@ -6,7 +6,7 @@ ghost use Rattle.grammar_text.specs.Limits.{IsSound};
 use super::*;
 use crate::decoding::is_line;
 use crate::packing::Packer;
-use grammar_text::{BadEdit, EDIT_LIMIT, Edit, read_edit};
+use grammar_text::{BadEdit, EDIT_LIMIT, Edit, Output, read_edit};
 use std::alloc::Global;
 use std::test::Fail;
 
@@ -27,8 +27,8 @@ pub(crate) fn read(alloc: Global, line: &str) -> Result<Edit, BadEdit>
 /// The words of any text that is not too long.
 fn words_of(text: &str) -> [u64; 32] {
     let mut words = Packer::new();
-    if text.len() <= EDIT_LIMIT {
-        words.push_all(text.as_bytes());
+    for byte in text.as_bytes() {
+        let Ok(()) = words.put(*byte);
     }
     words.into_words()
 }
