@@ -1,5 +1,6 @@
 -- What a replica keeps still agrees after a token or a skip is dropped.
-use Rattle.std.proofs.Common.{◌≡◌, ℕ, ◌+◌, ◌==◌, Bool, true, false, not, cond, List, [], ◌∷◌, map, filter, Option, Some, None, refl, sym, ap, subst, ◌∙◌, Contains, Vec}
+use Rattle.std.proofs.Common.{◌≡◌, ℕ, ◌+◌, ◌==◌, Bool, true, false, not, cond, List, [], ◌∷◌, map, filter, Option, Some, None, refl, sym, ap, subst, ◌∙◌}
+use Rattle.std.proofs.Common.{Contains, Vec}
 use Rattle.std.specs.List.{AllByRecursion}
 use Rattle.std.specs.List.Sorted.{IsStrictlySortedBy}
 use Rattle.std.specs.Str.{bytes_eq}
@@ -21,7 +22,7 @@ use Rattle.edit_log.specs.Verdict.{IsAccepted, definition_found}
 use Rattle.edit_log.specs.Facts.{IsWellFormed}
 use Rattle.edit_log.specs.Live.{definition_cmp}
 use Rattle.edit_log.specs.Lookups.{ListsDefinitions}
-use Rattle.edit_log.specs.Kept.{AreUses, AreLiterals}
+use Rattle.edit_log.specs.Kept.{AreUses, AreLiteralTables}
 use Rattle.edit_log.specs.Agreement.{grammar_in, Agrees}
 use Rattle.edit_log.specs.Replicas.{IsPlanFor, seen_of, HasPositions, drops}
 use Rattle.edit_log.proofs.PlainLists.{all_filter}
@@ -65,9 +66,11 @@ pub drop_planned : (g : Grammar) (edit : Edit) (p : OldDefinition) → IsPlanFor
 drop_planned g (AddRule r) p is = absurd is
 drop_planned g (DropRule r) p is = absurd is
 drop_planned g (AddToken d) p is = absurd is
-drop_planned g (DropToken name) p is = record { skip = false; is = ap DropToken (sym is.0); live = is.1.0; found = ap (definition_found g false) is.0 ∙ is.1.1; number = is.1.2 }
+drop_planned g (DropToken name) p is = record { skip = false; is = ap DropToken (sym is.0); live = is.1.0; found = ap (definition_found g false) is.0 ∙ is.1.1;
+    number = is.1.2 }
 drop_planned g (AddSkip d) p is = absurd is
-drop_planned g (DropSkip name) p is = record { skip = true; is = ap DropSkip (sym is.0); live = is.1.0; found = ap (definition_found g true) is.0 ∙ is.1.1; number = is.1.2 }
+drop_planned g (DropSkip name) p is = record { skip = true; is = ap DropSkip (sym is.0); live = is.1.0; found = ap (definition_found g true) is.0 ∙ is.1.1;
+    number = is.1.2 }
 
 -- ---- the grammar after it
 
@@ -80,12 +83,14 @@ pub version_next : (g : Grammar) (edit : Edit) → (after g edit).version ≡ g.
 unfolding after
 version_next g edit = refl
 
-uses_definition_dropped : (g : Grammar) (skip : Bool) (name : List ℕ) (uses : List ℕ) → IsWellFormed g → IsAccepted g (drops skip name) → AreUses g.symbols g.rules uses
+uses_definition_dropped : (g : Grammar) (skip : Bool) (name : List ℕ) (uses : List ℕ) → IsWellFormed g → IsAccepted g (drops skip name)
+    → AreUses g.symbols g.rules uses
     → AreUses (after g (drops skip name)).symbols (after g (drops skip name)).rules uses
 uses_definition_dropped g skip name uses well taken are = rw (symbols_stay_definition g skip name well taken, rules_stay g skip name) are
 
-literals_definition_dropped : (g : Grammar) (skip : Bool) (name : List ℕ) (literals : List (Option Table)) → IsWellFormed g → IsAccepted g (drops skip name) → AreLiterals g.symbols literals
-    → AreLiterals (after g (drops skip name)).symbols literals
+literals_definition_dropped : (g : Grammar) (skip : Bool) (name : List ℕ) (literals : List (Option Table)) → IsWellFormed g → IsAccepted g (drops skip name)
+    → AreLiteralTables g.symbols literals
+    → AreLiteralTables (after g (drops skip name)).symbols literals
 literals_definition_dropped g skip name literals well taken are = rw (symbols_stay_definition g skip name well taken) are
 
 module _ (version : ℕ) (symbols : List Symbol) (rules : List Rule) (definitions new : List NamedDefinition) (edit : Edit) (p : OldDefinition) where
@@ -98,13 +103,16 @@ module _ (version : ℕ) (symbols : List Symbol) (rules : List Rule) (definition
       let drop = drop_planned held edit p plan in
       let taken = subst (IsAccepted held) drop.is accepted in
       let seen : map seen_of new ≡ (after held (drops drop.skip p.name)).definitions =
-      ap (map seen_of) is ∙ seen_without p.number definitions ∙ ap (λ (n : RuleId). filter (λ (live : Definition). not (live.number.0 == n.0)) (map seen_of definitions)) drop.number
+      ap (map seen_of) is ∙ seen_without p.number definitions ∙ ap (λ (n : RuleId). filter (λ (live : Definition). not (live.number.0 == n.0))
+          (map seen_of definitions)) drop.number
       ∙ sym (definitions_dropped held drop.skip p.name drop.live well taken drop.found) in
       let same = same_grammar (grammar_in (version + 1) symbols rules new) (after held (drops drop.skip p.name))
-      (sym (version_next held (drops drop.skip p.name))) (sym (symbols_stay_definition held drop.skip p.name well taken)) (sym (rules_stay held drop.skip p.name)) seen in
+      (sym (version_next held (drops drop.skip p.name))) (sym (symbols_stay_definition held drop.skip p.name well taken))
+          (sym (rules_stay held drop.skip p.name)) seen in
       same ∙ ap (after held) (sym drop.is)
 
-  pub agrees_definition_dropped : (finds : RuleText → Option RuleId) (old_names names : List ℕ → Option RuleId) (lefts : List (Vec RuleId Global)) (uses : List ℕ) (literals : List (Option Table)) (old_live live : List DefId) (spare : List Rule)
+  pub agrees_definition_dropped : (finds : RuleText → Option RuleId) (old_names names : List ℕ → Option RuleId) (lefts : List (Vec RuleId Global))
+      (uses : List ℕ) (literals : List (Option Table)) (old_live live : List DefId) (spare : List Rule)
       → Agrees held finds old_names lefts uses literals definitions old_live spare → IsAccepted held edit → IsPlanFor held edit (planned.DropDefinition p)
       → new ≡ filter (λ live. not (live.number.0 == p.number.0)) definitions
       → names p.name ≡ None → ((other : List ℕ) → bytes_eq p.name other ≡ false → names other ≡ old_names other)
@@ -115,7 +123,8 @@ module _ (version : ℕ) (symbols : List Symbol) (rules : List Rule) (definition
       let well = agrees.well_formed in
       let taken = subst (IsAccepted held) drop.is accepted in
       let same = definition_gone well accepted plan is ∙ ap (after held) drop.is in
-      let lists = subst (λ (n : RuleId). ListsDefinitions (λ other. Contains old_live other × (other ≡ named n → ⊥)) live) drop.number (removed agrees.has_live.order) in
+      let lists = subst (λ (n : RuleId). ListsDefinitions (λ other. Contains old_live other × (other ≡ named n → ⊥)) live) drop.number
+          (removed agrees.has_live.order) in
       subst (λ (g : Grammar). Agrees g finds names lefts uses literals new live spare) (sym same) (record {
         well_formed = well_formed_after held (drops drop.skip p.name) well taken;
         finds_rules = finds_rules_dropped held drop.skip p.name finds well taken agrees.finds_rules;
@@ -123,7 +132,8 @@ module _ (version : ℕ) (symbols : List Symbol) (rules : List Rule) (definition
         has_lefts = lefts_definition_dropped held drop.skip p.name lefts well taken agrees.has_lefts;
         has_uses = uses_definition_dropped held drop.skip p.name uses well taken agrees.has_uses;
         has_literals = literals_definition_dropped held drop.skip p.name literals well taken agrees.has_literals;
-        has_positions = subst (AllByRecursion HasPositions) (sym is) (all_filter HasPositions (λ d. not (d.number.0 == p.number.0)) definitions agrees.has_positions);
+        has_positions = subst (AllByRecursion HasPositions) (sym is)
+            (all_filter HasPositions (λ d. not (d.number.0 == p.number.0)) definitions agrees.has_positions);
         has_live = live_definition_dropped held drop.skip p.name drop.live old_live live well taken drop.found agrees.has_live lists;
         no_spare = agrees.no_spare;
       })

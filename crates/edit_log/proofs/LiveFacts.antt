@@ -1,5 +1,6 @@
 -- What is live, and how often symbols are used, as facts on plain lists.
-use Rattle.std.proofs.Common.{◌≡◌, ℕ, zero, suc, ◌+◌, ◌<◌, ◌≤◌, ◌↔◌, ◌⊎◌, inl, inr, ◌==◌, List, [], ◌∷◌, ◌++◌, length, get_or, map, filter, Bool, true, false, not, cond, if◌then◌else◌, sum_by, find, Option, Some, None, option_map, refl, sym, ap, subst, arith, Contains}
+use Rattle.std.proofs.Common.{◌≡◌, ℕ, zero, suc, ◌+◌, ◌<◌, ◌≤◌, ◌↔◌, ◌⊎◌, inl, inr, ◌==◌, List, [], ◌∷◌, ◌++◌, length, get_or, map, filter, Bool, true, false}
+use Rattle.std.proofs.Common.{not, cond, if◌then◌else◌, sum_by, find, Option, Some, None, option_map, refl, sym, ap, subst, arith, Contains}
 use Rattle.std.specs.Option.{is_some}
 use Rattle.std.specs.List.{list_any, AllByRecursion, AllZip}
 use Rattle.std.specs.List.Sorted.{IsStrictlySortedBy}
@@ -31,7 +32,8 @@ numbers_in definitions = map (λ live. live.number) definitions
 
 -- a list of definitions lists those that are so otherwise too
 pub lists_same : (P Q : DefId → Type 0) (live : List DefId) → ((d : DefId) → P d ↔ Q d) → ListsDefinitions P live → ListsDefinitions Q live
-lists_same P Q live same lists = record { order = lists.order; members = λ d. (λ c. (same d).0 ((lists.members d).0 c), λ q. (lists.members d).1 ((same d).1 q)) }
+lists_same P Q live same lists = record { order = lists.order; members =
+    λ d. (λ c. (same d).0 ((lists.members d).0 c), λ q. (lists.members d).1 ((same d).1 q)) }
 
 -- ---- tests and sums
 
@@ -96,7 +98,8 @@ sum_none f [] none = refl
 sum_none f (x ∷ xs) none = omega (arith, sum_by-cons f x xs, none x (contains_first x xs), sum_none f xs (λ y c. none y (contains_later x xs y c)))
 
 -- a symbol that no list has is on no right side
-pub counted_beyond : (symbols : List Symbol) (rules : List Rule) (s : SymbolId) → AllByRecursion (λ r. IsRight symbols r.right) rules → length symbols ≤ s.0 → all_occurrences s rules ≡ 0
+pub counted_beyond : (symbols : List Symbol) (rules : List Rule) (s : SymbolId) → AllByRecursion (λ r. IsRight symbols r.right) rules → length symbols ≤ s.0
+    → all_occurrences s rules ≡ 0
 counted_beyond symbols rules s rights beyond =
     sum_none (λ r. occurrences s r.right) rules (λ r there.
     sum_none (λ part. cond (part.0 == s.0) 1 0) r.right (λ part c.
@@ -109,7 +112,8 @@ counted_beyond symbols rules s rights beyond =
         by true is = absurd (omega (arith, eqb-true n s.0 is))
         by false is = refl
 
-pub counted_within : (symbols : List Symbol) (rules : List Rule) (s : SymbolId) → AllByRecursion (λ r. IsRight symbols r.right) rules → 0 < all_occurrences s rules → s.0 < length symbols
+pub counted_within : (symbols : List Symbol) (rules : List Rule) (s : SymbolId) → AllByRecursion (λ r. IsRight symbols r.right) rules
+    → 0 < all_occurrences s rules → s.0 < length symbols
 counted_within symbols rules s rights some = elim (cases_lt s.0 (length symbols)) [
   | inl less ↦ less
   | inr beyond ↦ absurd (omega (arith, counted_beyond symbols rules s rights beyond))
@@ -131,7 +135,8 @@ all_kept live (y ∷ ys) other = by (y.number.0 == live.number.0) refl (all_kept
     by true is rest = absurd (other y (contains_first y ys) (eqb-true y.number.0 live.number.0 is))
     by false is rest = ap (λ zs. y ∷ zs) rest
 
-pub sum_without : (f : Rule → ℕ) (rules : List Rule) (live : Rule) → IsStrictlySortedBy rule_cmp rules → Contains rules live → sum_by f (without live rules) + f live ≡ sum_by f rules
+pub sum_without : (f : Rule → ℕ) (rules : List Rule) (live : Rule) → IsStrictlySortedBy rule_cmp rules → Contains rules live
+    → sum_by f (without live rules) + f live ≡ sum_by f rules
 unfolding IsStrictlySortedBy
 sum_without f [] live sorted c = absurd (contains_none live c)
 sum_without f (x ∷ xs) live sorted c = by (x.number.0 == live.number.0) refl (contains_cases x xs live c) (λ d. sum_without f xs live sorted.1 d)
@@ -139,7 +144,8 @@ sum_without f (x ∷ xs) live sorted c = by (x.number.0 == live.number.0) refl (
     below : (y : Rule) → Contains xs y → x.number.0 < y.number.0
     below y d = ranked x.number.0 y.number.0 Less (sym (each_of (λ z. rule_cmp x z ≡ Less) xs sorted.0 y d))
 
-    by : (b : Bool) → (x.number.0 == live.number.0) ≡ b → (x ≡ live) ⊎ Contains xs live → (Contains xs live → sum_by f (without live xs) + f live ≡ sum_by f xs) → sum_by f (cond (not b) (x ∷ without live xs) (without live xs)) + f live ≡ sum_by f (x ∷ xs)
+    by : (b : Bool) → (x.number.0 == live.number.0) ≡ b → (x ≡ live) ⊎ Contains xs live → (Contains xs live → sum_by f (without live xs) + f live ≡ sum_by f xs)
+        → sum_by f (cond (not b) (x ∷ without live xs) (without live xs)) + f live ≡ sum_by f (x ∷ xs)
     by true is (inl e) rest =
         let kept : without live xs ≡ xs = all_kept live xs (λ y d same. absurd (omega (arith, below y d, same, eqb-true x.number.0 live.number.0 is))) in
         rw kept (omega (arith, sum_by-cons f x xs, ap f e))
@@ -171,11 +177,14 @@ live_literal g s =
       λ w. test.1 (and_from (is_literal (symbol_at g.symbols s)) (list_any (uses s) g.rules) w.0 (counted.1 w.1)),
     )
 
-found_number : (definitions : List Definition) (n : RuleId) → (is_some (option_map kind_of_definition (find (λ live. live.number.0 == n.0) definitions)) ≡ true) ↔ Contains (numbers_in definitions) n
+found_number : (definitions : List Definition) (n : RuleId) → (is_some (option_map kind_of_definition (find (λ live. live.number.0 == n.0) definitions)) ≡ true)
+    ↔ Contains (numbers_in definitions) n
 found_number [] n = (λ e. absurd cc, λ c. absurd (contains_none n c))
 found_number (x ∷ xs) n = by (x.number.0 == n.0) refl (found_number xs n)
   where
-    by : (b : Bool) → (x.number.0 == n.0) ≡ b → ((is_some (option_map kind_of_definition (find (λ live. live.number.0 == n.0) xs)) ≡ true) ↔ Contains (numbers_in xs) n) → (is_some (option_map kind_of_definition (cond b (Some x) (find (λ live. live.number.0 == n.0) xs))) ≡ true) ↔ Contains (numbers_in (x ∷ xs)) n
+    by : (b : Bool) → (x.number.0 == n.0) ≡ b → ((is_some (option_map kind_of_definition (find (λ live. live.number.0 == n.0) xs)) ≡ true)
+        ↔ Contains (numbers_in xs) n) → (is_some (option_map kind_of_definition (cond b (Some x) (find (λ live. live.number.0 == n.0) xs))) ≡ true)
+        ↔ Contains (numbers_in (x ∷ xs)) n
     by true is rest = (
       λ e. let same : x.number ≡ n = ap (λ k. let r : RuleId = record { 0 = k } in r) (eqb-true x.number.0 n.0 is) in
           subst (Contains (numbers_in (x ∷ xs))) same (contains_first x.number (numbers_in xs)),
@@ -195,7 +204,8 @@ live_named g n = found_number g.definitions n
 
 -- ---- positions
 
-pub literal_has : (symbols : List Symbol) (literals : List (Option Table)) → AllZip ArePositionsOfSymbol symbols literals → (place : ℕ) → is_literal (get_or symbols place (Named [])) ≡ true → HasLiteral literals place
+pub literal_has : (symbols : List Symbol) (literals : List (Option Table)) → AllZip ArePositionsOfSymbol symbols literals → (place : ℕ)
+    → is_literal (get_or symbols place (Named [])) ≡ true → HasLiteral literals place
 literal_has [] [] are place e = absurd cc
 literal_has [] (y ∷ ys) are place e = absurd are
 literal_has (x ∷ xs) [] are place e = absurd are
@@ -203,7 +213,8 @@ literal_has (Named name ∷ xs) (y ∷ ys) are zero e = absurd cc
 literal_has (Literal bytes ∷ xs) (y ∷ ys) are zero e = (are.0.0, ap Some are.0.1)
 literal_has (x ∷ xs) (y ∷ ys) are (suc place) e = literal_has xs ys are.1 place e
 
-pub has_is_literal : (symbols : List Symbol) (literals : List (Option Table)) → AllZip ArePositionsOfSymbol symbols literals → (place : ℕ) → HasLiteral literals place → is_literal (get_or symbols place (Named [])) ≡ true
+pub has_is_literal : (symbols : List Symbol) (literals : List (Option Table)) → AllZip ArePositionsOfSymbol symbols literals → (place : ℕ)
+    → HasLiteral literals place → is_literal (get_or symbols place (Named [])) ≡ true
 has_is_literal [] [] are place (table, is) = absurd cc
 has_is_literal [] (y ∷ ys) are place has = absurd are
 has_is_literal (x ∷ xs) [] are place has = absurd are

@@ -22,12 +22,12 @@ abbrev pub AreSources : List SymbolId → List Span → List SymbolId → ℕ �
 AreSources tokens known xs j places = (i : ℕ) → i < PLACES → (slice_get places i ≡ Some true) ↔ AreKnown tokens known xs i j
 
 -- x is known to derive the tokens from i to a place up to j that is among those ahead
-abbrev pub LeadsTo : List SymbolId → List Span → SymbolId → ℕ → List Bool → ℕ → Type 0
-LeadsTo tokens known x i ahead j = (k : ℕ) × (i ≤ k) × (k ≤ j) × IsKnown tokens known x i k × (slice_get ahead k ≡ Some true)
+abbrev pub ReachesAhead : List SymbolId → List Span → SymbolId → ℕ → List Bool → ℕ → Type 0
+ReachesAhead tokens known x i ahead j = (k : ℕ) × (i ≤ k) × (k ≤ j) × IsKnown tokens known x i k × (slice_get ahead k ≡ Some true)
 
 -- the places are those from which x leads to one of those ahead
 abbrev pub AreLeads : List SymbolId → List Span → SymbolId → List Bool → ℕ → List Bool → Type 0
-AreLeads tokens known x ahead j places = (i : ℕ) → i < PLACES → (slice_get places i ≡ Some true) ↔ LeadsTo tokens known x i ahead j
+AreLeads tokens known x ahead j places = (i : ℕ) → i < PLACES → (slice_get places i ≡ Some true) ↔ ReachesAhead tokens known x i ahead j
 
 -- each known span is derived by a rule
 abbrev pub AreDerived : List Rule → List SymbolId → List Span → Type 0

@@ -30,4 +30,5 @@ pub record IsIndexed (items : List Span) (tables : List Table) : Type 0 where
 -- the tables stay, but for an empty one that may come for a symbol that had none
 pub data KeepsTables (old : List Table) (x : SymbolId) : List Table → Type 0 where
   same : KeepsTables old x old
-  added : (table : Table) → table.symbol ≡ x → table.bits.items ≡ replicate (PLACES * PLACES) false → ((at : ℕ) → IsTableAt old x at → ⊥) → KeepsTables old x (old ++ table ∷ [])
+  added : (table : Table) → table.symbol ≡ x → table.bits.items ≡ replicate (PLACES * PLACES) false → ((at : ℕ) → IsTableAt old x at → ⊥)
+      → KeepsTables old x (old ++ table ∷ [])

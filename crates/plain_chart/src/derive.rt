@@ -2,7 +2,7 @@
 ghost use Rattle.std.specs.Prelude.{◌≡◌, ℕ, ◌+◌, ◌<◌, ◌≤◌, ◌↔◌, IsTrue, IsFalse, length, IfOk, Contains, slice_get, Some, true};
 ghost use Rattle.forest.specs.declared.symbols.SymbolId.{SymbolId};
 ghost use Rattle.forest.specs.declared.rules.Rule.{Rule};
-ghost use Rattle.plain_chart.specs.Known.{IsKnown, AreKnown, AreFine, AreSettled, Grows, IsSettled, IsWhole, LeadsTo, AreLeads, AreSources};
+ghost use Rattle.plain_chart.specs.Known.{IsKnown, AreKnown, AreFine, AreSettled, Grows, IsSettled, IsWhole, ReachesAhead, AreLeads, AreSources};
 ghost use Rattle.plain_chart.specs.declared.limits.TheConstants.{PLACES};
 
 use crate::limits::PLACES;
@@ -43,7 +43,7 @@ fn leads(
     requires few { length tokens.now < PLACES }
     requires begins { from < PLACES }
     requires ends { to < PLACES }
-    ensures { IsTrue result ↔ LeadsTo tokens.now known.now symbol from ahead.now to }
+    ensures { IsTrue result ↔ ReachesAhead tokens.now known.now symbol from ahead.now to }
 {
     for middle in from..to + 1 {
         if ahead[middle as usize] && is_known(known, tokens, symbol, from, middle) {
