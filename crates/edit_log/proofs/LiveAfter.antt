@@ -23,7 +23,7 @@ use Rattle.edit_log.specs.Replicas.{adds, drops}
 use Rattle.edit_log.proofs.After.{symbols_stay_definition, definitions_dropped}
 use Rattle.edit_log.proofs.DefinitionOrder.{contains_first, contains_later, contains_cases, contains_none}
 use Rattle.edit_log.proofs.NewSymbols.{with_symbols-grown}
-use Rattle.edit_log.proofs.LiveFacts.{numbers_in, live_literal, live_named, counted_within}
+use Rattle.edit_log.proofs.LiveByUses.{numbers_in, live_literal, live_named, counted_within}
 
 -- ---- literals
 

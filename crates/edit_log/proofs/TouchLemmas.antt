@@ -30,8 +30,8 @@ use Rattle.edit_log.specs.Touches.{IsTouchOf, IsEnded, ChangesDefinitions, touch
 use Rattle.edit_log.specs.Replicas.{AreFreshFor, symbols_in, adds, drops}
 use Rattle.edit_log.proofs.After.{symbols_stay_rule, rules_dropped}
 use Rattle.edit_log.proofs.DefinitionOrder.{contains_first, contains_cases, contains_none, each_of}
-use Rattle.edit_log.proofs.LiveFacts.{live_literal, live_named, literal_has, has_is_literal, lists_same, same_length, counted_within, counted_push}
-use Rattle.edit_log.proofs.LiveFacts.{counted_there, there_counted, sum_without, found_there}
+use Rattle.edit_log.proofs.LiveByUses.{live_literal, live_named, literal_has, has_is_literal, lists_same, same_length, counted_within, counted_push}
+use Rattle.edit_log.proofs.LiveByUses.{counted_there, there_counted, sum_without, found_there}
 use Rattle.edit_log.proofs.LiveAfter.{symbol_kept, literal_kept, named_same, number_within, live_added, live_dropped}
 use Rattle.edit_log.proofs.NewLiterals.{fresh_literal, is_fresh_literal, place_is, contains_map}
 

@@ -4,7 +4,7 @@ use Rattle.edit_log.specs.declared.ready.Plan.TheVariants as planned
 use Rattle.edit_log.specs.History.{after}
 use Rattle.edit_log.specs.Replicas.{Replica, IsApplicable}
 use Rattle.edit_log.specs.Agreement.{grammar_in}
-use Rattle.edit_log.proofs.AppliedNew.{symbols_apart, definition_come, agrees_definition_added}
+use Rattle.edit_log.proofs.AgreesAfterAddDefinition.{symbols_apart, definition_come, agrees_definition_added}
 use Rattle.edit_log.proofs.grammar.Grammar.add_definition.Goals as goal
 
 pub add_symbols-requires-clause-new : goal.add_symbols-requires-clause-new

@@ -8,7 +8,7 @@ use Rattle.edit_log.specs.Rows.{lefts_in, uses_in, literals_in}
 use Rattle.edit_log.specs.declared.ready.Plan.TheVariants as planned
 use Rattle.edit_log.specs.Replicas.{Replica, IsApplicable}
 use Rattle.edit_log.specs.Lists.{under}
-use Rattle.edit_log.proofs.RuleAdded.{to_add, new_symbols, left_within, left_room, right_within, right_short, uses_fit, below_next}
+use Rattle.edit_log.proofs.AgreesAfterAddRule.{to_add, new_symbols, left_within, left_room, right_within, right_short, uses_fit, below_next}
 use Rattle.std.specs.Option.{option_flatten}
 use Rattle.std.specs.Str.{bytes_eq}
 use Rattle.grammar_text.specs.Sameness.{rule_eq}
@@ -21,7 +21,7 @@ use Rattle.edit_log.specs.Lists.{live_number, occurrences, IsLiveBy}
 use Rattle.edit_log.specs.Agreement.{grammar_in, Agrees}
 use Rattle.edit_log.proofs.RowLists.{same_uses}
 use Rattle.edit_log.proofs.Liveness.{uses_with, uses_grown}
-use Rattle.edit_log.proofs.RuleAdded.{after_rule, agrees_rule_added, edit_to_add}
+use Rattle.edit_log.proofs.AgreesAfterAddRule.{after_rule, agrees_rule_added, edit_to_add}
 use Rattle.edit_log.proofs.grammar.Grammar.add_rule.Goals as goal
 
 pub add_symbols-requires-clause-new : goal.add_symbols-requires-clause-new

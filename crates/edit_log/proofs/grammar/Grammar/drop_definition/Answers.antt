@@ -3,7 +3,7 @@ use Rattle.std.specs.Option.{option_flatten}
 use Rattle.edit_log.specs.declared.ready.Plan.TheVariants as planned
 use Rattle.edit_log.specs.History.{after}
 use Rattle.edit_log.specs.Replicas.{Replica, IsApplicable}
-use Rattle.edit_log.proofs.Applied.{definition_gone, agrees_definition_dropped}
+use Rattle.edit_log.proofs.AgreesAfterDropDefinition.{definition_gone, agrees_definition_dropped}
 use Rattle.edit_log.proofs.grammar.Grammar.drop_definition.Goals as goal
 
 pub invariant_of-self : goal.invariant_of-self

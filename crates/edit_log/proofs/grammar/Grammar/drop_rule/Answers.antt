@@ -18,7 +18,7 @@ use Rattle.edit_log.specs.Replicas.{Replica, IsApplicable}
 use Rattle.edit_log.specs.Lists.{under, live_number, occurrences, IsLiveBy}
 use Rattle.edit_log.specs.Agreement.{grammar_in, Agrees}
 use Rattle.edit_log.proofs.RowLists.{same_uses}
-use Rattle.edit_log.proofs.AppliedRule.{without, rule_not_lost, left_ascends, left_there, parts_within, parts_counted, rule_gone, agrees_rule_dropped}
+use Rattle.edit_log.proofs.AgreesAfterDropRule.{without, rule_not_lost, left_ascends, left_there, parts_within, parts_counted, rule_gone, agrees_rule_dropped}
 use Rattle.edit_log.proofs.grammar.Grammar.drop_rule.Goals as goal
 
 pub unreachable-requires : goal.unreachable-requires

@@ -34,9 +34,9 @@ use Rattle.edit_log.proofs.PlainLists.{each_contained, found, none_found, nat_cm
 use Rattle.edit_log.proofs.After.{symbols_stay_rule, rules_dropped, well_formed_after}
 use Rattle.edit_log.proofs.Finders.{finds_rule_dropped, finds_definitions_dropped}
 use Rattle.edit_log.proofs.LeftLists.{lefts_rule_dropped}
-use Rattle.edit_log.proofs.LiveFacts.{sum_without}
+use Rattle.edit_log.proofs.LiveByUses.{sum_without}
 use Rattle.edit_log.proofs.Liveness.{numbers_in, uses_rule_dropped, live_from, live_to}
-use Rattle.edit_log.proofs.Applied.{same_grammar, version_next}
+use Rattle.edit_log.proofs.AgreesAfterDropDefinition.{same_grammar, version_next}
 
 -- ---- plain facts
 

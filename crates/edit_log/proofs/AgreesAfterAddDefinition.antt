@@ -32,7 +32,7 @@ use Rattle.edit_log.proofs.After.{well_formed_after}
 use Rattle.edit_log.proofs.Finders.{finds_rules_added, finds_definition_added}
 use Rattle.edit_log.proofs.LeftLists.{with_fresh, lefts_definition_added}
 use Rattle.edit_log.proofs.Liveness.{uses_with, literals_with, uses_grown, literals_grown, live_definition_added}
-use Rattle.edit_log.proofs.Applied.{same_grammar, version_next}
+use Rattle.edit_log.proofs.AgreesAfterDropDefinition.{same_grammar, version_next}
 
 -- ---- what the plan tells
 
