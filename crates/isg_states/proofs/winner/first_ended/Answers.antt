@@ -8,7 +8,7 @@ pub loop-mark-preserved : goal.loop-mark-preserved
 loop-mark-preserved c =
     let within : c.loop-mark.mark-index < length c.args.marks.now = omega arith in
     elim c.if-is_last.branch [
-      | then-is_last w ↦ rw (w.winner-is, w.first_of.ensures)
+      | then-is_last w ↦ rw (w.winner-is, w.first_definition.ensures)
           (ended_more c.args.grammar.now.grammar c.args.marks.now c.loop-mark.mark-index _ _ within c.loop-mark.invariant
               (c.is_last.ensures.0 w.if-is_last.true))
       | else-is_last w ↦ rw w.winner-is
