@@ -156,4 +156,4 @@ long_why false edit why is = absurd cc
 pub only_too_long : (line : List ℕ) (edit : Edit) (why : BadEdit) → edit_of line ≡ Err why → Spells line edit → PartsFit the_limits edit → why ≡ TooLong 0
 unfolding edit_of
 only_too_long line edit why is spelled fits =
-    long_why (nat_lt EDIT_LIMIT (length (canonical edit))) edit why (rw edit_again the_limits (length line) line edit spelled fits at is)
+    long_why (nat_lt EDIT_LIMIT (length (canonical edit))) edit why (rw (edit_again the_limits (length line) line edit spelled fits) at is)
