@@ -61,7 +61,7 @@ fn check_expressions(alloc: Global, edit: &Edit) -> Result<(), AllocError>
 }
 
 /// The edit of a line that a grammar may be asked for. A line that is no edit counts as out of memory.
-fn proper(alloc: Global, line: &str) -> Result<Edit, AllocError>
+pub(crate) fn proper(alloc: Global, line: &str) -> Result<Edit, AllocError>
     ensures { IfOk result IsProper }
 {
     let edit = read(alloc, line)?;
@@ -69,42 +69,33 @@ fn proper(alloc: Global, line: &str) -> Result<Edit, AllocError>
     Ok(edit)
 }
 
-/// The entry of the edit, and the edit ready to be applied, where the grammar takes it.
-fn prepared(alloc: Global, grammar: &mut Grammar, edit: &Edit) -> Result<(Entry, Ready), Refusal>
+/// The edit ready to be applied, where the grammar takes it.
+pub(crate) fn prepared(alloc: Global, grammar: &mut Grammar, edit: &Edit) -> Result<Ready, Refusal>
     requires { IsProper edit.now }
-    ensures { IfOk result (λ r. IsReadyFor grammar.new edit.now r.1) }
+    ensures { IfOk result (IsReadyFor grammar.new edit.now) }
 {
     let entry = may(alloc, grammar, edit)?;
     let ready = grammar.prepare(&entry)?;
-    Ok((entry, ready))
+    Ok(ready)
 }
 
 /// Applies the edit where the grammar takes it.
-fn take(alloc: Global, grammar: &mut Grammar, edit: &Edit) -> Result<Entry, Refusal>
+pub(crate) fn take(alloc: Global, grammar: &mut Grammar, edit: &Edit) -> Result<(), Refusal>
     requires { IsProper edit.now }
 {
-    let (entry, ready) = prepared(alloc, grammar, edit)?;
+    let ready = prepared(alloc, grammar, edit)?;
     grammar.apply(ready);
-    Ok(entry)
+    Ok(())
 }
 
-/// Applies the edit of the line, and gives its entry.
-pub(crate) fn take_line(
-    alloc: Global,
-    grammar: &mut Grammar,
-    line: &str,
-) -> Result<Entry, Refusal> {
+/// Applies the edit of the line where the grammar takes it.
+pub(crate) fn take_line(alloc: Global, grammar: &mut Grammar, line: &str) -> Result<(), Refusal> {
     let edit = proper(alloc, line)?;
     take(alloc, grammar, &edit)
 }
 
-/// The edit of the line, ready to be applied.
-pub(crate) fn ready_line(
-    alloc: Global,
-    grammar: &mut Grammar,
-    line: &str,
-) -> Result<Ready, Refusal> {
+/// The entry of the edit of the line.
+pub(crate) fn entry_line(alloc: Global, grammar: &Grammar, line: &str) -> Result<Entry, Refusal> {
     let edit = proper(alloc, line)?;
-    let (_, ready) = prepared(alloc, grammar, &edit)?;
-    Ok(ready)
+    may(alloc, grammar, &edit)
 }

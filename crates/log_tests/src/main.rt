@@ -17,12 +17,17 @@ use asking::answer;
 use edit_log::Grammar;
 use std::io;
 
-fn main(rt: HostRuntime) -> io::Result<()> {
+/// Writes each of the questions with its answer.
+fn answer_all(rt: &HostRuntime, questions: &str) -> io::Result<()> {
     let mut grammar = Grammar::empty(rt.alloc())?;
-    for line in rt.lines(rt.alloc()) {
-        let line = line?;
-        let answer = answer(rt.alloc(), &mut grammar, &line)?;
-        println!(rt; "{line} =>{answer}")?;
+    for question in questions.lines() {
+        let answer = answer(rt.alloc(), &mut grammar, question)?;
+        println!(rt; "{question} =>{answer}")?;
     }
     Ok(())
+}
+
+fn main(rt: HostRuntime) -> io::Result<()> {
+    let questions = io::read_to_string(rt.alloc(), rt.stdin())?;
+    answer_all(&rt, &questions)
 }

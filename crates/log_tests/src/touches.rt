@@ -1,10 +1,13 @@
 //! What edits touch.
 
+ghost use Rattle.edit_log.specs.Verdict.{IsProper};
+
 use crate::answers::touch_of;
-use crate::histories::{ready_line, take_line};
+use crate::histories::{prepared, proper, take};
 use crate::telling::{tell, tell_definitions};
 use crate::verdicts::refused;
 use edit_log::{Grammar, Refusal, Touch};
+use grammar_text::Edit;
 use std::alloc::{AllocError, Global};
 
 /// The left side, the rule that ends, whether scans change, and the definitions that end.
@@ -23,11 +26,20 @@ fn tell_touch(alloc: Global, touch: &Touch) -> Result<String, AllocError> {
     Ok(told)
 }
 
-/// What the edit touches, which is applied then.
-fn touched(alloc: Global, grammar: &mut Grammar, line: &str) -> Result<String, Refusal> {
-    let ready = ready_line(alloc, grammar, line)?;
+/// What the edit would touch.
+fn touched(alloc: Global, grammar: &mut Grammar, edit: &Edit) -> Result<String, Refusal>
+    requires { IsProper edit.now }
+{
+    let ready = prepared(alloc, grammar, edit)?;
     let told = tell_touch(alloc, touch_of(&ready))?;
-    take_line(alloc, grammar, line)?;
+    Ok(told)
+}
+
+/// What the edit of the line touches, which is applied then.
+fn touched_by(alloc: Global, grammar: &mut Grammar, line: &str) -> Result<String, Refusal> {
+    let edit = proper(alloc, line)?;
+    let told = touched(alloc, grammar, &edit)?;
+    take(alloc, grammar, &edit)?;
     Ok(told)
 }
 
@@ -37,7 +49,7 @@ pub(crate) fn told_touch(
     grammar: &mut Grammar,
     line: &str,
 ) -> Result<String, AllocError> {
-    match touched(alloc, grammar, line) {
+    match touched_by(alloc, grammar, line) {
         Ok(told) => Ok(told),
         Err(refusal) => refused(alloc, &refusal),
     }

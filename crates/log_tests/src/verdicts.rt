@@ -1,7 +1,7 @@
 //! What a grammar takes, and why it does not take an edit.
 
 use crate::answers::version_of;
-use crate::histories::take_line;
+use crate::histories::{entry_line, take_line};
 use edit_log::{Entry, Grammar, LOG_LIMIT, Refusal};
 use grammar_text::Name;
 use std::alloc::{AllocError, Global};
@@ -54,13 +54,13 @@ fn told_words(alloc: Global, entry: &Entry) -> Result<String, AllocError> {
     Ok(told)
 }
 
-/// Applies the edit of the line where the grammar takes it, and tells the words of its entry or the refusal.
+/// The words of the entry of the line's edit, or the refusal.
 pub(crate) fn told_entry(
     alloc: Global,
-    grammar: &mut Grammar,
+    grammar: &Grammar,
     line: &str,
 ) -> Result<String, AllocError> {
-    match take_line(alloc, grammar, line) {
+    match entry_line(alloc, grammar, line) {
         Ok(entry) => told_words(alloc, &entry),
         Err(refusal) => refused(alloc, &refusal),
     }
