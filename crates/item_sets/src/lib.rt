@@ -10,7 +10,6 @@ use std::alloc::AllocError;
 mod closure;
 mod expanding;
 mod expansion;
-mod grouping;
 mod item;
 mod kernel;
 mod laws;
