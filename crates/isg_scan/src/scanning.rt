@@ -30,7 +30,7 @@ pub fn scan<G: Graph, L: Ledger>(
     ensures tokens { IfOk result (λ found. Tokenizes (G.means graph.old).grammar text.now (tokens found.items)) }
     ensures refused { IfErr result (EndsWith (G.means graph.old).grammar text.now) }
     ensures grammar { (G.means graph.new).grammar ≡ (G.means graph.old).grammar }
-    ensures ground { (G.means graph.new).ground ≡ (G.means graph.old).ground }
+    ensures base { (G.means graph.new).base ≡ (G.means graph.old).base }
     ensures kernels { (G.means graph.new).kernels ≡ (G.means graph.old).kernels }
     ensures asked { UnlessNoMemory result ((key : ScanKey) → Contains (G.means graph.new).scans.keys key
         ↔ (Contains (G.means graph.old).scans.keys key ⊎ ReachesScan (G.means graph.old).grammar text.now key)) }

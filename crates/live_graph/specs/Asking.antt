@@ -21,15 +21,15 @@ pub record Asks {Key : Type 0} (Costs : Key → ℕ → Type 0) (old : Asked Key
   pub works : Works Costs old key new before after
 
 -- the graph was asked for a state of the scanner, and all else stands
-pub record AsksScan {Ground : Type 0} (old : Meaning Ground) (key : ScanKey) (new : Meaning Ground) (before after : ℕ) : Type 0 where
+pub record AsksScan {Base : Type 0} (old : Meaning Base) (key : ScanKey) (new : Meaning Base) (before after : ℕ) : Type 0 where
   pub grammar : new.grammar ≡ old.grammar
-  pub ground : new.ground ≡ old.ground
+  pub base : new.base ≡ old.base
   pub kernels : new.kernels ≡ old.kernels
   pub asks : Asks (IsScanCost old.grammar) old.scans key new.scans before after
 
 -- the graph was asked for a kernel, and all else stands
-pub record AsksKernel {Ground : Type 0} (old : Meaning Ground) (key : List Item) (new : Meaning Ground) (before after : ℕ) : Type 0 where
+pub record AsksKernel {Base : Type 0} (old : Meaning Base) (key : List Item) (new : Meaning Base) (before after : ℕ) : Type 0 where
   pub grammar : new.grammar ≡ old.grammar
-  pub ground : new.ground ≡ old.ground
+  pub base : new.base ≡ old.base
   pub scans : new.scans ≡ old.scans
   pub asks : Asks (IsCost old.grammar.rules) old.kernels key new.kernels before after

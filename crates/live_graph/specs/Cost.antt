@@ -10,7 +10,7 @@ IsSum Costs [] sum = sum ≡ 0
 IsSum Costs (key ∷ keys) sum = (one others : ℕ) × Costs key one × IsSum Costs keys others × (sum ≡ one + others)
 
 -- the cost of a graph: that of all the keys that it expanded itself
-pub record IsCostOf {Ground : Type 0} (graph : Meaning Ground) (cost : ℕ) : Type 0 where
+pub record IsCostOf {Base : Type 0} (graph : Meaning Base) (cost : ℕ) : Type 0 where
   pub scans : ℕ
   pub kernels : ℕ
   pub scans_cost : IsSum (IsScanCost graph.grammar) graph.scans.own scans
@@ -18,7 +18,7 @@ pub record IsCostOf {Ground : Type 0} (graph : Meaning Ground) (cost : ℕ) : Ty
   pub sum : cost ≡ scans + kernels
 
 -- the count of steps rose as much as the cost of the graph
-pub record RisesAsCost {Ground : Type 0} (old new : Meaning Ground) (before after : ℕ) : Type 0 where
+pub record RisesAsCost {Base : Type 0} (old new : Meaning Base) (before after : ℕ) : Type 0 where
   pub rise : ℕ
   pub steps : after ≡ before + rise
   pub cost : (cost : ℕ) → IsCostOf old cost → IsCostOf new (cost + rise)

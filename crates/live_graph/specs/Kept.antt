@@ -21,7 +21,7 @@ all_own keys = record { keys = keys; own = keys }
 
 -- what the graph of one user means: it expanded itself whatever it was asked for, and stands on nothing
 abbrev pub means_alone : Alone → Meaning (Unit {0})
-means_alone graph = record { grammar = graph.grammar; scans = all_own graph.scans; kernels = all_own graph.kernels; ground = tt }
+means_alone graph = record { grammar = graph.grammar; scans = all_own graph.scans; kernels = all_own graph.kernels; base = tt }
 
 -- each state is kept with its expansion
 abbrev pub HoldsScans : Grammar → List (ScanKey × ScanExpansion) → Type 0

@@ -10,8 +10,8 @@ pub record Asked (Key : Type 0) : Type 0 where
   pub own : List Key
 
 -- the grammar, the states of the scanner and the kernels that the graph was asked for, and what it stands on, which no call changes
-pub record Meaning (Ground : Type 0) : Type 0 where
+pub record Meaning (Base : Type 0) : Type 0 where
   pub grammar : Grammar
   pub scans : Asked ScanKey
   pub kernels : Asked (List Item)
-  pub ground : Ground
+  pub base : Base

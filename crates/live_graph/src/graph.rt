@@ -20,9 +20,9 @@ pub trait Graph {
     ghost use Rattle.live_graph.specs.Meaning.{Meaning};
 
     /// What a graph stands on, such as a page of a table that many share.
-    ghost Ground: { Type 0 };
+    ghost Base: { Type 0 };
 
-    ghost means: { Self → Meaning Ground };
+    ghost means: { Self → Meaning Base };
 
     /// The grammar whose expansions these are.
     fn grammar(&self) -> &Grammar

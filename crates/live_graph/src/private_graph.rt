@@ -48,7 +48,7 @@ impl PrivateGraph<'_> {
 impl Graph for PrivateGraph<'_> {
     ghost use Rattle.live_graph.specs.Kept.{means_alone};
 
-    ghost Ground = { Unit {0} };
+    ghost Base = { Unit {0} };
 
     ghost means = { means_alone };
 
