@@ -7,11 +7,14 @@
 use std::alloc::AllocError;
 
 mod graph;
+mod kept;
 mod laws;
 mod private_graph;
 
 pub use graph::Graph;
-pub use laws::alone_expands_all;
+pub use laws::{
+    alone_expands_all, kernel_raises_cost, one_graph_cost, rises_join, scan_raises_cost,
+};
 pub use private_graph::PrivateGraph;
 
 /// Memory ran out.

@@ -4,11 +4,12 @@ ghost use Rattle.std.specs.Prelude.{◌≡◌, [], IfOk};
 
 use crate::NoMemory;
 use crate::graph::Graph;
+use crate::kept::{place_of_kernel, place_of_state};
 use edit_log::Grammar;
 use indexmap::IndexMap;
 use isg_states::{ScanExpansion, ScanKey};
 use item_sets::{Expansion, Kernel};
-use std::alloc::{AllocError, Global};
+use std::alloc::Global;
 use std::marker::Model;
 use std::sync::ledger::Ledger;
 use steps::Steps;
@@ -61,7 +62,11 @@ impl Graph for PrivateGraph<'_> {
         kernel: &Kernel,
         steps: &mut Steps<L>,
     ) -> Result<&Expansion, NoMemory> {
-        Err(AllocError)
+        let place = place_of_kernel(self.grammar, &mut self.kernels, kernel, steps)?;
+        match self.kernels.get_index(place) {
+            Some((_, expansion)) => Ok(expansion),
+            None => unreachable!(),
+        }
     }
 
     fn scan<L: Ledger>(
@@ -69,6 +74,10 @@ impl Graph for PrivateGraph<'_> {
         key: &ScanKey,
         steps: &mut Steps<L>,
     ) -> Result<&ScanExpansion, NoMemory> {
-        Err(AllocError)
+        let place = place_of_state(self.grammar, &mut self.scans, key, steps)?;
+        match self.scans.get_index(place) {
+            Some((_, expansion)) => Ok(expansion),
+            None => unreachable!(),
+        }
     }
 }
