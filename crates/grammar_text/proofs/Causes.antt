@@ -140,12 +140,12 @@ pub too_long : (line : List ℕ) (at : ℕ) → (edit_of line ≡ Err (TooLong a
 unfolding edit_of
 too_long line at = (
   (λ is.
-  let long = long_edit at (edit_at the_limits (start_of line)) (edit_tells the_limits (start_of line)) is in
-  let read = edit_takes the_limits (start_of line) long.0 long.1 in
-  (long.3, (long.0, read.0, read.1, long.2))),
+      let long = long_edit at (edit_at the_limits (start_of line)) (edit_tells the_limits (start_of line)) is in
+      let read = edit_takes the_limits (start_of line) long.0 long.1 in
+      (long.3, (long.0, read.0, read.1, long.2))),
   λ is.
-  let edit = is.1.0 in
-  rw (edit_again the_limits (length line) line edit is.1.1 is.1.2, lt-ltb EDIT_LIMIT (length (canonical edit)) is.1.3, is.0) refl,
+      let edit = is.1.0 in
+      rw (edit_again the_limits (length line) line edit is.1.1 is.1.2, lt-ltb EDIT_LIMIT (length (canonical edit)) is.1.3, is.0) refl,
 )
 
 long_why : (long : Bool) (edit : Edit) (why : BadEdit) → (if long then Err (TooLong 0) else Ok edit) ≡ Err why → why ≡ TooLong 0

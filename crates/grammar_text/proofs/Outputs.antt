@@ -1,5 +1,5 @@
 -- What outputs are after a text.
-use Rattle.std.proofs.Common.{◌≡◌, ℕ, ◌+◌, ◌-◌, ◌^◌, ◌<◌, List, [], ◌∷◌, ◌++◌, length, min, sym, ap, ◌∙◌, append-nil, append_assoc, arith}
+use Rattle.std.proofs.Common.{◌≡◌, ℕ, ◌+◌, ◌-◌, ◌^◌, ◌<◌, List, [], ◌∷◌, ◌++◌, length, min, sym, ◌∙◌, append-nil, append_assoc, arith}
 use Rattle.std.specs.List.{fold}
 use Rattle.grammar_text.specs.declared.output.Length.{Length}
 

@@ -20,7 +20,9 @@ mod writing;
 
 pub use bad_edit::BadEdit;
 pub use edit::{DefText, Edit, RuleText};
-pub use laws::{canonical_is_spelled, never_memory, one_edit, read_as_spelled, reads_back, too_long};
+pub use laws::{
+    canonical_is_spelled, never_memory, one_edit, read_as_spelled, reads_back, too_long,
+};
 pub use limits::{
     EDIT_LIMIT, LINE_LIMIT, LITERAL_LIMIT, NAME_LIMIT, SYMBOL_LIMIT, limits_of_edits,
 };

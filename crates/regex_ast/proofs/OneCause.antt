@@ -1,9 +1,9 @@
 -- A text spells one expression within the limits, or has one cause why it does not.
-use Rattle.std.proofs.Common.{◌≡◌, ℕ, ◌+◌, ◌<◌, ◌≤◌, zero, suc, Option, Some, None, Result, Ok, Err, option_and_then, List, [], ◌∷◌, ◌++◌, refl, sym, ap, ◌∙◌, subst, append_assoc, arith, length, take, get_or, ◌⊎◌, inl, inr}
+use Rattle.std.proofs.Common.{◌≡◌, ℕ, ◌+◌, ◌<◌, ◌≤◌, zero, suc, Option, Some, None, Result, Ok, Err, List, [], ◌∷◌, ◌++◌, refl, sym, ap, ◌∙◌, subst, append_assoc, arith, length, take, get_or, ◌⊎◌, inl, inr}
 use Rattle.std.proofs.lemmas.Bool.{cases_lt}
 use Rattle.regex_ast.specs.Expressions.{Expression}
-use Rattle.regex_ast.specs.Spelling.{Cut, text_of, SpellsExpression, SpellsInCuts}
-use Rattle.regex_ast.specs.Refusals.{HasContinuation, IsBrokenAt, IsEmptyClass, IsTooDeep, IsOneTooMany, NoPlace, IsFirstPlace, SpellsWithinLimits, SpellsWith, IsCause}
+use Rattle.regex_ast.specs.Spelling.{Cut, text_of, SpellsExpression}
+use Rattle.regex_ast.specs.Refusals.{HasContinuation, IsBrokenAt, IsEmptyClass, IsTooDeep, IsOneTooMany, IsFirstPlace, SpellsWithinLimits, IsCause}
 use Rattle.regex_ast.specs.Nests.{State, reading, finished, after_byte, after_bytes, first_state, judged, judged_if_whole, answer_of, Stops}
 use Rattle.regex_ast.specs.declared.bad_regex.BadRegex.{BadRegex}
 use Rattle.regex_ast.specs.declared.bad_regex.BadRegex.TheVariants.{Shape, EmptyClass, TooDeep, TooManyPositions, NoMemory}

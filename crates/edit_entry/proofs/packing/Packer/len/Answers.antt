@@ -1,4 +1,4 @@
-use Rattle.std.proofs.Common.{◌≡◌, ap, length, ◌∙◌}
+use Rattle.std.proofs.Common.{ap, length, ◌∙◌}
 use Rattle.edit_entry.specs.Entries.{text_in}
 use Rattle.edit_entry.proofs.EntryPacking.{first_word}
 use Rattle.edit_entry.proofs.packing.Packer.len.Goals as goal
