@@ -26,6 +26,3 @@ pub use laws::{
 
 /// Memory ran out.
 pub type NoMemory = AllocError;
-
-#[cfg(test)]
-mod tests;

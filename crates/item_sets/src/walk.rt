@@ -1,7 +1,8 @@
 //! A walk over the items of a closure: each is met once.
 
-ghost use Rattle.std.specs.Prelude.{◌≡◌, ◌+◌, [], ◌∷◌, ◌++◌, List, OnOk, IfOk, Contains};
+ghost use Rattle.std.specs.Prelude.{◌≡◌, ◌+◌, [], ◌∷◌, ◌++◌, List, OnOk, IfOk, Contains, option_map};
 ghost use Rattle.edit_log.specs.Facts.{IsWellFormed};
+ghost use Rattle.edit_log.specs.Lookups.{rule_of};
 ghost use Rattle.item_sets.specs.declared.item.Item.{Item};
 ghost use Rattle.item_sets.specs.Prefixes.{IsItem, item_at};
 ghost use Rattle.item_sets.specs.Walks.{next_of, IsWalk, Extends, put_at};
@@ -10,7 +11,7 @@ use crate::NoMemory;
 use crate::item::Item;
 use crate::kernel::Kernel;
 use edit_log::Grammar;
-use forest::{RuleId, START, SymbolId};
+use forest::{Rule, RuleId, START, SymbolId};
 use indexmap::IndexSet;
 use std::alloc::Global;
 use std::sync::ledger::Ledger;
@@ -26,6 +27,20 @@ pub(crate) struct Walk {
     pub(crate) reductions: Vec<RuleId>,
 }
 
+/// The live rule with this number. Before the first rule is dropped its place tells it, and nothing is searched.
+fn rule_of(grammar: &Grammar, number: RuleId) -> Option<&Rule>
+    ensures { option_map (λ r. r.now) result ≡ rule_of grammar.now.grammar.rules number }
+{
+    let rules = grammar.rules().rules.as_slice();
+    let Some(rule) = rules.get((number.0 as usize).wrapping_sub(1)) else {
+        return grammar.rule(number);
+    };
+    if rule.number.0 == number.0 {
+        return Some(rule);
+    }
+    grammar.rule(number)
+}
+
 /// The symbol after the item's dot.
 fn next_of(grammar: &Grammar, item: Item) -> Option<SymbolId>
     ensures { result ≡ next_of grammar.now.grammar.rules item }
@@ -33,7 +48,7 @@ fn next_of(grammar: &Grammar, item: Item) -> Option<SymbolId>
     if item.rule.0 == 0 {
         return if item.dot == 0 { Some(START) } else { None };
     }
-    let rule = grammar.rule(item.rule)?;
+    let rule = rule_of(grammar, item.rule)?;
     rule.right.as_slice().get(item.dot as usize).copied()
 }
 
