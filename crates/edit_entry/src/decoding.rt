@@ -36,7 +36,7 @@ fn text_in(alloc: Global, words: &[u64; 32]) -> Result<Vec<u8>, NoMemory>
     Ok(text)
 }
 
-pub(crate) fn is_line(bytes: &[u8]) -> bool
+fn is_line(bytes: &[u8]) -> bool
     ensures { result ≡ list_all (λ byte. not (byte == 10)) bytes.now }
 {
     bytes.iter().all(|byte| *byte != b'\n')

@@ -20,7 +20,7 @@ rule_cmp_total = on_total (λ (r : Rule). r.number.0) nat_cmp_total
 pub node_cmp_total : IsTotalOrder node_cmp
 node_cmp_total =
     let ends = then_total {R = on (λ (n : Node). n.to) nat_cmp} {S = on (λ (n : Node). n.symbol.0) nat_cmp} (on_total (λ (n : Node). n.to) nat_cmp_total)
-        (on_total (λ (n : Node). n.symbol.0) nat_cmp_total) in
+    (on_total (λ (n : Node). n.symbol.0) nat_cmp_total) in
     then_total {R = on (λ (n : Node). n.from) nat_cmp} (on_total (λ (n : Node). n.from) nat_cmp_total) ends
 
 pub split_cmp_total : IsTotalOrder split_cmp

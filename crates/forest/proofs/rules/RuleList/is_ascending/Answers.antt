@@ -11,7 +11,7 @@ returns-then-ge c =
       λ s.
           let sorted : IsStrictlySortedBy rule_cmp c.as_slice-rules.result.now = rw c.as_slice-rules.ensures s in
           absurd (not_ascending c.as_slice-rules.result.now c.loop-at.at c.index-rules-at.result c.index-rules-at-in-loop-at.result c.index-rules-at.is
-              c.index-rules-at-in-loop-at.is (omega arith) (omega arith) above sorted),
+          c.index-rules-at-in-loop-at.is (omega arith) (omega arith) above sorted),
     )
 
 pub returns : goal.returns

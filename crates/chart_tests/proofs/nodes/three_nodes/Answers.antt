@@ -3,7 +3,7 @@ use Rattle.std.specs.List.Sorted.{IsStrictlySortedBy}
 use Rattle.std.specs.declared.cmp.Ordering.TheVariants.{Less}
 use Rattle.forest.specs.declared.nodes.Node.{Node}
 use Rattle.forest.specs.Orders.{node_cmp}
-use Rattle.forest.proofs.tests.forest.Goals as goal
+use Rattle.chart_tests.proofs.nodes.three_nodes.Goals as goal
 
 three : (x y z : Node) → node_cmp x y ≡ Less → node_cmp x z ≡ Less → node_cmp y z ≡ Less → IsStrictlySortedBy node_cmp (x ∷ y ∷ z ∷ [])
 unfolding IsStrictlySortedBy
