@@ -1,0 +1,11 @@
+//! The tokens of a text, over states of the scanner that a graph expands by need.
+//!
+//! At each offset the longest piece that a live definition matches is taken. The state after a part of the text
+//! is the set of positions after it, and a definition matches the part where the state has a last position of it.
+#![tactic(auto)]
+
+mod scan_error;
+mod scanning;
+
+pub use scan_error::ScanError;
+pub use scanning::{SCAN_LIMIT, scan};

@@ -1,0 +1,41 @@
+//! The scan of a text.
+
+ghost use Rattle.std.specs.Prelude.{◌≡◌, ◌≤◌, ◌⊎◌, ◌↔◌, length, Contains, IfOk, IfErr};
+ghost use Rattle.edit_log.specs.Tokens.{Tokenizes, tokens};
+ghost use Rattle.isg_states.specs.declared.scan_key.ScanKey.{ScanKey};
+ghost use Rattle.live_graph.specs.Cost.{RisesAsCost};
+ghost use Rattle.isg_scan.specs.Reach.{ReachesScan};
+ghost use Rattle.isg_scan.specs.Answers.{EndsWith, UnlessNoMemory};
+
+use crate::scan_error::ScanError;
+use forest::Token;
+use live_graph::Graph;
+use std::alloc::Global;
+use std::sync::ledger::Ledger;
+use steps::Steps;
+
+/// The most bytes of a text that is scanned.
+pub const SCAN_LIMIT: usize = 65_536;
+
+/// The tokens of the text in the grammar of the graph. At each offset the longest piece that a live definition
+/// matches is taken, and gives a token unless the definition that wins it is a skip. The graph is asked for a
+/// state only where a byte is read from it.
+pub fn scan<G: Graph, L: Ledger>(
+    alloc: Global,
+    graph: &mut G,
+    text: &[u8],
+    steps: &mut Steps<L>,
+) -> Result<Vec<Token>, ScanError>
+    requires { length text.now ≤ SCAN_LIMIT }
+    ensures tokens { IfOk result (λ found. Tokenizes (G.means graph.old).grammar text.now (tokens found.items)) }
+    ensures refused { IfErr result (EndsWith (G.means graph.old).grammar text.now) }
+    ensures grammar { (G.means graph.new).grammar ≡ (G.means graph.old).grammar }
+    ensures base { (G.means graph.new).base ≡ (G.means graph.old).base }
+    ensures kernels { (G.means graph.new).kernels ≡ (G.means graph.old).kernels }
+    ensures asked { UnlessNoMemory result ((key : ScanKey) → Contains (G.means graph.new).scans.keys key
+        ↔ (Contains (G.means graph.old).scans.keys key ⊎ ReachesScan (G.means graph.old).grammar text.now key)) }
+    ensures steps { UnlessNoMemory result (RisesAsCost (G.means graph.old) (G.means graph.new) steps.old steps.new) }
+    ensures never_back { steps.old ≤ steps.new }
+{
+    Err(ScanError::NoMemory)
+}

@@ -1,0 +1,4 @@
+pub mod KeptEntries
+pub mod Sums
+pub mod SameKernels
+pub mod Rises

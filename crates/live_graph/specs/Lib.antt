@@ -1,0 +1,4 @@
+pub mod Meaning
+pub mod Cost
+pub mod Asking
+pub mod Kept
