@@ -3,7 +3,7 @@ use Rattle.script_text.specs.Scripts.{IsFirstBad}
 use Rattle.workbench.specs.declared.top_call.Status.TheVariants.{Done, BadScript, WriteFault, NoMemory}
 use Rattle.workbench.specs.Runs.{TakesFirst, of_replies, of_refusal}
 use Rattle.grammar_text.proofs.ByteTexts.{bytes_from_places}
-use Rattle.workbench.proofs.ScriptFacts.{all_answerable}
+use Rattle.workbench.proofs.ScriptFacts.{all_proper}
 use Rattle.workbench.proofs.RunEnds.{after_failure}
 use Rattle.workbench.proofs.top_call.run_script.Goals as goal
 
@@ -18,7 +18,7 @@ returns-in-Err-Bad-clause-no_memory g c = λ is.
     inr (of_refusal c.in-Err-Bad.bad first (after_failure c.refuse-written.result BadScript c.status_after.result NoMemory c.status_after.ensures.ok c.refuse-written.ensures.front is (λ e. cc e)))
 
 pub answer_all-written-requires : goal.answer_all-written-requires
-answer_all-written-requires g c = rw c.as_slice.ensures (all_answerable c.args.script.now c.in-Ok.read (bytes_from_places c.args.script.now (search rules)) c.in-Ok.ensures.found)
+answer_all-written-requires g c = rw c.as_slice.ensures (all_proper c.args.script.now c.in-Ok.read (bytes_from_places c.args.script.now (search rules)) c.in-Ok.ensures.found)
 
 pub returns-clause-stopped : goal.returns-clause-stopped
 returns-clause-stopped g c = λ is.
