@@ -11,7 +11,7 @@ use Rattle.script_text.specs.declared.command.Block.TheVariants.{Alone, Par}
 use Rattle.script_text.specs.declared.command.Script.{Script}
 use Rattle.script_text.proofs.ScriptLaws.{one_script, not_both, one_bad}
 use Rattle.workbench.specs.Pieces.{TakesPrefix, TakesProperPrefix}
-use Rattle.replies.specs.Lines.{bad_line}
+use Rattle.replies.specs.Lines.{bad_line, reply_text}
 use Rattle.replies.specs.Replies.{grammar_after, AreReplies, none, more}
 use Rattle.workbench.specs.Output.{IsOutput, replies, refusal}
 use Rattle.workbench.specs.Runs.{StopsInOutput, of_replies, of_refusal}
@@ -23,7 +23,7 @@ same_replies : (grammar : Grammar) (blocks : List Block) (a b : List ℕ) → Ar
 same_replies grammar [] _ _ none none = refl
 same_replies grammar (Par commands ∷ blocks) a b e f = elim e [ ]
 same_replies grammar (Alone command ∷ blocks) _ _ (more {reply = r} {replies = rs} one others) (more {reply = s} {replies = ss} one' others') =
-    let first : r ≡ s = one_reply grammar command r s one one' in
+    let first : reply_text grammar.symbols r ≡ reply_text grammar.symbols s = ap (reply_text grammar.symbols) (one_reply grammar command r s one one') in
     let rest : rs ≡ ss = same_replies (grammar_after grammar command) blocks rs ss others others' in
     (λ i. first i ++ rest i)
 
@@ -37,9 +37,9 @@ front : (grammar : Grammar) (first others : List Block) (output whole : List ℕ
 front grammar [] others _ whole none all = record { behind = whole; is = refl }
 front grammar (Par commands ∷ first) others output whole part all = elim part [ ]
 front grammar (Alone command ∷ first) others _ _ (more {reply = r} {replies = rs} one rest) (more {reply = s} {replies = ss} one' rest') =
-    let same : s ≡ r = one_reply grammar command s r one' one in
+    let same : reply_text grammar.symbols s ≡ reply_text grammar.symbols r = ap (reply_text grammar.symbols) (one_reply grammar command s r one' one) in
     let further = front (grammar_after grammar command) first others rs ss rest rest' in
-    record { behind = further.behind; is = (λ i. same i ++ further.is i) ∙ sym (append_assoc r rs further.behind) }
+    record { behind = further.behind; is = (λ i. same i ++ further.is i) ∙ sym (append_assoc (reply_text grammar.symbols r) rs further.behind) }
 
 -- ---- a script has one output
 

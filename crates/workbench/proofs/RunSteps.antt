@@ -12,19 +12,24 @@ use Rattle.script_text.specs.declared.command.Command.{Command}
 use Rattle.script_text.specs.declared.command.Block.{Block}
 use Rattle.script_text.specs.declared.command.Block.TheVariants.{Alone, Par}
 use Rattle.workbench.specs.Pieces.{TakesPrefix}
-use Rattle.replies.specs.Replies.{IsReply, grammar_after, grammar_behind, grammar_after_all, AreReplies, none, more, IsAnswerableBlock, AnswersBlock}
+use Rattle.replies.specs.declared.reply.Reply.{Reply}
+use Rattle.replies.specs.Lines.{reply_text}
+use Rattle.replies.specs.Replies.{IsReply, grammar_after, AreReplies, none, more}
+use Rattle.replies.specs.Blocks.{grammar_behind, grammar_after_all, IsProperBlock, AnswersBlock}
 use Rattle.workbench.specs.Runs.{AnswersAll, StopsInReplies}
 
 -- ---- replies one after the other
 
-AreReplies-push : (grammar : Grammar) (blocks : List Block) (command : Command) (output reply : List ℕ) → AreReplies grammar blocks output
+AreReplies-push : (grammar : Grammar) (blocks : List Block) (command : Command) (output : List ℕ) (reply : Reply) → AreReplies grammar blocks output
     → IsReply (grammar_after_all grammar blocks) command reply
-    → AreReplies grammar (blocks ++ Alone command ∷ []) (output ++ reply)
-AreReplies-push grammar [] command [] reply none is = subst (AreReplies grammar (Alone command ∷ [])) (append-nil reply) (more is none)
+    → AreReplies grammar (blocks ++ Alone command ∷ []) (output ++ reply_text (grammar_after_all grammar blocks).symbols reply)
+AreReplies-push grammar [] command [] reply none is = subst (AreReplies grammar (Alone command ∷ [])) (append-nil (reply_text grammar.symbols reply))
+    (more is none)
 AreReplies-push grammar [] command (byte ∷ output) reply replies is = elim replies [ ]
 AreReplies-push grammar (Par commands ∷ blocks) command output reply replies is = elim replies [ ]
 AreReplies-push grammar (Alone first ∷ blocks) command _ reply (more {reply = one} {replies = rest} said others) is =
-    subst (AreReplies grammar (Alone first ∷ (blocks ++ Alone command ∷ []))) (sym (append_assoc one rest reply))
+    subst (AreReplies grammar (Alone first ∷ (blocks ++ Alone command ∷ [])))
+    (sym (append_assoc (reply_text grammar.symbols one) rest (reply_text (grammar_after_all (grammar_after grammar first) blocks).symbols reply)))
     (more said (AreReplies-push (grammar_after grammar first) blocks command rest reply others is))
 
 grammar_after_all-push : (grammar : Grammar) (blocks : List Block) (block : Block) → grammar_after_all grammar (blocks ++ block ∷ []) ≡ grammar_behind
@@ -53,7 +58,10 @@ answered_more old new first (Alone command) grammar next out appended so_far ans
   replies =
       let all = AreReplies-push empty_grammar first command (so_far.written ++ out) answers.reply so_far.replies
           (subst (λ g. IsReply g command answers.reply) so_far.same answers.is) in
-      subst (AreReplies empty_grammar (first ++ Alone command ∷ [])) (append_assoc so_far.written out answers.reply ∙ ap (λ bytes. so_far.written
+      let text : reply_text (grammar_after_all empty_grammar first).symbols answers.reply ≡ reply_text grammar.symbols answers.reply =
+          ap (λ (g : Grammar). reply_text g.symbols answers.reply) (sym so_far.same) in
+      subst (AreReplies empty_grammar (first ++ Alone command ∷ []))
+      (ap (λ t. (so_far.written ++ out) ++ t) text ∙ append_assoc so_far.written out (reply_text grammar.symbols answers.reply) ∙ ap (λ bytes. so_far.written
           ++ bytes) (sym answers.appended)) all;
   same = next-is ∙ ap (λ g. grammar_after g command) so_far.same ∙ sym (grammar_after_all-push empty_grammar first (Alone command));
 }
@@ -111,8 +119,8 @@ on_err (Err e) p = p
 -- ---- the block at a place
 
 pub answerable_at : (blocks : List Block) (i : ℕ) (block : Block) → i < length blocks → block ≡ slice_index_or blocks i block
-    → AllByRecursion IsAnswerableBlock blocks → IsAnswerableBlock block
-answerable_at blocks i block less is all = subst IsAnswerableBlock (sym is) (All-from_recursion IsAnswerableBlock blocks all i block less)
+    → AllByRecursion IsProperBlock blocks → IsProperBlock block
+answerable_at blocks i block less is all = subst IsProperBlock (sym is) (All-from_recursion IsProperBlock blocks all i block less)
 
 pub front_more : (blocks : List Block) (i : ℕ) (block : Block) → i < length blocks → block ≡ slice_index_or blocks i block
     → take (i + 1) blocks ≡ take i blocks ++ block ∷ []

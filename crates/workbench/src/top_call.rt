@@ -10,7 +10,7 @@ ghost use Rattle.script_text.specs.declared.limits.TheConstants.{SCRIPT_LIMIT};
 ghost use Rattle.script_text.specs.Scripts.{SpellsScript, IsFirstBad};
 ghost use Rattle.workbench.specs.declared.top_call.TheConstants.{WRITE_SIZE};
 ghost use Rattle.workbench.specs.Ends.{IsLate, IsFree, EndsBy, IsSilent, StopsBeforeEnd};
-ghost use Rattle.replies.specs.Replies.{IsAnswerableBlock};
+ghost use Rattle.replies.specs.Blocks.{IsProperBlock};
 ghost use Rattle.workbench.specs.Runs.{AnswersAll, StopsInReplies, StopsInOutput, RunsWhole, RunsBad, StopsEarly};
 ghost use Rattle.workbench.specs.Output.{IsOutput, IsBadScript};
 ghost use Rattle.workbench.specs.Pieces.{TakesPrefix, TakesProperPrefix, GivesCount, TellsBytes};
@@ -64,7 +64,7 @@ fn flush_full<K: Sink>(sink: &mut K, out: &mut Vec<u8>) -> Result<(), Fault>
 
 /// Writes the replies to the blocks.
 fn answer_all<K: Sink>(alloc: Global, blocks: &[Block], sink: &mut K) -> Result<(), Fault>
-    requires { AllByRecursion IsAnswerableBlock blocks.now }
+    requires { AllByRecursion IsProperBlock blocks.now }
     ensures whole { OnOk result (AnswersAll (K.taken sink.old) (K.taken sink.new) blocks.now) }
     ensures front { OnErr result (StopsInReplies (K.taken sink.old) (K.taken sink.new) blocks.now) }
     ensures counted { K.faults sink.old ≤ K.faults sink.new }

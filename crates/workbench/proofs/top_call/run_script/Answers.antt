@@ -3,7 +3,7 @@ use Rattle.script_text.specs.Scripts.{IsFirstBad}
 use Rattle.workbench.specs.declared.top_call.Status.TheVariants.{Done, BadScript, WriteFault, NoMemory}
 use Rattle.workbench.specs.Runs.{StopsInReplies, of_replies, of_refusal}
 use Rattle.grammar_text.proofs.ByteTexts.{bytes_from_places}
-use Rattle.workbench.proofs.ScriptFacts.{all_answerable}
+use Rattle.workbench.proofs.ScriptFacts.{all_proper}
 use Rattle.workbench.proofs.RunEnds.{after_failure}
 use Rattle.workbench.proofs.top_call.run_script.Goals as goal
 
@@ -20,7 +20,7 @@ returns-in-Err-Bad-clause-no_memory g c = λ is.
         c.refuse-written.ensures.front is (λ e. cc e)))
 
 pub answer_all-written-requires : goal.answer_all-written-requires
-answer_all-written-requires g c = rw c.as_slice.ensures (all_answerable c.args.script.now c.in-Ok.read (bytes_from_places c.args.script.now
+answer_all-written-requires g c = rw c.as_slice.ensures (all_proper c.args.script.now c.in-Ok.read (bytes_from_places c.args.script.now
     (search rules)) c.in-Ok.ensures.found)
 
 pub returns-clause-stopped : goal.returns-clause-stopped
