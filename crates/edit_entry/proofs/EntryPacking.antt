@@ -73,7 +73,8 @@ more_packed : (text more : List ℕ) → length text + length more ≤ EDIT_LIMI
 more_packed text [] fits = sym (append-nil text)
 more_packed text (byte ∷ more) fits =
     let grown : length (text ++ byte ∷ []) ≡ length text + 1 = length_push text byte in
-    ap (λ t. fold with_room t more) (room_taken text byte (omega arith)) ∙ more_packed (text ++ byte ∷ []) more (omega arith) ∙ append_assoc text (byte ∷ []) more
+    ap (λ t. fold with_room t more) (room_taken text byte (omega arith))
+    ∙ more_packed (text ++ byte ∷ []) more (omega arith) ∙ append_assoc text (byte ∷ []) more
 
 -- a text that has room is packed whole
 pub all_packed : (text : List ℕ) → length text ≤ EDIT_LIMIT → fold with_room [] text ≡ text

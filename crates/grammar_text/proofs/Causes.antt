@@ -129,7 +129,8 @@ is_long : (long : Bool) (at : ℕ) (edit : Edit) → (if long then Err (TooLong 
 is_long true at edit is = let same : 0 ≡ at = cc in (refl, sym same)
 is_long false at edit is = absurd cc
 
-long_edit : (at : ℕ) (read : Result Edit BadEdit) → Tells read → (read >>= short_edit) ≡ Err (TooLong at) → (edit : Edit) × (read ≡ Ok edit) × (EDIT_LIMIT < length (canonical edit)) × (at ≡ 0)
+long_edit : (at : ℕ) (read : Result Edit BadEdit) → Tells read → (read >>= short_edit) ≡ Err (TooLong at)
+    → (edit : Edit) × (read ≡ Ok edit) × (EDIT_LIMIT < length (canonical edit)) × (at ≡ 0)
 long_edit at (Ok edit) told is =
     let long = is_long (nat_lt EDIT_LIMIT (length (canonical edit))) at edit is in
     (edit, refl, ltb-true EDIT_LIMIT (length (canonical edit)) long.0, long.1)

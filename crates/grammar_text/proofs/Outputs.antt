@@ -19,7 +19,7 @@ length_more : (so_far : Length) (text : List ℕ) → so_far.bytes + length text
 length_more so_far [] fits = omega arith
 length_more so_far (byte ∷ text) fits =
     let one : (counted so_far byte).bytes ≡ so_far.bytes + 1 = omega arith in
-    let rest : (fold counted (counted so_far byte) text).bytes ≡ (counted so_far byte).bytes + length text = length_more (counted so_far byte) text (omega arith) in
+    let rest = length_more (counted so_far byte) text (omega arith) in
     omega arith
 
 pub length_after : (text : List ℕ) → length text < 2 ^ 32 → (fold counted (record { bytes = 0 }) text).bytes ≡ length text

@@ -14,7 +14,8 @@ Fits front bytes word = AllZip (Holds (front ++ map only bytes)) (numbers_from (
 one_longer : (front : List (List ℕ)) (set : List ℕ) → length (front ++ set ∷ []) ≡ suc (length front)
 one_longer front set = omega (arith, length-append front (set ∷ []))
 
-own_byte : (front : List (List ℕ)) (byte b : ℕ) (back : List (List ℕ)) → byte < 256 → has (slice_index_or (front ++ only byte ∷ back) (length front) []) b ≡ (b == byte)
+own_byte : (front : List (List ℕ)) (byte b : ℕ) (back : List (List ℕ)) → byte < 256
+    → has (slice_index_or (front ++ only byte ∷ back) (length front) []) b ≡ (b == byte)
 own_byte front byte b back small = ap (λ set. has set b) (at_length front (only byte) back) ∙ has-only byte b small
 
 -- the numbers behind the first
@@ -48,8 +49,13 @@ no_other (byte ∷ bytes) (b ∷ word) front small h =
     let rest = no_other bytes word (front ++ only byte ∷ []) small.1 (earlier front byte bytes word h.1) in
     ap (λ x. x ∷ word) same ∙ ap (λ x. byte ∷ x) rest
 
-pub literal_matches : (bytes word : List ℕ) → AreSmall bytes → ((marked : List ℕ) × IsMarkedLiteral bytes marked × HoldBytes (map only bytes) marked word) ↔ (word ≡ bytes)
+pub literal_matches : (bytes word : List ℕ) → AreSmall bytes
+    → ((marked : List ℕ) × IsMarkedLiteral bytes marked × HoldBytes (map only bytes) marked word) ↔ (word ≡ bytes)
 literal_matches bytes word small = (
   (λ h. no_other bytes word [] small (subst (λ marked. AllZip (Holds (map only bytes)) marked word) h.1 h.2)),
-  λ is. (numbers_from 0 (length bytes), refl, subst (λ w. AllZip (Holds (map only bytes)) (numbers_from 0 (length bytes)) w) (sym is) (own_word bytes [] small)),
+  λ is. (
+    numbers_from 0 (length bytes),
+    refl,
+    subst (λ w. AllZip (Holds (map only bytes)) (numbers_from 0 (length bytes)) w) (sym is) (own_word bytes [] small),
+  ),
 )

@@ -35,7 +35,8 @@ two_places (x ∷ front) (y ∷ other) after back c d e =
       | inr (inr behind) ↦ inr (inr (behind.0, ap (λ z. z ∷ front) same ∙ ap (λ z. y ∷ z) behind.1))
     ]
 
-place_found : (Bad : List Cut → Cut → Type 0) (cuts : List Cut) (at : ℕ) (found : Option ℕ) → FoundAt Bad cuts found → IsFirstPlace Bad cuts at → found ≡ Some at
+place_found : (Bad : List Cut → Cut → Type 0) (cuts : List Cut) (at : ℕ) (found : Option ℕ)
+    → FoundAt Bad cuts found → IsFirstPlace Bad cuts at → found ≡ Some at
 unfolding FoundAt
 place_found Bad cuts at None none place = absurd (none place.0 place.1 place.2 place.3 place.4)
 place_found Bad cuts at (Some other) first place =
@@ -67,7 +68,8 @@ limit_refuses text (EmptyClass at) limit is =
     let r = spelled_read text is.0 is.1 is.2 in record {
       state = reading Between r.0 r.1 r.2;
       runs = r.3;
-      answer = ap (λ o. judged_if_whole o r.1 (length text)) r.4 ∙ ap (λ o. judged o r.1.deep r.1.many is.1) (place_found IsEmptyClass is.0 at r.1.empty r.5.empties is.3);
+      answer = ap (λ o. judged_if_whole o r.1 (length text)) r.4
+          ∙ ap (λ o. judged o r.1.deep r.1.many is.1) (place_found IsEmptyClass is.0 at r.1.empty r.5.empties is.3);
     }
 limit_refuses text (TooDeep at) limit is =
     let r = spelled_read text is.0 is.1 is.2 in record {
@@ -151,7 +153,8 @@ one_cause text a b told_a told_b of_a of_b = elim (kind_of a) [
   ]
   | inr (inl shape) ↦ elim (kind_of b) [
     | inl limit ↦ absurd (shape_or_limit text shape.0 a b shape.1 limit of_a of_b)
-    | inr (inl other) ↦ shape.1 ∙ ap Shape (one_shape text shape.0 other.0 (subst (IsCause text) shape.1 of_a) (subst (IsCause text) other.1 of_b)) ∙ sym other.1
+    | inr (inl other) ↦
+        shape.1 ∙ ap Shape (one_shape text shape.0 other.0 (subst (IsCause text) shape.1 of_a) (subst (IsCause text) other.1 of_b)) ∙ sym other.1
     | inr (inr memory) ↦ absurd (told_b memory)
   ]
   | inr (inr memory) ↦ absurd (told_a memory)
@@ -203,12 +206,14 @@ abbrev pub HasCause : List ℕ → Type 0
 HasCause text = (cause : BadRegex) × ¬ (cause ≡ NoMemory) × IsCause text cause
 
 -- the first byte that may not stand in its place
-step_stop : (text : List ℕ) (i : ℕ) (s : State) (o : Option State) → i < length text → after_bytes first_state 0 (take i text) ≡ Some s → after_byte s i (get_or text i 0) ≡ o
+step_stop : (text : List ℕ) (i : ℕ) (s : State) (o : Option State) → i < length text
+    → after_bytes first_state 0 (take i text) ≡ Some s → after_byte s i (get_or text i 0) ≡ o
     → ((u : State) → after_bytes first_state 0 (take (i + 1) text) ≡ Some u → (at : ℕ) × Stops text (Shape at)) → (at : ℕ) × Stops text (Shape at)
 step_stop text i s None within so_far next later = (i, stops_here text i s (Shape i) within so_far (refl, next))
 step_stop text i s (Some u) within so_far next later = later u (goes_on text i s u within so_far next)
 
-first_stop : (left i : ℕ) (text : List ℕ) (s : State) → i + left ≡ length text → after_bytes first_state 0 (take i text) ≡ Some s → after_bytes first_state 0 text ≡ None → (at : ℕ) × Stops text (Shape at)
+first_stop : (left i : ℕ) (text : List ℕ) (s : State) → i + left ≡ length text
+    → after_bytes first_state 0 (take i text) ≡ Some s → after_bytes first_state 0 text ≡ None → (at : ℕ) × Stops text (Shape at)
 first_stop zero i text s all so_far none =
     let end : i ≡ length text = omega arith in
     absurd (none_some (sym none ∙ ap (after_bytes first_state 0) (sym (take_whole text) ∙ ap (λ n. take n text) (sym end)) ∙ so_far))

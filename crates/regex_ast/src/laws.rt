@@ -18,7 +18,8 @@ pub fn words_and_marked_words()
 
 /// A literal's marked word has classes that hold the bytes of a word exactly where that word is the literal itself.
 pub fn words_of_literals()
-    ensures { (bytes word : List ℕ) → AllByRecursion (λ byte. byte < 256) bytes → ((marked : List ℕ) × IsMarkedLiteral bytes marked × HoldBytes (map only bytes) marked word) ↔ (word ≡ bytes) }
+    ensures { (bytes word : List ℕ) → AllByRecursion (λ byte. byte < 256) bytes
+        → ((marked : List ℕ) × IsMarkedLiteral bytes marked × HoldBytes (map only bytes) marked word) ↔ (word ≡ bytes) }
 {}
 
 /// A text spells at most one expression.

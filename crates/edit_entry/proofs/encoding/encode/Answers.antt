@@ -5,4 +5,6 @@ use Rattle.edit_entry.proofs.EntryPacking.{all_packed}
 use Rattle.edit_entry.proofs.encoding.encode.Goals as goal
 
 pub returns : goal.returns
-returns c = rw (c.into_words.ensures, c.in-Ok.ensures, c.new-text.ensures) (ap (λ text. words_for text) (all_packed (canonical c.args.edit.now) c.requires.within.text))
+returns c =
+    rw (c.into_words.ensures, c.in-Ok.ensures, c.new-text.ensures)
+    (ap (λ text. words_for text) (all_packed (canonical c.args.edit.now) c.requires.within.text))
