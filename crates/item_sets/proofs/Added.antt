@@ -1,5 +1,6 @@
 -- The items that a symbol adds to a closure: its rules with the dot at 0, but for those that begin in the kernel.
-use Rattle.std.proofs.Common.{◌≡◌, ℕ, ◌<◌, ◌==◌, ◌⊎◌, inl, inr, Bool, true, false, cond, not, List, [], ◌∷◌, length, map, filter, nat_eq, refl, sym, ◌∙◌, ap, subst, arith, Contains, slice_get, Some, get_or}
+use Rattle.std.proofs.Common.{◌≡◌, ℕ, ◌<◌, ◌==◌, ◌⊎◌, inl, inr, Bool, true, false, cond, not, List, [], ◌∷◌, length, map, filter, nat_eq, refl, sym, ◌∙◌, ap}
+use Rattle.std.proofs.Common.{subst, arith, Contains, slice_get, Some, get_or}
 use Rattle.std.specs.List.{list_any}
 use Rattle.std.specs.Cmp.{IsEquivalence, nat_eq_equiv}
 use Rattle.std.specs.List.Sorted.{IsStrictlySortedBy}
@@ -12,7 +13,8 @@ use Rattle.forest.specs.declared.rules.Rule.{Rule}
 use Rattle.forest.specs.Distinct.{IsDistinct}
 use Rattle.forest.specs.Orders.{rule_cmp}
 use Rattle.edit_log.specs.Lookups.{numbers_of_left}
-use Rattle.edit_log.proofs.PlainLists.{each_contained, contains_map, contains_map_from, contains_at, contains_filter, filter_passes, distinct_filter, sorted_keys}
+use Rattle.edit_log.proofs.PlainLists.{each_contained, contains_map, contains_map_from, contains_at, contains_filter, filter_passes, distinct_filter}
+use Rattle.edit_log.proofs.PlainLists.{sorted_keys}
 use Rattle.item_sets.specs.declared.item.Item.{Item}
 use Rattle.item_sets.specs.Orders.{number_eq}
 use Rattle.item_sets.specs.Prefixes.{rule_zero, item_at, live, IsItem}
@@ -42,7 +44,8 @@ distinct_numbers : (rules : List Rule) → IsDistinct (map (λ r. r.number.0) ru
 distinct_numbers [] d = tt
 distinct_numbers (r ∷ rules) d = (
   λ c. let from = contains_map_from (λ (q : Rule). q.number) rules r.number c in
-      d.0 (subst (Contains (map (λ q. q.number.0) rules)) (ap (λ (k : RuleId). k.0) from.is) (contains_map (λ (q : Rule). q.number.0) rules from.from from.there)),
+      d.0 (subst (Contains (map (λ q. q.number.0) rules)) (ap (λ (k : RuleId). k.0) from.is)
+      (contains_map (λ (q : Rule). q.number.0) rules from.from from.there)),
   distinct_numbers rules d.1,
 )
 
@@ -65,12 +68,15 @@ number_from rules x k c =
     record {
       rule = from.from;
       live = contains_filter (λ (r : Rule). r.left.0 == x.0) rules from.from from.there;
-      left = symbol_same from.from.left x (eqb-true from.from.left.0 x.0 (each_contained _ (filter (λ r. r.left.0 == x.0) rules) from.from (filter_passes (λ (r : Rule). r.left.0 == x.0) rules) from.there));
+      left = symbol_same from.from.left x
+          (eqb-true from.from.left.0 x.0
+          (each_contained _ (filter (λ r. r.left.0 == x.0) rules) from.from (filter_passes (λ (r : Rule). r.left.0 == x.0) rules) from.there));
       is = from.is;
     }
 
 number_to : (rules : List Rule) (r : Rule) → Contains rules r → Contains (numbers_of_left rules r.left) r.number
-number_to rules r c = contains_map (λ (q : Rule). q.number) (filter (λ q. q.left.0 == r.left.0) rules) r (kept (λ (q : Rule). q.left.0 == r.left.0) rules r c (eq-eqb r.left.0 r.left.0 refl))
+number_to rules r c = contains_map (λ (q : Rule). q.number) (filter (λ q. q.left.0 == r.left.0) rules) r
+    (kept (λ (q : Rule). q.left.0 == r.left.0) rules r c (eq-eqb r.left.0 r.left.0 refl))
 
 -- ---- rules that begin in the kernel
 
@@ -128,7 +134,8 @@ module _ (rules : List Rule) (numbers : IsNumbered rules) (kernel : List Item) (
       subst (IsAddedBy rules kernel x) from.is (record {
         from = is;
         dot = refl;
-        new = λ d. let yes : list_any (is_number k) (early_rules kernel) ≡ true = list_any-from_Contains is_equiv k (early_rules kernel) (early_to kernel k live d) in absurd (let no : false ≡ true = sym none ∙ yes in cc);
+        new = λ d. let yes : list_any (is_number k) (early_rules kernel) ≡ true =
+            list_any-from_Contains is_equiv k (early_rules kernel) (early_to kernel k live d) in absurd (let no : false ≡ true = sym none ∙ yes in cc);
       })
 
   pub added_to : (r : Rule) → Contains rules r → r.left ≡ x → Contains kernel (item_at r.number 0) ⊎ Contains adds (item_at r.number 0)
@@ -139,15 +146,18 @@ module _ (rules : List Rule) (numbers : IsNumbered rules) (kernel : List Item) (
 
       by : (b : Bool) → list_any (is_number r.number) (early_rules kernel) ≡ b → Contains kernel (item_at r.number 0) ⊎ Contains adds (item_at r.number 0)
       by true f = inl (early_from kernel r.number (Contains-from_any is_exact r.number (early_rules kernel) f))
-      by false f = inr (contains_map (λ (k : RuleId). item_at k 0) (filter is_new (numbers_of_left rules x)) r.number (kept is_new (numbers_of_left rules x) r.number there (not_from_false _ f)))
+      by false f = inr (contains_map (λ (k : RuleId). item_at k 0) (filter is_new (numbers_of_left rules x)) r.number
+          (kept is_new (numbers_of_left rules x) r.number there (not_from_false _ f)))
 
   pub added_distinct : IsStrictlySortedBy rule_cmp rules → IsDistinct adds
   added_distinct ascend = distinct_mapped (λ (k : RuleId). item_at k 0) (λ a b e. ap (λ (item : Item). item.rule) e) (filter is_new (numbers_of_left rules x))
       (distinct_filtered is_new (numbers_of_left rules x)
-      (distinct_filter (λ (r : Rule). r.number) (λ (r : Rule). r.left.0 == x.0) rules (distinct_numbers rules (sorted_keys (λ (r : Rule). r.number.0) rules ascend))))
+      (distinct_filter (λ (r : Rule). r.number) (λ (r : Rule). r.left.0 == x.0) rules
+      (distinct_numbers rules (sorted_keys (λ (r : Rule). r.number.0) rules ascend))))
 
 -- a rule of the symbol with the dot at 0 is an item of the rules
-pub number_item : (rules : List Rule) (x : SymbolId) (some : List RuleId) (i : ℕ) (d : RuleId) → some ≡ numbers_of_left rules x → i < length some → IsItem rules (item_at (get_or some i d) 0)
+pub number_item : (rules : List Rule) (x : SymbolId) (some : List RuleId) (i : ℕ) (d : RuleId) → some ≡ numbers_of_left rules x → i < length some
+    → IsItem rules (item_at (get_or some i d) 0)
 number_item rules x some i d e l =
     let at : slice_get some i ≡ Some (get_or some i d) = slice_get-get_or some i d l in
     let by = number_from rules x (get_or some i d) (subst (λ ks. Contains ks (get_or some i d)) e (contains_at some i (get_or some i d) at)) in

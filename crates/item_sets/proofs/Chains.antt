@@ -1,6 +1,7 @@
 -- Chains step by step. The closure of the kernel of g has the last items of the chains with string g, and the kernel of a
 -- longer prefix is the move of the kernel.
-use Rattle.std.proofs.Common.{◌≡◌, ℕ, zero, suc, ◌<◌, ◌≤◌, ◌↔◌, inl, inr, List, [], ◌∷◌, ◌++◌, length, take, refl, ap, subst, append_assoc, arith, Contains, slice_get, Some}
+use Rattle.std.proofs.Common.{◌≡◌, ℕ, zero, suc, ◌<◌, ◌≤◌, ◌↔◌, inl, inr, List, [], ◌∷◌, ◌++◌, length, take, refl, ap, subst, append_assoc, arith, Contains}
+use Rattle.std.proofs.Common.{slice_get, Some}
 use Rattle.std.proofs.lemmas.List.{append-nil}
 use Rattle.std.proofs.lemmas.Option.{slice_get_within}
 use Rattle.forest.specs.declared.symbols.SymbolId.{SymbolId}
@@ -40,8 +41,10 @@ snoc_some (a ∷ xs) x e = cc
 -- the same items step by step: a dot moves past one symbol, or a rule is added
 pub data Steps (rules : List Rule) : List SymbolId → Item → Type 0 where
   begin : Steps rules [] (item_at rule_zero 0)
-  shift : {g : List SymbolId} {k : RuleId} {d : ℕ} {x : SymbolId} → Steps rules g (item_at k d) → IsNext rules (item_at k d) x → Steps rules (g ++ x ∷ []) (item_at k (suc d))
-  predict : {g : List SymbolId} {before : Item} {r : Rule} → Steps rules g before → IsNext rules before r.left → Contains rules r → Steps rules g (item_at r.number 0)
+  shift : {g : List SymbolId} {k : RuleId} {d : ℕ} {x : SymbolId} → Steps rules g (item_at k d) → IsNext rules (item_at k d) x
+      → Steps rules (g ++ x ∷ []) (item_at k (suc d))
+  predict : {g : List SymbolId} {before : Item} {r : Rule} → Steps rules g before → IsNext rules before r.left → Contains rules r
+      → Steps rules g (item_at r.number 0)
 
 -- below the length there is an element
 pub at_below : {X : Type 0} (xs : List X) (d : ℕ) → d < length xs → (x : X) × (slice_get xs d ≡ Some x)
@@ -49,7 +52,8 @@ at_below [] d l = absurd (omega arith)
 at_below (y ∷ ys) zero l = (y, refl)
 at_below (y ∷ ys) (suc d) l = at_below ys d (omega arith)
 
-shift_all : (rules : List Rule) (g : List SymbolId) (k : RuleId) (right : List SymbolId) (d : ℕ) → Steps rules g (item_at k 0) → HasRight rules k right → d ≤ length right → Steps rules (g ++ take d right) (item_at k d)
+shift_all : (rules : List Rule) (g : List SymbolId) (k : RuleId) (right : List SymbolId) (d : ℕ) → Steps rules g (item_at k 0) → HasRight rules k right
+    → d ≤ length right → Steps rules (g ++ take d right) (item_at k d)
 shift_all rules g k right zero s h l = rw append-nil s
 shift_all rules g k right (suc d) s h l =
     let before : Steps rules (g ++ take d right) (item_at k d) = shift_all rules g k right d s h (omega arith) in
@@ -63,7 +67,8 @@ to_steps (first {d = suc (suc d)} l) = absurd (omega arith)
 to_steps {rules} (later {g = g} {r = r} {d = d} before next c l) = shift_all rules g r.number r.right d (predict (to_steps before) next c) (live c) l
 
 module _ (rules : List Rule) (numbers : HasOneRight rules) where
-  extend : {g : List SymbolId} {item : Item} {x : SymbolId} → EndsChain rules g item → IsNext rules item x → EndsChain rules (g ++ x ∷ []) (item_at item.rule (suc item.dot))
+  extend : {g : List SymbolId} {item : Item} {x : SymbolId} → EndsChain rules g item → IsNext rules item x
+      → EndsChain rules (g ++ x ∷ []) (item_at item.rule (suc item.dot))
   extend {x = x} (first {d = zero} l) next =
       let same : next.right ≡ START ∷ [] = numbers.one rule_zero _ _ next.has whole in
       let e : slice_get (START ∷ []) 0 ≡ Some x = rw same at next.at_dot in
@@ -98,7 +103,8 @@ module _ (rules : List Rule) (numbers : HasOneRight rules) where
   closure_is_valid g item = (λ c. from_steps (steps_of_closure c), λ v. closure_of_steps (to_steps v))
 
   -- the kernel of a longer string is the move of the kernel
-  move_of_kernel : {h : List SymbolId} {item : Item} (g : List SymbolId) (x : SymbolId) → Steps rules h item → h ≡ g ++ x ∷ [] → 0 < item.dot → InMove rules (InKernel rules g) x item
+  move_of_kernel : {h : List SymbolId} {item : Item} (g : List SymbolId) (x : SymbolId) → Steps rules h item → h ≡ g ++ x ∷ [] → 0 < item.dot
+      → InMove rules (InKernel rules g) x item
   move_of_kernel g x begin e l = absurd (omega arith)
   move_of_kernel g x (shift {g = g'} {k = k} {d = d} {x = x'} s n) e l =
       let both : (g' ≡ g) × (x' ≡ x) = snoc_last g' g x' x e in

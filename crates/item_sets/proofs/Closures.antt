@@ -1,5 +1,6 @@
 -- A closure on the way: the rules of some of the symbols that stand after dots were met.
-use Rattle.std.proofs.Common.{◌≡◌, ℕ, ◌+◌, ◌<◌, ◌≤◌, ◌⊎◌, inl, inr, List, [], ◌∷◌, ◌++◌, length, refl, sym, ◌∙◌, ap, subst, arith, Contains, slice_get, Some, get_or}
+use Rattle.std.proofs.Common.{◌≡◌, ℕ, ◌+◌, ◌<◌, ◌≤◌, ◌⊎◌, inl, inr, List, [], ◌∷◌, ◌++◌, length, refl, sym, ◌∙◌, ap, subst, arith, Contains, slice_get, Some}
+use Rattle.std.proofs.Common.{get_or}
 use Rattle.std.specs.List.{flat_map}
 use Rattle.std.specs.List.Sorted.{IsStrictlySortedBy}
 use Rattle.std.specs.Ordering.{ordering_reverse}
@@ -56,13 +57,15 @@ in_rights (q ∷ rules) r x c d = elim (contains_cases q rules r c) [
   | inr rest ↦ Contains-append_right q.right (flat_map (λ p. p.right) rules) x (in_rights rules r x rest d)
 ]
 
-in_universe : {rules : List Rule} {k : RuleId} {right : List SymbolId} (d : ℕ) (x : SymbolId) → HasRight rules k right → slice_get right d ≡ Some x → Contains (universe rules) x
+in_universe : {rules : List Rule} {k : RuleId} {right : List SymbolId} (d : ℕ) (x : SymbolId) → HasRight rules k right → slice_get right d ≡ Some x
+    → Contains (universe rules) x
 unfolding universe
 in_universe {rules} d x whole e = elim (contains_cases START [] x (contains_at (START ∷ []) d x e)) [
   | inl same ↦ subst (Contains (START ∷ flat_map (λ r. r.right) rules)) same (contains_here START (flat_map (λ r. r.right) rules))
   | inr (k, l, f) ↦ absurd (omega arith)
 ]
-in_universe {rules} d x (live {r = r} c) e = Contains-append_right (START ∷ []) (flat_map (λ q. q.right) rules) x (in_rights rules r x c (contains_at r.right d x e))
+in_universe {rules} d x (live {r = r} c) e =
+    Contains-append_right (START ∷ []) (flat_map (λ q. q.right) rules) x (in_rights rules r x c (contains_at r.right d x e))
 
 -- ---- the closure grows
 
@@ -80,7 +83,8 @@ pub record IsMetBefore (rules : List Rule) (met : List SymbolId) (done : ℕ) (i
   pub at : slice_get met place ≡ Some rule.left
 
 -- the items that were met, once so many of the symbols had their turn
-pub record IsOnTheWay (rules : List Rule) (kernel : List Item) (met : List SymbolId) (past : List (SymbolId × List Item)) (ended : List RuleId) (done taken : ℕ) : Type 0 where
+pub record IsOnTheWay (rules : List Rule) (kernel : List Item) (met : List SymbolId) (past : List (SymbolId × List Item)) (ended : List RuleId)
+    (done taken : ℕ) : Type 0 where
   pub items : List Item
   pub walk : IsWalk rules items met past ended
   pub distinct : IsDistinct items
@@ -95,7 +99,8 @@ pub closure_item : (rules : List Rule) (kernel : List Item) → AreItems rules k
 closure_item rules kernel are (own k) = are _ k
 closure_item rules kernel are (added {r = r} c n d) = record { right = r.right; has = live d; within = omega arith }
 
-pub begun : (rules : List Rule) (kernel : List Item) (met : List SymbolId) (past : List (SymbolId × List Item)) (ended : List RuleId) → IsStrictlySortedBy item_cmp kernel → IsWalk rules kernel met past ended → IsOnTheWay rules kernel met past ended 0 (length kernel)
+pub begun : (rules : List Rule) (kernel : List Item) (met : List SymbolId) (past : List (SymbolId × List Item)) (ended : List RuleId)
+    → IsStrictlySortedBy item_cmp kernel → IsWalk rules kernel met past ended → IsOnTheWay rules kernel met past ended 0 (length kernel)
 begun rules kernel met past ended ascend walk = record {
   items = kernel;
   walk = walk;
@@ -108,7 +113,8 @@ begun rules kernel met past ended ascend walk = record {
 }
 
 module _ (rules : List Rule) (numbers : IsNumbered rules) (kernel : List Item) (are : AreItems rules kernel) where
-  module _ (met : List SymbolId) (past : List (SymbolId × List Item)) (ended : List RuleId) (done taken : ℕ) (way : IsOnTheWay rules kernel met past ended done taken) where
+  module _ (met : List SymbolId) (past : List (SymbolId × List Item)) (ended : List RuleId) (done taken : ℕ)
+      (way : IsOnTheWay rules kernel met past ended done taken) where
     is_next : (item : Item) (x : SymbolId) → Contains way.items item → next_of rules item ≡ Some x → IsNext rules item x
     is_next item x c e = next_to rules numbers item x (closure_item rules kernel are (way.sound item c)) e
 
@@ -164,15 +170,21 @@ module _ (rules : List Rule) (numbers : IsNumbered rules) (kernel : List Item) (
           let here : InClosure rules (Contains kernel) (item_at by.from.rule.number 0) = added (way.sound before there) next by.from.live in
           subst (InClosure rules (Contains kernel)) (is_item item by) here
 
-      pub turned : (past' : List (SymbolId × List Item)) (ended' : List RuleId) → IsWalk rules all new past' ended' → IsOnTheWay rules kernel new past' ended' (done + 1) (taken + length (adds rules numbers kernel x))
+      pub turned : (past' : List (SymbolId × List Item)) (ended' : List RuleId) → IsWalk rules all new past' ended'
+          → IsOnTheWay rules kernel new past' ended' (done + 1) (taken + length (adds rules numbers kernel x))
       turned past' ended' walk = record {
         items = all;
         walk = walk;
         distinct = distinct_append way.items (adds rules numbers kernel x) way.distinct (added_distinct rules numbers kernel x ascend) apart;
-        sound = λ item c. elim (Contains-append_cases way.items (adds rules numbers kernel x) item c) [ inl d ↦ way.sound item d | inr d ↦ add_sound item (added_from rules numbers kernel x item d) ];
+        sound = λ item c. elim (Contains-append_cases way.items (adds rules numbers kernel x) item c) [
+          | inl d ↦ way.sound item d
+          | inr d ↦ add_sound item
+              (added_from rules numbers kernel x item d)
+        ];
         kernel_in = λ item c. Contains-append_left way.items (adds rules numbers kernel x) item (way.kernel_in item c);
         worked = λ place r l e c. elim (cases_lt place done) [
-          | inl below ↦ Contains-append_left way.items (adds rules numbers kernel x) _ (way.worked place r below (at_old place r.left (omega (arith, slice_get_within met done x at)) e) c)
+          | inl below ↦ Contains-append_left way.items (adds rules numbers kernel x) _
+              (way.worked place r below (at_old place r.left (omega (arith, slice_get_within met done x at)) e) c)
           | inr above ↦
               let same : place ≡ done = omega arith in
               let both : Some r.left ≡ Some x = sym (at_old place r.left (omega (arith, slice_get_within met done x at)) e) ∙ ap (slice_get met) same ∙ at in
@@ -185,17 +197,33 @@ module _ (rules : List Rule) (numbers : IsNumbered rules) (kernel : List Item) (
         origin = λ item c. elim (Contains-append_cases way.items (adds rules numbers kernel x) item c) [
           | inl d ↦ elim (way.origin item d) [
             | inl k ↦ inl k
-            | inr m ↦ inr (record { rule = m.rule; live = m.live; is = m.is; place = m.place; before = omega (arith, m.before); at = at_new m.place m.rule.left m.at })
+            | inr m ↦ inr (record {
+              rule = m.rule;
+              live = m.live;
+              is = m.is;
+              place = m.place;
+              before = omega (arith, m.before);
+              at = at_new m.place m.rule.left m.at;
+            })
           ]
           | inr d ↦ let by = added_from rules numbers kernel x item d in
-              inr (record { rule = by.from.rule; live = by.from.live; is = is_item item by; place = done; before = omega arith; at = at_new done by.from.rule.left (at ∙ ap Some (sym by.from.left)) })
+              inr (record {
+                rule = by.from.rule;
+                live = by.from.live;
+                is = is_item item by;
+                place = done;
+                before = omega arith;
+                at = at_new done by.from.rule.left (at ∙ ap Some (sym by.from.left));
+              })
         ];
         count = length-append way.items (adds rules numbers kernel x) ∙ ap (λ n. n + length (adds rules numbers kernel x)) way.count;
       }
 
     -- the same, as the loop does it
-    pub turn : (ascend : IsStrictlySortedBy rule_cmp rules) (early : List RuleId) (shown new : List SymbolId) (past' : List (SymbolId × List Item)) (ended' : List RuleId) → early ≡ early_rules kernel → shown ≡ met → done < length met → Extends met new
-        → ((items : List Item) → IsWalk rules items met past ended → IsWalk rules (items ++ added_items early (numbers_of_left rules (symbol_at shown done))) new past' ended')
+    pub turn : (ascend : IsStrictlySortedBy rule_cmp rules) (early : List RuleId) (shown new : List SymbolId) (past' : List (SymbolId × List Item))
+        (ended' : List RuleId) → early ≡ early_rules kernel → shown ≡ met → done < length met → Extends met new
+        → ((items : List Item) → IsWalk rules items met past ended
+        → IsWalk rules (items ++ added_items early (numbers_of_left rules (symbol_at shown done))) new past' ended')
         → IsOnTheWay rules kernel new past' ended' (done + 1) (taken + length (added_items early (numbers_of_left rules (symbol_at shown done))))
     turn ascend early shown new past' ended' e f l more walk =
         let walks = rw (e, f) at (walk way.items way.walk) in

@@ -1,5 +1,6 @@
 -- Lists in which no element comes twice: joined, mapped in part, and sorted.
-use Rattle.std.proofs.Common.{◌≡◌, suc, ◌≤◌, inl, inr, Bool, true, false, cond, List, [], ◌∷◌, ◌++◌, length, refl, sym, ◌∙◌, ap, subst, arith, Contains, Option, Some, None, filter}
+use Rattle.std.proofs.Common.{◌≡◌, suc, ◌≤◌, inl, inr, Bool, true, false, cond, List, [], ◌∷◌, ◌++◌, length, refl, sym, ◌∙◌, ap, subst, arith, Contains, Option}
+use Rattle.std.proofs.Common.{Some, None, filter}
 use Rattle.std.specs.List.{filter_map, cons_option, dedup, dedup_from}
 use Rattle.std.specs.List.Sorted.{IsSorted, IsStrictlySortedBy, IsPermutation}
 use Rattle.std.specs.Ordering.{eq_by_cmp}
@@ -51,12 +52,16 @@ made {X} {Y} f (z ∷ xs) x y c is = by (f z) refl (λ d. made f xs x y d is)
       | inr rest ↦ rec rest
     ]
     by (Some w) e rec = elim (contains_cases z xs x c) [
-      | inl same ↦ let both : Some w ≡ Some y = sym e ∙ ap f same ∙ is in let w_is : w ≡ y = cc in subst (λ v. Contains (w ∷ filter_map f xs) v) w_is (contains_here w (filter_map f xs))
+      | inl same ↦
+          let both : Some w ≡ Some y = sym e ∙ ap f same ∙ is in
+          let w_is : w ≡ y = cc in
+          subst (λ v. Contains (w ∷ filter_map f xs) v) w_is (contains_here w (filter_map f xs))
       | inr rest ↦ contains_there w (filter_map f xs) y (rec rest)
     ]
 
 -- where different elements make different things
-pub distinct_made : {X Y : Type 0} (f : X → Option Y) (xs : List X) → ((a b : X) (y : Y) → Contains xs a → Contains xs b → f a ≡ Some y → f b ≡ Some y → a ≡ b) → IsDistinct xs → IsDistinct (filter_map f xs)
+pub distinct_made : {X Y : Type 0} (f : X → Option Y) (xs : List X) → ((a b : X) (y : Y) → Contains xs a → Contains xs b → f a ≡ Some y → f b ≡ Some y → a ≡ b)
+    → IsDistinct xs → IsDistinct (filter_map f xs)
 distinct_made f [] apart d = tt
 distinct_made {X} {Y} f (x ∷ xs) apart d = by (f x) refl (distinct_made f xs (λ a b y c e. apart a b y (contains_there x xs a c) (contains_there x xs b e)) d.1)
   where
@@ -92,7 +97,8 @@ module _ {X : Type 0} (E : X → X → Bool) where
   shorter k [] = omega arith
   shorter k (x ∷ xs) = by (E x k) (shorter k xs) (shorter x xs)
     where
-      by : (same : Bool) → length (dedup_from E k xs) ≤ suc (length xs) → length (dedup_from E x xs) ≤ suc (length xs) → length (cond same (dedup_from E k xs) (k ∷ dedup_from E x xs)) ≤ suc (suc (length xs))
+      by : (same : Bool) → length (dedup_from E k xs) ≤ suc (length xs) → length (dedup_from E x xs) ≤ suc (length xs)
+          → length (cond same (dedup_from E k xs) (k ∷ dedup_from E x xs)) ≤ suc (suc (length xs))
       by true one two = omega arith
       by false one two = omega arith
 
@@ -100,7 +106,8 @@ module _ {X : Type 0} (E : X → X → Bool) where
   all_left_from k [] e = refl
   all_left_from k (x ∷ xs) e = by (E x k) e (all_left_from x xs)
     where
-      by : (same : Bool) → length (cond same (dedup_from E k xs) (k ∷ dedup_from E x xs)) ≡ suc (suc (length xs)) → (length (dedup_from E x xs) ≡ suc (length xs) → dedup_from E x xs ≡ x ∷ xs) → cond same (dedup_from E k xs) (k ∷ dedup_from E x xs) ≡ k ∷ x ∷ xs
+      by : (same : Bool) → length (cond same (dedup_from E k xs) (k ∷ dedup_from E x xs)) ≡ suc (suc (length xs))
+          → (length (dedup_from E x xs) ≡ suc (length xs) → dedup_from E x xs ≡ x ∷ xs) → cond same (dedup_from E k xs) (k ∷ dedup_from E x xs) ≡ k ∷ x ∷ xs
       by true f rec = absurd (omega (arith, shorter k xs))
       by false f rec = ap (λ zs. k ∷ zs) (rec (omega arith))
 
@@ -110,8 +117,11 @@ module _ {X : Type 0} (E : X → X → Bool) where
   all_left (x ∷ xs) l = all_left_from x xs (omega (arith, shorter x xs))
 
 -- different elements in order are in strict order
-pub strictly : {X : Type 0} {R : X → X → Ordering} (total : IsTotalOrder R) {E : X → X → Bool} (same : IsEquivalence E) (ties : (x y : X) → E x y ≡ eq_by_cmp R x y) (exact : (x y : X) → E x y ≡ true → x ≡ y) (xs ys : List X) → IsDistinct xs → IsPermutation xs ys → IsSorted R ys → IsStrictlySortedBy R ys
+pub strictly : {X : Type 0} {R : X → X → Ordering} (total : IsTotalOrder R) {E : X → X → Bool} (same : IsEquivalence E)
+    (ties : (x y : X) → E x y ≡ eq_by_cmp R x y) (exact : (x y : X) → E x y ≡ true → x ≡ y) (xs ys : List X) → IsDistinct xs → IsPermutation xs ys
+    → IsSorted R ys → IsStrictlySortedBy R ys
 strictly {X} {R} total {E} same ties exact xs ys apart moved sorted =
-    let fewer : length xs ≤ length (dedup E ys) = at_most xs (dedup E ys) apart (λ x c. Contains-dedup same exact ys x (Contains-permutation xs ys x moved c)) in
+    let fewer : length xs ≤ length (dedup E ys) =
+    at_most xs (dedup E ys) apart (λ x c. Contains-dedup same exact ys x (Contains-permutation xs ys x moved c)) in
     let all : length ys ≤ length (dedup E ys) = omega (arith, length_permutation xs ys moved) in
     subst (IsStrictlySortedBy R) (all_left E ys all) (IsStrictlySortedBy-dedup total ties ys sorted)

@@ -37,7 +37,8 @@ end_of rules item k e = by (next_of rules item) refl e
     by (Some x) f g = absurd cc
     by None f g = record { next = f; is = cc }
 
-module _ (rules : List Rule) (numbers : IsNumbered rules) (kernel : List Item) (are : AreItems rules kernel) (items : List Item) (closure : IsClosureOf rules kernel items) where
+module _ (rules : List Rule) (numbers : IsNumbered rules) (kernel : List Item) (are : AreItems rules kernel) (items : List Item)
+    (closure : IsClosureOf rules kernel items) where
   is_item : (item : Item) → Contains items item → IsItem rules item
   is_item item c = closure_item rules kernel are ((closure.members item).0 c)
 
@@ -77,12 +78,14 @@ module _ (rules : List Rule) (numbers : IsNumbered rules) (kernel : List Item) (
       let left = is_item a c in
       let right = is_item b d in
       let rule : a.rule ≡ b.rule = s.is ∙ sym t.is in
-      let same : left.right ≡ right.right = (one_right rules numbers).one b.rule left.right right.right (subst (λ n. HasRight rules n left.right) rule left.has) right.has in
+      let same : left.right ≡ right.right =
+      (one_right rules numbers).one b.rule left.right right.right (subst (λ n. HasRight rules n left.right) rule left.has) right.has in
       let dots : a.dot ≡ b.dot = end_to rules numbers a left s.next ∙ ap (λ xs. length xs) same ∙ sym (end_to rules numbers b right t.next) in
       same_item a b rule dots) closure.distinct
 
   -- what stands behind the symbols is what the kernel moves to
-  pub moves_are_moves : (met : List SymbolId) (moves sorted : List (SymbolId × List Item)) (ended : List RuleId) → IsWalk rules items met moves ended → IsPermutation moves sorted
+  pub moves_are_moves : (met : List SymbolId) (moves sorted : List (SymbolId × List Item)) (ended : List RuleId) → IsWalk rules items met moves ended
+      → IsPermutation moves sorted
       → (x : SymbolId) (upper : List Item) → Contains sorted (x, upper) ↔ IsMoveOf rules kernel x upper
   moves_are_moves met moves sorted ended walk moved x upper = (
     λ c. let there = Contains-permutation sorted moves (x, upper) (IsPermutation-sym moves sorted moved) c in
@@ -130,11 +133,14 @@ pub record IsWalked (rules : List Rule) (kernel : List Item) (moves : List (Symb
   pub met : List SymbolId
   pub walk : IsWalk rules items met moves ends
 
-pub walked : {rules : List Rule} {items : List Item} {met : List SymbolId} {moves : List (SymbolId × List Item)} {ends : List RuleId} (shown kernel : List Item) → shown ≡ kernel
+pub walked : {rules : List Rule} {items : List Item} {met : List SymbolId} {moves : List (SymbolId × List Item)} {ends : List RuleId}
+    (shown kernel : List Item) → shown ≡ kernel
     → IsClosureOf rules shown items → IsWalk rules items met moves ends → IsWalked rules kernel moves ends
-walked {rules} {items} {met} shown kernel e closure walk = record { items = items; closure = subst (λ (k : List Item). IsClosureOf rules k items) e closure; met = met; walk = walk }
+walked {rules} {items} {met} shown kernel e closure walk =
+    record { items = items; closure = subst (λ (k : List Item). IsClosureOf rules k items) e closure; met = met; walk = walk }
 
-module _ (rules : List Rule) (numbers : IsNumbered rules) (kernel : List Item) (are : AreItems rules kernel) (moves : List (SymbolId × List Item)) (ended : List RuleId)
+module _ (rules : List Rule) (numbers : IsNumbered rules) (kernel : List Item) (are : AreItems rules kernel) (moves : List (SymbolId × List Item))
+    (ended : List RuleId)
     (w : IsWalked rules kernel moves ended) where
   pub order : (sorted : List (SymbolId × List Item)) → IsPermutation moves sorted → IsNonDecreasingBy (λ m. m.0.0) sorted → IsStrictlySortedBy move_cmp sorted
   order sorted moved rises = moves_ascend moves sorted (subst (λ (ks : List SymbolId). IsDistinct ks) (sym w.walk.places) w.walk.distinct) moved rises
@@ -143,7 +149,8 @@ module _ (rules : List Rule) (numbers : IsNumbered rules) (kernel : List Item) (
   ends_ascend ends moved sorted = strictly number_total number_equiv number_ties number_exact (filter_map (reduction_of rules) w.items) ends
       (distinct_ends rules numbers kernel are w.items w.closure) (subst (λ (p : List RuleId). IsPermutation p ends) w.walk.reductions moved) sorted
 
-  pub expanded : (sorted : List (SymbolId × List Item)) (ends : List RuleId) → IsPermutation moves sorted → IsNonDecreasingBy (λ m. m.0.0) sorted → IsPermutation ended ends
+  pub expanded : (sorted : List (SymbolId × List Item)) (ends : List RuleId) → IsPermutation moves sorted → IsNonDecreasingBy (λ m. m.0.0) sorted
+      → IsPermutation ended ends
       → IsSorted reduction_cmp ends → (expansion : Expansion) → expansion.moves ≡ sorted → expansion.reductions ≡ ends → IsExpansionOf rules kernel expansion
   expanded sorted ends moved rises moved_ends sorted_ends expansion e f =
       let ends_moved = subst (λ (p : List RuleId). IsPermutation p ends) w.walk.reductions moved_ends in
@@ -152,7 +159,9 @@ module _ (rules : List Rule) (numbers : IsNumbered rules) (kernel : List Item) (
         moves = rw e (moves_are_moves rules numbers kernel are w.items w.closure w.met moves sorted ended w.walk moved);
         reduction_order = rw f (ends_ascend ends moved_ends sorted_ends);
         reductions = rw f (λ k. (
-          λ c. (ends_are_reductions rules numbers kernel are w.items w.closure k).0 (Contains-permutation ends (filter_map (reduction_of rules) w.items) k (IsPermutation-sym _ _ ends_moved) c),
-          λ r. Contains-permutation (filter_map (reduction_of rules) w.items) ends k ends_moved ((ends_are_reductions rules numbers kernel are w.items w.closure k).1 r),
+          λ c. (ends_are_reductions rules numbers kernel are w.items w.closure k).0
+              (Contains-permutation ends (filter_map (reduction_of rules) w.items) k (IsPermutation-sym _ _ ends_moved) c),
+          λ r. Contains-permutation (filter_map (reduction_of rules) w.items) ends k ends_moved
+              ((ends_are_reductions rules numbers kernel are w.items w.closure k).1 r),
         ));
       }

@@ -18,7 +18,8 @@ pub closure_of_more : {rules : List Rule} {K L : Item → Type 0} {item : Item} 
 closure_of_more f (own k) = own (f _ k)
 closure_of_more f (added c n r) = added (closure_of_more f c) n r
 
-move_of_more : {rules : List Rule} {K L : Item → Type 0} {x : SymbolId} {item : Item} → ((it : Item) → K it → L it) → InMove rules K x item → InMove rules L x item
+move_of_more : {rules : List Rule} {K L : Item → Type 0} {x : SymbolId} {item : Item} → ((it : Item) → K it → L it) → InMove rules K x item
+    → InMove rules L x item
 move_of_more f (past c n) = past (closure_of_more f c) n
 
 module _ (rules : List Rule) (numbers : HasOneRight rules) {g : List SymbolId} {kernel : List Item} (is : IsKernelOf rules g kernel) where
@@ -45,7 +46,8 @@ module _ (rules : List Rule) (numbers : HasOneRight rules) {g : List SymbolId} {
       let some = (viable_is_move rules numbers g x).0 v in
       record { some = (some.0, move_of_more is.whole some.1); list = same_set k (λ it. ((moves_agree x it).1, (moves_agree x it).0)) }
 
-pub upper_items : (rules : List Rule) (kernel : List Item) (expansion : Expansion) → IsExpansionOf rules kernel expansion → (x : SymbolId) (upper : List Item) → Contains expansion.moves (x, upper) → AreItems rules upper
+pub upper_items : (rules : List Rule) (kernel : List Item) (expansion : Expansion) → IsExpansionOf rules kernel expansion → (x : SymbolId) (upper : List Item)
+    → Contains expansion.moves (x, upper) → AreItems rules upper
 upper_items rules kernel expansion e x upper c = λ item d. moved_is_item (((e.moves x upper).0 c).list.within item d)
 
 -- ---- one expansion, one cost

@@ -74,7 +74,8 @@ unfolding IsStrictlySortedBy
 with_item_ascends item [] s = (tt, tt)
 with_item_ascends item (first ∷ rest) s = by (item_cmp item first) refl (with_item_ascends item rest s.1)
   where
-    by : (o : Ordering) → item_cmp item first ≡ o → IsStrictlySortedBy item_cmp (with_item item rest) → IsStrictlySortedBy item_cmp (placed o item first rest (with_item item rest))
+    by : (o : Ordering) → item_cmp item first ≡ o → IsStrictlySortedBy item_cmp (with_item item rest)
+        → IsStrictlySortedBy item_cmp (placed o item first rest (with_item item rest))
     by Less e rec = ((e, all_also _ _ rest (λ other less. item_cmp_total.trans item first other e less) s.0), s)
     by Equal e rec = s
     by Greater e rec = (
@@ -108,9 +109,12 @@ inserted_between item (first ∷ rest) zero within below above =
     let less : item_cmp item first ≡ Less = flipped first item Greater (above 0 first (omega arith) (omega arith)) in rw less refl
 inserted_between item (first ∷ rest) (suc at) within below above =
     let more : item_cmp item first ≡ Greater = flipped first item Less (below 0 first (omega arith)) in
-    rw more (ap (λ later. first ∷ later) (inserted_between item rest at (omega (arith, within)) (λ k d l. below (suc k) d (omega (arith, l))) (λ k d l m. above (suc k) d (omega (arith, l)) (omega (arith, m)))))
+    rw more (ap (λ later. first ∷ later)
+    (inserted_between item rest at (omega (arith, within)) (λ k d l. below (suc k) d (omega (arith, l)))
+    (λ k d l m. above (suc k) d (omega (arith, l)) (omega (arith, m)))))
 
-pub inserted : (item : Item) (items : List Item) → IsStrictlySortedBy item_cmp items → (at : ℕ) → at ≤ length items → IsBinarySearchResult (λ y. item_cmp y item) items (Err at)
+pub inserted : (item : Item) (items : List Item) → IsStrictlySortedBy item_cmp items → (at : ℕ) → at ≤ length items
+    → IsBinarySearchResult (λ y. item_cmp y item) items (Err at)
     → insert items at item ≡ with_item item items
 inserted item items sorted at within h =
     let parts = h (along item items sorted) in

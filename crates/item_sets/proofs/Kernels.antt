@@ -15,7 +15,8 @@ use Rattle.item_sets.specs.Expansions.{InMove, past}
 use Rattle.item_sets.proofs.Chains.{snoc_some, Steps, begin, shift, predict, to_steps}
 
 pub item_cmp_total : IsTotalOrder item_cmp
-item_cmp_total = then_total {R = on (λ a. a.rule.0) nat_cmp} {S = on (λ a. a.dot) nat_cmp} (on_total (λ (a : Item). a.rule.0) nat_cmp_total) (on_total (λ (a : Item). a.dot) nat_cmp_total)
+item_cmp_total = then_total {R = on (λ a. a.rule.0) nat_cmp} {S = on (λ a. a.dot) nat_cmp} (on_total (λ (a : Item). a.rule.0) nat_cmp_total)
+    (on_total (λ (a : Item). a.dot) nat_cmp_total)
 
 -- two lists of one set are one list
 pub one_list : {P Q : Item → Type 0} {s t : List Item} → IsListOf s P → IsListOf t Q → ((it : Item) → P it ↔ Q it) → s ≡ t
@@ -38,7 +39,11 @@ pub start_list : (rules : List Rule) → IsKernelOf rules [] start_kernel
 unfolding IsStrictlySortedBy
 start_list rules = record {
   ascends = (tt, tt);
-  within = λ item c. elim (contains_cases start_item [] item c) [ inl e ↦ subst (λ it. InKernel rules [] it) e (first {d = 0} (omega arith), inr (refl, refl)) | inr d ↦ absurd (omega (arith, d.1)) ];
+  within = λ item c. elim (contains_cases start_item [] item c) [
+    | inl e ↦ subst (λ it. InKernel rules [] it) e
+        (first {d = 0} (omega arith), inr (refl, refl))
+    | inr d ↦ absurd (omega (arith, d.1))
+  ];
   whole = λ item k. subst (λ it. Contains start_kernel it) (sym (only_start rules item k)) (contains_here start_item []);
 }
 

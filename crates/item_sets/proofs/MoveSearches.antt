@@ -15,7 +15,8 @@ module _ (moves : List (SymbolId × List Item)) (sorted : IsStrictlySortedBy mov
   symbol_same : (m : SymbolId × List Item) → nat_cmp m.0.0 x.0 ≡ Equal → m ≡ (x, m.1)
   symbol_same m e = let f : ℕ → SymbolId × List Item = λ n. (record { 0 = n }, m.1) in ap f (exact_unsigned m.0.0 x.0 e)
 
-  pub found : (r : Result ℕ ℕ) → IsSearchInRange r (length moves) → IsBinarySearchResult (λ m. nat_cmp m.0.0 x.0) moves r → IsTrue (is_ok r) ↔ ((upper : List Item) × Contains moves (x, upper))
+  pub found : (r : Result ℕ ℕ) → IsSearchInRange r (length moves) → IsBinarySearchResult (λ m. nat_cmp m.0.0 x.0) moves r
+      → IsTrue (is_ok r) ↔ ((upper : List Item) × Contains moves (x, upper))
   found (Ok at) range h = (
     λ t. let m = get_or moves at (x, []) in (m.1, (at, range, get_or_default moves at (x, m.1) (x, []) range ∙ symbol_same m (h (x, [])))),
     λ c. refl,

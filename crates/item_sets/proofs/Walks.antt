@@ -1,5 +1,6 @@
 -- One more item of a walk.
-use Rattle.std.proofs.Common.{◌≡◌, ◌+◌, ◌⊎◌, ◌↔◌, inl, inr, Bool, true, false, cond, List, [], ◌∷◌, ◌++◌, refl, sym, ◌∙◌, ap, subst, arith, Contains, Option, Some, None}
+use Rattle.std.proofs.Common.{◌≡◌, ◌+◌, ◌⊎◌, ◌↔◌, inl, inr, Bool, true, false, cond, List, [], ◌∷◌, ◌++◌, refl, sym, ◌∙◌, ap, subst, arith, Contains, Option}
+use Rattle.std.proofs.Common.{Some, None}
 use Rattle.std.specs.List.{filter_map, cons_option, list_any, position_or_len}
 use Rattle.std.specs.List.Sorted.{IsStrictlySortedBy}
 use Rattle.std.proofs.lemmas.List.{append-nil}
@@ -34,7 +35,8 @@ distinct_insert met x d = by (list_any (symbol_eq x) met) refl
   where
     by : (b : Bool) → list_any (symbol_eq x) met ≡ b → IsDistinct (cond b met (met ++ x ∷ []))
     by true e = d
-    by false e = distinct_push met x d (λ c. let yes : list_any (symbol_eq x) met ≡ true = list_any-from_Contains symbol_equiv x met c in absurd (let no : false ≡ true = sym e ∙ yes in cc))
+    by false e = distinct_push met x d
+        (λ c. let yes : list_any (symbol_eq x) met ≡ true = list_any-from_Contains symbol_equiv x met c in absurd (let no : false ≡ true = sym e ∙ yes in cc))
 
 inserted : (met : List SymbolId) (x : SymbolId) → Contains (insert_key symbol_eq met x) x
 inserted met x = by (list_any (symbol_eq x) met) refl
@@ -77,7 +79,8 @@ module _ (rules : List Rule) (items : List Item) (item : Item) where
   grown : (x : SymbolId) (to : Item) → MovesTo rules items x to → MovesTo rules all x to
   grown x to m = record { from = m.from; met = Contains-append_left items (item ∷ []) m.from m.met; next = m.next; is = m.is }
 
-  shrunk : (x : SymbolId) (to : Item) → MovesTo rules all x to → MovesTo rules items x to ⊎ ((next_of rules item ≡ Some x) × (item_at item.rule (item.dot + 1) ≡ to))
+  shrunk : (x : SymbolId) (to : Item) → MovesTo rules all x to
+      → MovesTo rules items x to ⊎ ((next_of rules item ≡ Some x) × (item_at item.rule (item.dot + 1) ≡ to))
   shrunk x to m = elim (Contains-append_cases items (item ∷ []) m.from m.met) [
     | inl old ↦ inl (record { from = m.from; met = old; next = m.next; is = m.is })
     | inr new ↦ let same : item ≡ m.from = one_of item m.from new in
@@ -97,7 +100,8 @@ module _ (rules : List Rule) (items : List Item) (item : Item) where
     );
   }
 
-  joined_move : (m : SymbolId × List Item) → next_of rules item ≡ Some m.0 → IsMove rules items m → IsMove rules all (m.0, with_item (item_at item.rule (item.dot + 1)) m.1)
+  joined_move : (m : SymbolId × List Item) → next_of rules item ≡ Some m.0 → IsMove rules items m
+      → IsMove rules all (m.0, with_item (item_at item.rule (item.dot + 1)) m.1)
   joined_move m e is =
       let moved = item_at item.rule (item.dot + 1) in
       record {
@@ -111,7 +115,8 @@ module _ (rules : List Rule) (items : List Item) (item : Item) where
         );
       }
 
-  begun_move : (x : SymbolId) → next_of rules item ≡ Some x → ((to : Item) → MovesTo rules items x to → ⊥) → IsMove rules all (x, item_at item.rule (item.dot + 1) ∷ [])
+  begun_move : (x : SymbolId) → next_of rules item ≡ Some x → ((to : Item) → MovesTo rules items x to → ⊥)
+      → IsMove rules all (x, item_at item.rule (item.dot + 1) ∷ [])
   unfolding IsStrictlySortedBy
   begun_move x e none =
       let moved = item_at item.rule (item.dot + 1) in
@@ -123,7 +128,8 @@ module _ (rules : List Rule) (items : List Item) (item : Item) where
         );
       }
 
-module _ (rules : List Rule) (items : List Item) (met : List SymbolId) (moves : List (SymbolId × List Item)) (ended : List RuleId) (walk : IsWalk rules items met moves ended) (item : Item) where
+module _ (rules : List Rule) (items : List Item) (met : List SymbolId) (moves : List (SymbolId × List Item)) (ended : List RuleId)
+    (walk : IsWalk rules items met moves ended) (item : Item) where
   more : {Y : Type 0} (f : Item → Option Y) (ys : List Y) → ys ≡ filter_map f items → ys ++ cons_option (f item) [] ≡ filter_map f (items ++ item ∷ [])
   more f ys e = ap (λ zs. zs ++ cons_option (f item) []) e ∙ sym (filter_map-append f items (item ∷ []))
 

@@ -19,7 +19,8 @@ invariant_of-result g c =
     IsNonDecreasingBy-from_sort_by_key (λ (m : SymbolId × List Item). m.0.0) _ sort.sorted (λ a r q k. search rules) in
     record {
       moves_ascend = rw c.from_vec.ensures (order _ numbers c.args.kernel.now c.requires _ _ w c.sort_unstable_by_key.new.self.items sort.permutation rises);
-      reductions_ascend = rw c.from_vec-2.ensures (ends_ascend _ numbers c.args.kernel.now c.requires _ _ w c.sort_unstable.new.self.items sort_ends.permutation sort_ends.sorted);
+      reductions_ascend = rw c.from_vec-2.ensures
+          (ends_ascend _ numbers c.args.kernel.now c.requires _ _ w c.sort_unstable.new.self.items sort_ends.permutation sort_ends.sorted);
     }
 
 pub returns-clause-expansion : goal.returns-clause-expansion
@@ -31,7 +32,8 @@ returns-clause-expansion g c =
     let rises : IsNonDecreasingBy (λ (m : SymbolId × List Item). m.0.0) c.sort_unstable_by_key.new.self.items =
     IsNonDecreasingBy-from_sort_by_key (λ (m : SymbolId × List Item). m.0.0) _ sort.sorted (λ a r q k. search rules) in
     expanded _ (numbered c.args.grammar.now.grammar c.is_formed.ensures) c.args.kernel.now c.requires _ _ w
-    c.sort_unstable_by_key.new.self.items c.sort_unstable.new.self.items sort.permutation rises sort_ends.permutation sort_ends.sorted _ c.from_vec.ensures c.from_vec-2.ensures
+    c.sort_unstable_by_key.new.self.items c.sort_unstable.new.self.items sort.permutation rises sort_ends.permutation sort_ends.sorted _ c.from_vec.ensures
+    c.from_vec-2.ensures
 
 pub returns-clause-steps : goal.returns-clause-steps
 returns-clause-steps g c =
