@@ -21,8 +21,5 @@ pub use laws::{expansions_fit, one_key, one_payload, one_scan_payload, scan_expa
 pub use scan_reading::read_scan;
 pub use scan_writing::{scan_key, scan_payload};
 
-#[cfg(test)]
-mod tests;
-
 /// Memory ran out.
 pub type NoMemory = AllocError;
