@@ -1,5 +1,7 @@
--- Items and marks of a grammar, by what its look-ups tell.
-use Rattle.std.proofs.Common.{◌≡◌, ℕ, ◌<◌, ◌≤◌, ◌==◌, List, [], ◌∷◌, ◌++◌, length, map, Some, refl, sym, ◌∙◌, ap, subst, arith, Contains}
+-- Items and marks of a grammar, by what its look-ups tell, and rows of it.
+use Rattle.std.proofs.Common.{◌≡◌, ℕ, ◌+◌, ◌<◌, ◌≤◌, ◌==◌, inl, inr, List, [], ◌∷◌, length, get_or, take, map, Some, refl, sym, ◌∙◌, ap, subst, arith, Contains}
+use Rattle.std.proofs.lemmas.List.{take_more}
+use Rattle.std.proofs.lemmas.List.Elements.{Contains-push_cases}
 use Rattle.std.proofs.lemmas.Bool.{eqb-true}
 use Rattle.forest.specs.declared.symbols.TheConstants.{START}
 use Rattle.forest.specs.declared.rules.RuleId.{RuleId}
@@ -15,9 +17,15 @@ use Rattle.item_sets.specs.declared.item.Item.{Item}
 use Rattle.item_sets.specs.Prefixes.{rule_zero, HasRight, whole, live, IsItem}
 use Rattle.isg_states.specs.declared.mark.Mark.{Mark}
 use Rattle.isg_states.specs.Patterns.{Pattern, bytes, expression, HasPattern, classes_in, IsMark}
-use Rattle.row_coding.specs.Rows.{Key, key_words}
+use Rattle.item_sets.specs.declared.expansion.Expansion.{Expansion}
+use Rattle.item_sets.specs.Expansions.{IsExpansionOf}
+use Rattle.isg_states.specs.declared.scan_key.ScanKey.{ScanKey}
+use Rattle.isg_states.specs.declared.ranges.ScanExpansion.{ScanExpansion}
+use Rattle.isg_states.specs.Expansion.{IsScanExpansionOf}
+use Rattle.row_coding.specs.Words.{item_payload_words, scan_payload_words}
+use Rattle.row_coding.specs.Rows.{kernel, scan, row_words}
 use Rattle.graph_content.specs.Affected.{IsKey}
-use Rattle.graph_content.specs.Rows.{IsPayloadOf, Fits}
+use Rattle.graph_content.specs.Rows.{Fits}
 
 rule_id : ℕ → RuleId
 rule_id n = record { 0 = n }
@@ -44,15 +52,21 @@ at_definition g (named n) index table is_live (d, is, e, spelled, are) within =
 pub mark_there : (g : Grammar) (mark : Mark) (table : Table) → IsLive g mark.def → ArePositionsFor g mark.def table → mark.index < length table.classes → IsMark g mark
 mark_there g mark table is_live are within = at_definition g mark.def mark.index table is_live are within
 
--- words that were put together are a row of the grammar
-pub fits : (g other : Grammar) (k : Key) (row key payload : List ℕ) → other ≡ g → IsKey g k → IsPayloadOf g k payload → key ≡ key_words k
-    → row ≡ length key ∷ length payload ∷ (key ++ payload) → Fits other row
-fits g other k row key payload same names codes is words = subst (λ (h : Grammar). Fits h row) (sym same) (
-  k,
-  record {
-    names = names;
-    payload = payload;
-    codes = codes;
-    words = words ∙ ap (λ (ks : List ℕ). length ks ∷ length payload ∷ (ks ++ payload)) is;
-  },
-)
+-- what holds of each mark so far, and of the next
+pub marks_more : (P : Mark → Type 0) (marks : List Mark) (i : ℕ) (d : Mark) → i < length marks → ((mark : Mark) → Contains (take i marks) mark → P mark)
+    → P (get_or marks i d) → (mark : Mark) → Contains (take (i + 1) marks) mark → P mark
+marks_more P marks i d within each next mark c =
+    elim (Contains-push_cases (take i marks) (get_or marks i d) mark (subst (λ (ms : List Mark). Contains ms mark) (take_more marks i d within) c)) [
+      | inl there ↦ each mark there
+      | inr e ↦ subst P e next
+    ]
+
+-- the words of a kernel and its expansion are a row of the grammar
+pub kernel_row : (g : Grammar) (items : List Item) (e : Expansion) (row : List ℕ) → IsKey g (kernel items) → IsExpansionOf g.rules items e
+    → row ≡ row_words (kernel items) (item_payload_words e) → Fits g row
+kernel_row g items e row names is words = (kernel items, record { names = names; payload = item_payload_words e; codes = (e, is, refl); words = words })
+
+-- the words of a state and its expansion are a row of the grammar
+pub state_row : (g : Grammar) (key : ScanKey) (e : ScanExpansion) (row : List ℕ) → IsKey g (scan key) → IsScanExpansionOf g key e.ranges
+    → row ≡ row_words (scan key) (scan_payload_words e) → Fits g row
+state_row g key e row names is words = (scan key, record { names = names; payload = scan_payload_words e; codes = (e, is, refl); words = words })

@@ -69,7 +69,7 @@ pub(crate) fn proper(alloc: Global, line: &str) -> Result<Edit, AllocError>
     Ok(edit)
 }
 
-/// The edit ready to be applied, where the grammar takes it.
+/// The edit, ready to be applied, where the grammar takes it.
 pub(crate) fn prepared(alloc: Global, grammar: &mut Grammar, edit: &Edit) -> Result<Ready, Refusal>
     requires { IsProper edit.now }
     ensures { IfOk result (IsReadyFor grammar.new edit.now) }

@@ -11,13 +11,20 @@ use grammar_text::Edit;
 use graph_content::Modify;
 use std::alloc::{AllocError, Global};
 
+/// Adds the number and the word.
+fn tell(alloc: Global, told: &mut String, number: u32, word: &str) -> Result<(), AllocError> {
+    told.push_str(&format!(in alloc; " {number} {word}")?)
+}
+
 /// Adds how many rows were kept, how many were refused, and how many of both wrongly, where any were.
-fn tell(alloc: Global, told: &mut String, rows: &Told) -> Result<(), AllocError> {
-    told.push_str(&format!(in alloc; " {} kept, {} refused", rows.kept, rows.refused)?)?;
+fn tell_rows(alloc: Global, told: &mut String, rows: &Told) -> Result<(), AllocError> {
+    tell(alloc, told, rows.kept, "kept,")?;
+    tell(alloc, told, rows.refused, "refused")?;
     if rows.wrong == 0 {
         return Ok(());
     }
-    told.push_str(&format!(in alloc; ", {} WRONG", rows.wrong)?)
+    told.push_str(",")?;
+    tell(alloc, told, rows.wrong, "WRONG")
 }
 
 /// What is told of item sets and of states, and that the counts of the choice differ from it, where they do.
@@ -28,9 +35,9 @@ fn told_rows(
     dropped: (u32, u32),
 ) -> Result<String, AllocError> {
     let mut told = String::from_str(alloc, " item sets")?;
-    tell(alloc, &mut told, items)?;
+    tell_rows(alloc, &mut told, items)?;
     told.push_str("; states")?;
-    tell(alloc, &mut told, scan)?;
+    tell_rows(alloc, &mut told, scan)?;
     if dropped.0 != items.refused {
         told.push_str("; item sets COUNTED WRONG")?;
     }

@@ -2,7 +2,7 @@
 
 ghost use Rattle.std.specs.Prelude.{◌≡◌, ◌<◌, IfOk, IfSome, IsTrue, Contains};
 ghost use Rattle.isg_states.specs.declared.mark.Mark.{Mark as AMark};
-ghost use Rattle.isg_states.specs.Patterns.{IsMark};
+ghost use Rattle.graph_content_tests.specs.LiveMarks.{IsLiveMark};
 ghost use Rattle.isg_states.specs.Expansion.{AreMarks, IsScanExpansionOf};
 ghost use Rattle.row_coding.specs.Words.{scan_payload_words};
 ghost use Rattle.row_coding.specs.Rows.{scan as scanner_key, row_words};
@@ -20,7 +20,7 @@ use steps::Steps;
 
 /// Whether the mark is one of the grammar.
 fn is_mark(grammar: &Grammar, mark: Mark) -> bool
-    ensures { IsTrue result → IsMark grammar.now.grammar mark }
+    ensures { IsTrue result → IsLiveMark grammar.now.grammar mark }
 {
     match grammar.positions(mark.def) {
         Some(positions) => mark.index < positions.count(),
@@ -29,7 +29,7 @@ fn is_mark(grammar: &Grammar, mark: Mark) -> bool
 }
 
 fn are_marks(grammar: &Grammar, marks: &[Mark]) -> bool
-    ensures { IsTrue result → ((mark : AMark) → Contains marks.now mark → IsMark grammar.now.grammar mark) }
+    ensures { IsTrue result → ((mark : AMark) → Contains marks.now mark → IsLiveMark grammar.now.grammar mark) }
 {
     for mark in marks {
         if !is_mark(grammar, *mark) {
