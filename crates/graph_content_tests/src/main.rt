@@ -1,0 +1,34 @@
+//! Rows that edits leave: asks each question of the input, and writes it again with the answer.
+//!
+//! A line of the input is `new`, or `edit` and an edit. Of each edit it is told how many rows that are reached in
+//! the grammar are kept and refused. A row is to be kept exactly where what is computed anew for its key in the
+//! next grammar is the same; a row that is not is told as wrong. The output that is wanted was worked out from the
+//! definitions.
+#![tactic(auto)]
+
+mod answers;
+mod histories;
+mod item_rows;
+mod judging;
+mod rows;
+mod scan_rows;
+
+use edit_log::Grammar;
+use judging::answer;
+use std::io;
+
+/// Writes each of the questions with its answer.
+fn answer_all(rt: &HostRuntime, questions: &str) -> io::Result<()> {
+    let mut grammar = Grammar::empty(rt.alloc())?;
+    let mut next = Grammar::empty(rt.alloc())?;
+    for question in questions.lines() {
+        let answer = answer(rt.alloc(), &mut grammar, &mut next, question)?;
+        println!(rt; "{question} =>{answer}")?;
+    }
+    Ok(())
+}
+
+fn main(rt: HostRuntime) -> io::Result<()> {
+    let questions = io::read_to_string(rt.alloc(), rt.stdin())?;
+    answer_all(&rt, &questions)
+}
