@@ -1,0 +1,6 @@
+pub mod StatesAfter
+pub mod WalkSteps
+pub mod StateTables
+pub mod Ranges
+pub mod Fills
+pub mod AskedKeys

@@ -1,0 +1,1 @@
+//! The longest piece that a definition matches.
