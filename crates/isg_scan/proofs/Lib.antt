@@ -4,3 +4,5 @@ pub mod StateTables
 pub mod Ranges
 pub mod Fills
 pub mod AskedKeys
+pub mod Reading
+pub mod Readings

@@ -15,8 +15,8 @@ use Rattle.isg_states.specs.declared.scan_key.ScanKey.TheVariants.{Start, Set}
 use Rattle.isg_states.specs.After.{IsAfter, AreBytes}
 use Rattle.isg_states.specs.Expansion.{LeadsTo}
 use Rattle.isg_scan.specs.Reach.{Meets}
-use Rattle.isg_scan.specs.States.{LeadsToSet, IsAccepted}
-use Rattle.isg_scan.specs.Walks.{IsStateAfter, IsPiece, NoneMatched, IsBest, IsWalk, IsWalked}
+use Rattle.isg_scan.specs.States.{LeadsToSet, IsAccepted, KeepsNumbers}
+use Rattle.isg_scan.specs.Walks.{IsStateAfter, IsPiece, NoneMatched, IsBest, best_with, IsWalk, IsWalked}
 use Rattle.isg_scan.proofs.StatesAfter.{taken_bytes, leads_after, next_state, one_state, IsDead, dead_more, dead_unmatched, dead_state, accepted_none, accepted_some}
 
 -- ---- parts of a text
@@ -74,11 +74,6 @@ best_all grammar text at None within is others = none_all grammar text 0 at is o
 best_all grammar text at (Some piece) within is others = (omega (arith, is.0, within), is.1, none_all grammar text piece.0 at is.2 others)
 
 -- ---- steps of a walk
-
--- the best piece after a state that accepts this
-abbrev pub best_with : Option (ℕ × DefKind) → (at : ℕ) → Option DefKind → Option (ℕ × DefKind)
-best_with best at None = best
-best_with best at (Some kind) = Some (at, kind)
 
 module _ (grammar : Grammar) (asked keys : List ScanKey) (text : List ℕ) where
   pub walk_start : slice_get keys 0 ≡ Some Start → IsWalk grammar asked keys text 0 0 None
@@ -168,3 +163,28 @@ module _ (grammar : Grammar) (asked keys : List ScanKey) (text : List ℕ) where
         ])
         (λ some. omega arith)
     }
+
+-- more was asked for, and more states have numbers
+pub walk_asked : (grammar : Grammar) (asked more keys others : List ScanKey) (text : List ℕ) (at state : ℕ) (best : Option (ℕ × DefKind)) → ((key : ScanKey) → Contains asked key → Contains more key)
+    → KeepsNumbers keys others → IsWalk grammar asked keys text at state best → IsWalk grammar more others text at state best
+walk_asked grammar asked more keys others text at state best grows keeps walk = record {
+  within = walk.within;
+  key = walk.key;
+  number = keeps state walk.key walk.number;
+  after = walk.after;
+  best_is = walk.best_is;
+  left_asked = λ size other less is. grows other (walk.left_asked size other less is)
+}
+
+-- the state is met where a byte follows
+pub state_met : (grammar : Grammar) (text : List ℕ) (at : ℕ) (key : ScanKey) → at < length text → IsStateAfter grammar (take at text) key → Meets grammar text key
+state_met grammar text at Start within after = omega (arith, within)
+state_met grammar text at (Set marks) within after = record {
+  part = take at text;
+  rest = drop at text;
+  begins = sym (take-append-drop at text);
+  nonempty = after.0;
+  follows = omega (arith, length-drop at text, within);
+  positions = after.1;
+  some = after.2
+}

@@ -34,6 +34,11 @@ abbrev pub IsBest : Grammar → List ℕ → ℕ → Option (ℕ × DefKind) →
 IsBest grammar text upto best = MatchOption best (NoneMatched grammar text 0 upto)
     (λ piece. (piece.0 ≤ upto) × IsPiece grammar text piece.0 piece.1 × NoneMatched grammar text piece.0 upto)
 
+-- the best piece after a state that accepts this, where so many bytes are read
+abbrev pub best_with : Option (ℕ × DefKind) → (at : ℕ) → Option DefKind → Option (ℕ × DefKind)
+best_with best at None = best
+best_with best at (Some kind) = Some (at, kind)
+
 -- so many bytes were read, which led to the state with this number, and the best piece among them is known; in each state that was left a byte was read
 pub record IsWalk (grammar : Grammar) (asked keys : List ScanKey) (text : List ℕ) (at state : ℕ) (best : Option (ℕ × DefKind)) : Type 0 where
   pub within : at ≤ length text

@@ -4,7 +4,7 @@ ghost use Rattle.std.specs.Prelude.{◌≡◌, ◌≤◌, ◌<◌, ◌+◌, ◌*
 ghost use Rattle.isg_states.specs.declared.scan_key.ScanKey.{ScanKey};
 ghost use Rattle.isg_states.specs.Expansion.{AreMarks};
 ghost use Rattle.live_graph.specs.Asking.{AsksScan};
-ghost use Rattle.isg_scan.specs.Asked.{Stands};
+ghost use Rattle.isg_scan.specs.Asked.{Stands, AsksOnly};
 ghost use Rattle.isg_scan.specs.States.{IsAccepted, IsTable, AreStates, KnowsNothingYet, Knows, KeepsNumbers, LeadsToState, IsFilled};
 
 use crate::leading::led;
@@ -106,7 +106,7 @@ impl States {
     }
 
     /// Asks the graph where the byte leads from the state with this number, and keeps the answer. Gives the entry.
-    pub(crate) fn learn<G: Graph, L: Ledger>(
+    fn learn<G: Graph, L: Ledger>(
         &mut self,
         graph: &mut G,
         state: usize,
@@ -133,5 +133,29 @@ impl States {
                 Ok(NOWHERE)
             }
         }
+    }
+
+    /// The entry for the state with this number and the byte, learned if it is not known.
+    pub(crate) fn entry<G: Graph, L: Ledger>(
+        &mut self,
+        graph: &mut G,
+        state: usize,
+        byte: u8,
+        steps: &mut Steps<L>,
+    ) -> Result<u32, NoMemory>
+        requires knows { Knows (G.means graph.old).grammar (G.means graph.old).scans.keys self.old.keys.keys self.old.accepted.items self.old.table.items }
+        requires state { state < length self.old.keys.keys }
+        ensures asks { OnOk result (AsksOnly (λ key. slice_get self.old.keys.keys state ≡ Some key) (G.means graph.old) (G.means graph.new) steps.old steps.new) }
+        ensures stands { Stands (G.means graph.old) (G.means graph.new) }
+        ensures never_back { steps.old ≤ steps.new }
+        ensures keeps { OnOk result (KeepsNumbers self.old.keys.keys self.new.keys.keys) }
+        ensures knows { OnOk result (Knows (G.means graph.new).grammar (G.means graph.new).scans.keys self.new.keys.keys self.new.accepted.items self.new.table.items) }
+        ensures entry { IfOk result (λ entry. (0 < entry) × (slice_get self.new.table.items (256 * state + byte) ≡ Some entry)) }
+    {
+        let known = self.table[ROW * state + usize::from(byte)];
+        if known == UNKNOWN {
+            return self.learn(graph, state, byte, steps);
+        }
+        Ok(known)
     }
 }
