@@ -6,3 +6,7 @@ pub mod Fills
 pub mod AskedKeys
 pub mod Reading
 pub mod Readings
+pub mod OneScan
+pub mod Pieces
+pub mod ScannedTexts
+pub mod Scans

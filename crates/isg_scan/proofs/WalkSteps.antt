@@ -34,7 +34,7 @@ take_longer text shorter longer upto within =
     (take (longer - shorter) (drop shorter text), ap (take longer) (sym (take-append-drop shorter text)) ∙ whole)
 
 -- the first part of two is so many bytes
-take_part : (text part rest : List ℕ) → text ≡ part ++ rest → take (length part) text ≡ part
+pub take_part : (text part rest : List ℕ) → text ≡ part ++ rest → take (length part) text ≡ part
 take_part text part rest is = ap (take (length part)) is ∙ take-append_seam part rest
 
 -- ---- the best piece

@@ -3,3 +3,4 @@ pub mod Answers
 pub mod States
 pub mod Walks
 pub mod Asked
+pub mod Taken
