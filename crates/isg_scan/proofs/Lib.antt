@@ -10,3 +10,4 @@ pub mod OneScan
 pub mod Pieces
 pub mod ScannedTexts
 pub mod Scans
+pub mod Refusals

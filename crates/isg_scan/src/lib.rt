@@ -5,11 +5,13 @@
 //! In one scan the states that are met get numbers, and a table tells where their bytes lead.
 #![tactic(auto)]
 
+mod laws;
 mod leading;
 mod scan_error;
 mod scanning;
 mod states;
 mod walk;
 
+pub use laws::one_scan;
 pub use scan_error::ScanError;
 pub use scanning::{SCAN_LIMIT, scan};

@@ -28,6 +28,7 @@ fn take_piece(
     from: usize,
     to: usize,
 ) -> Result<(), ScanError>
+    requires few { length tokens.old.items ≤ TOKEN_LIMIT }
     requires order { from ≤ to }
     requires small { to < 2 ^ 32 }
     ensures taken { OnOk result (IsTaken kind from to tokens.old.items tokens.new.items) }
