@@ -1,5 +1,5 @@
 -- The keys that a graph was asked for.
-use Rattle.std.proofs.Common.{◌≡◌, inl, inr, ◌⊎◌, ℕ, List, [], ◌∷◌, ◌++◌, Contains, refl, sym, ◌∙◌, subst}
+use Rattle.std.proofs.Common.{◌≡◌, inl, inr, ◌⊎◌, ℕ, List, [], ◌∷◌, Contains, refl, sym, ◌∙◌, subst}
 use Rattle.std.proofs.lemmas.List.Elements.{Contains-push, Contains-push_cases, Contains-append_left}
 use Rattle.isg_states.specs.declared.scan_key.ScanKey.{ScanKey}
 use Rattle.live_graph.specs.Meaning.{Meaning}
@@ -33,7 +33,7 @@ module _ {Base : Type 0} where
   asks_one Wanted old new key before after wanted asks = record {
     kept = joined_kept old.scans.keys key new.scans.keys asks.asks.joins;
     within = λ other has. elim (joined_within old.scans.keys key new.scans.keys asks.asks.joins other has) [ inl old_one ↦ inl old_one | inr same ↦ inr (subst Wanted same wanted) ];
-    rises = scan_rises old new key before after asks
+    rises = scan_rises old new key before after asks;
   }
 
   pub asks_join : (First Second Wanted : ScanKey → Type 0) (old middle new : Meaning Base) (before between after : ℕ) → ((key : ScanKey) → First key → Wanted key) → ((key : ScanKey) → Second key → Wanted key)
@@ -44,7 +44,7 @@ module _ {Base : Type 0} where
       | inl earlier ↦ elim (first.within key earlier) [ inl old_one ↦ inl old_one | inr wanted ↦ inr (one key wanted) ]
       | inr wanted ↦ inr (two key wanted)
     ];
-    rises = rise_join old middle new before between after first.rises second.rises
+    rises = rise_join old middle new before between after first.rises second.rises;
   }
 
   pub stands_same : (graph : Meaning Base) → Stands graph graph

@@ -1,5 +1,5 @@
 -- Writing one entry at places one after the other.
-use Rattle.std.proofs.Common.{◌≡◌, inl, inr, ℕ, zero, suc, ◌+◌, ◌<◌, ◌≤◌, List, [], ◌∷◌, length, set, Some, slice_get, refl, sym, ap, ◌∙◌, subst, arith}
+use Rattle.std.proofs.Common.{◌≡◌, inl, inr, ℕ, zero, suc, ◌+◌, ◌<◌, ◌≤◌, List, [], ◌∷◌, length, set, Some, slice_get, refl, ap, ◌∙◌, subst, arith}
 use Rattle.std.proofs.lemmas.Bool.{cases_lt}
 use Rattle.std.proofs.Math.ListN.{length-set}
 use Rattle.isg_scan.specs.States.{IsFilled}
@@ -34,12 +34,12 @@ filled_more old new from place entry since within is = record {
         let same : place ≡ p = omega (arith, here, before) in
         subst (λ q. slice_get (set new place entry) q ≡ Some entry) same (set_same new place entry (omega (arith, within, is.size)))
   ];
-  left = λ p other. set_other new place p entry (λ same. other (omega (arith, since, same)) (omega (arith, same))) ∙ is.left p (λ from_p before. other from_p (omega (arith, before)))
+  left = λ p other. set_other new place p entry (λ same. other (omega (arith, since, same)) (omega (arith, same))) ∙ is.left p (λ from_p before. other from_p (omega (arith, before)));
 }
 
 pub filled_all : (old new : List ℕ) (from to place entry : ℕ) → place ≡ to + 1 → IsFilledTo old new from place entry → IsFilled old new from to entry
 filled_all old new from to place entry end is = record {
   size = is.size;
   written = λ p since upto. is.written p since (omega (arith, end, upto));
-  left = λ p other. is.left p (λ since before. other since (omega (arith, end, before)))
+  left = λ p other. is.left p (λ since before. other since (omega (arith, end, before)));
 }

@@ -1,5 +1,5 @@
 -- The best piece of a whole text is the longest one.
-use Rattle.std.proofs.Common.{◌≡◌, inl, inr, ◌⊎◌, ℕ, ◌+◌, ◌<◌, ◌≤◌, List, [], ◌∷◌, ◌++◌, length, take, drop, Option, Some, None, refl, sym, ap, ◌∙◌, subst, arith, length-append}
+use Rattle.std.proofs.Common.{◌≡◌, inl, inr, ◌⊎◌, ℕ, ◌+◌, ◌<◌, List, ◌++◌, length, take, drop, Some, None, refl, sym, ap, subst, arith, length-append}
 use Rattle.std.proofs.lemmas.List.{take-append-drop, length-take-le}
 use Rattle.forest.specs.declared.symbols.SymbolId.{SymbolId}
 use Rattle.edit_log.specs.declared.definitions.DefId.{DefId}
@@ -9,9 +9,9 @@ use Rattle.edit_log.specs.History.{Grammar}
 use Rattle.edit_log.specs.Live.{kind_of}
 use Rattle.edit_log.specs.Tokens.{IsMatched, IsWinner, IsLongest}
 use Rattle.isg_scan.specs.Reach.{ComesTo, here, past_skip, past_token}
-use Rattle.isg_scan.specs.Walks.{IsPiece, NoneMatched, IsBest}
+use Rattle.isg_scan.specs.Walks.{IsBest}
 use Rattle.isg_scan.proofs.WalkSteps.{take_part}
-use Rattle.isg_scan.proofs.OneScan.{one_longest, one_kind, no_piece}
+use Rattle.isg_scan.proofs.OneScan.{one_longest, one_kind}
 
 module _ (grammar : Grammar) (text : List ℕ) where
   -- no piece is matched
@@ -26,7 +26,7 @@ module _ (grammar : Grammar) (text : List ℕ) where
         begins = sym (take-append-drop size text);
         matched = best.1.matched;
         longest = λ longer others is over matched. best.2 (length longer) (omega (arith, over, taken)) (omega (arith, ap length is, length-append longer others))
-            (subst (IsMatched grammar) (sym (take_part text longer others is)) matched)
+            (subst (IsMatched grammar) (sym (take_part text longer others is)) matched);
       }
 
   pub size_is : (size : ℕ) (kind : DefKind) → IsBest grammar text (length text) (Some (size, kind)) → length (take size text) ≡ size

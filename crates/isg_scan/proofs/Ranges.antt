@@ -1,5 +1,5 @@
 -- Where a range of an expansion leads.
-use Rattle.std.proofs.Common.{◌≡◌, ℕ, ◌<◌, ◌≤◌, List, Contains, Result, Ok, OnOk, sym, ◌∙◌, subst}
+use Rattle.std.proofs.Common.{◌≡◌, ℕ, ◌<◌, List, Contains, Result, Ok, OnOk, sym, ◌∙◌, subst}
 use Rattle.edit_log.specs.History.{Grammar}
 use Rattle.isg_states.specs.declared.mark.Mark.{Mark}
 use Rattle.isg_states.specs.declared.scan_key.ScanKey.{ScanKey}
@@ -26,7 +26,7 @@ module _ (grammar : Grammar) (key : ScanKey) (ranges : List Range) (is : IsScanE
         has_byte = has;
         bytes = one.bytes;
         leads = λ other from to. record { marks_are = one.leads other from to; some = one.somewhere };
-        target = subst (AreMarks grammar) (sym copied) (range_marks grammar key range one)
+        target = subst (AreMarks grammar) (sym copied) (range_marks grammar key range one);
       }
 
   pub led_nowhere : (byte : ℕ) → byte < 256 → ((range : Range) → Contains ranges range → HasByte range byte → ⊥) → (mark : Mark) → LeadsTo grammar key byte mark → ⊥

@@ -1,13 +1,12 @@
 -- Reading a byte by the table.
-use Rattle.std.proofs.Common.{◌≡◌, inl, inr, ℕ, suc, ◌+◌, ◌*◌, ◌-◌, ◌<◌, ◌≤◌, List, [], ◌∷◌, length, get_or, Option, Some, None, slice_get, Contains, Result, Ok, Err, OnOk, refl, sym, ap, ◌∙◌, subst, arith}
+use Rattle.std.proofs.Common.{◌≡◌, inl, inr, ℕ, suc, ◌+◌, ◌*◌, ◌-◌, ◌<◌, ◌≤◌, List, [], ◌∷◌, length, get_or, Option, Some, slice_get, Result, Ok, Err, OnOk, sym, subst, arith}
 use Rattle.std.proofs.lemmas.Option.{slice_get_within, slice_get_cases}
 use Rattle.edit_log.specs.declared.definitions.DefKind.{DefKind}
 use Rattle.edit_log.specs.History.{Grammar}
-use Rattle.isg_states.specs.declared.mark.Mark.{Mark}
 use Rattle.isg_states.specs.declared.scan_key.ScanKey.{ScanKey}
-use Rattle.isg_states.specs.declared.scan_key.ScanKey.TheVariants.{Start, Set}
+use Rattle.isg_states.specs.declared.scan_key.ScanKey.TheVariants.{Set}
 use Rattle.isg_states.specs.After.{AreBytes}
-use Rattle.isg_scan.specs.States.{LeadsToSet, TellsEntry, Knows}
+use Rattle.isg_scan.specs.States.{TellsEntry, Knows}
 use Rattle.isg_scan.specs.Walks.{best_with, IsWalk, IsWalked}
 use Rattle.isg_scan.proofs.WalkSteps.{walk_more, walk_stops}
 
@@ -44,11 +43,11 @@ module _ (grammar : Grammar) (asked keys : List ScanKey) (accepted : List (Optio
       let to = tells.leads (entry - 2) (omega (arith, more)) in
       let kind = some_at accepted (entry - 2) (next_inside more) in
       let next : IsWalk grammar asked keys text (at + 1) (entry - 2) (best_with best (at + 1) kind.0) =
-          walk_more grammar asked keys text small at state best walk byte (entry - 2) to.0 kind.0 here to.1 to.2 (tells.known (omega (arith, more)))
-            (knows.states.accepts (entry - 2) (Set to.0) kind.0 to.1 kind.1) in
+      walk_more grammar asked keys text small at state best walk byte (entry - 2) to.0 kind.0 here to.1 to.2 (tells.known (omega (arith, more)))
+      (knows.states.accepts (entry - 2) (Set to.0) kind.0 to.1 kind.1) in
       subst (λ n. IsWalk grammar asked keys text n next_state next_best) (sym at_is)
-        (subst (λ n. IsWalk grammar asked keys text (at + 1) n next_best) (sym state_is)
-          (subst (λ b. IsWalk grammar asked keys text (at + 1) (entry - 2) b) (sym (best_is kind.0 kind.1)) next))
+      (subst (λ n. IsWalk grammar asked keys text (at + 1) n next_best) (sym state_is)
+      (subst (λ b. IsWalk grammar asked keys text (at + 1) (entry - 2) b) (sym (best_is kind.0 kind.1)) next))
 
   pub next_stops : entry ≡ 1 → IsWalked grammar asked text best
   next_stops one = walk_stops grammar asked keys text small at state best walk byte here (tells.nowhere one) (tells.known (omega (arith, one)))

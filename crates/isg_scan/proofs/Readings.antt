@@ -1,5 +1,5 @@
 -- How a scan reads on from where a piece begins.
-use Rattle.std.proofs.Common.{◌≡◌, inl, inr, ℕ, ◌+◌, ◌-◌, ◌*◌, ◌<◌, ◌≤◌, List, length, take, Option, Some, None, slice_get, Contains, refl, sym, ap, ◌∙◌, subst, arith}
+use Rattle.std.proofs.Common.{◌≡◌, ℕ, ◌<◌, ◌≤◌, List, length, Option, Some, None, slice_get, sym, ◌∙◌, subst, arith}
 use Rattle.std.proofs.lemmas.Option.{same_Some}
 use Rattle.edit_log.specs.declared.definitions.DefKind.{DefKind}
 use Rattle.isg_states.specs.declared.scan_key.ScanKey.{ScanKey}
@@ -7,12 +7,9 @@ use Rattle.live_graph.specs.Meaning.{Meaning}
 use Rattle.isg_scan.specs.Asked.{Stands, AsksOnly}
 use Rattle.isg_scan.specs.Reach.{Meets}
 use Rattle.isg_scan.specs.States.{Knows, KeepsNumbers}
-use Rattle.isg_scan.specs.Walks.{best_with, IsWalk, IsWalked}
-use Rattle.isg_states.specs.declared.scan_key.ScanKey.TheVariants.{Start}
-use Rattle.isg_states.specs.After.{AreBytes}
+use Rattle.isg_scan.specs.Walks.{IsWalk}
 use Rattle.isg_scan.proofs.AskedKeys.{asks_none, asks_join, stands_same, stands_join}
-use Rattle.isg_scan.proofs.WalkSteps.{walk_start, walk_asked, walk_ends, state_met}
-use Rattle.isg_scan.proofs.Reading.{next_inside, next_walk, next_stops}
+use Rattle.isg_scan.proofs.WalkSteps.{walk_start, walk_asked, state_met}
 
 -- the text was read so far, for which the graph was asked for states that are met in it alone
 pub record IsReading {Base : Type 0} (old now : Meaning Base) (keys : List ScanKey) (accepted : List (Option DefKind)) (table text : List ℕ) (at state : ℕ) (best : Option (ℕ × DefKind))
@@ -31,7 +28,7 @@ module _ {Base : Type 0} (old : Meaning Base) (text : List ℕ) where
     walk = walk_start old.grammar old.scans.keys keys text knows.states.start;
     asks = asks_none (Meets old.grammar text) old steps;
     stands = stands_same old;
-    never_back = omega arith
+    never_back = omega arith;
   }
 
   -- the entry for the next byte is known now
@@ -43,11 +40,11 @@ module _ {Base : Type 0} (old : Meaning Base) (text : List ℕ) where
       record {
         knows = knows;
         walk = subst (λ grammar. IsWalk grammar new.scans.keys others text at state best) (sym stands.grammar)
-          (walk_asked now.grammar now.scans.keys new.scans.keys keys others text at state best asks.kept keeps walk);
+            (walk_asked now.grammar now.scans.keys new.scans.keys keys others text at state best asks.kept keeps walk);
         asks = asks_join (Meets old.grammar text) (λ key. slice_get keys state ≡ Some key) (Meets old.grammar text) old now new before between after (λ key meets. meets)
-          (λ key at_key. subst (λ grammar. Meets grammar text key) reading.stands.grammar
+            (λ key at_key. subst (λ grammar. Meets grammar text key) reading.stands.grammar
             (subst (Meets now.grammar text) (same_Some walk.key key (sym walk.number ∙ at_key)) (state_met now.grammar text at walk.key within walk.after)))
-          reading.asks asks;
+            reading.asks asks;
         stands = stands_join old now new reading.stands stands;
-        never_back = omega (arith, reading.never_back, on)
+        never_back = omega (arith, reading.never_back, on);
       }

@@ -1,5 +1,5 @@
 -- Scanning a text from its beginning.
-use Rattle.std.proofs.Common.{◌≡◌, inl, inr, ◌⊎◌, ℕ, suc, ◌+◌, ◌-◌, ◌<◌, ◌≤◌, List, [], ◌∷◌, ◌++◌, length, take, drop, Some, Contains, refl, ap, sym, ◌∙◌, subst, arith, append-nil, length-append, length-drop}
+use Rattle.std.proofs.Common.{◌≡◌, inl, inr, ◌⊎◌, ℕ, ◌+◌, ◌-◌, ◌<◌, ◌≤◌, List, [], ◌∷◌, ◌++◌, length, take, drop, Some, Contains, refl, ap, sym, ◌∙◌, subst, arith, append-nil, length-append, length-drop}
 use Rattle.std.proofs.lemmas.List.{drop_all, drop-drop}
 use Rattle.std.proofs.lemmas.Grind.{common_steps}
 use Rattle.std.proofs.Math.Seq.{drop-append_seam}
@@ -71,7 +71,7 @@ module _ (grammar : Grammar) (text : List ℕ) (offset : ℕ) (found : List Toke
   pub scanned_all : length text ≤ offset → Tokenizes grammar text (tokens found)
   scanned_all past =
       subst (Tokenizes grammar text) (before_all-tokens found [] ∙ ap tokens (append-nil found))
-        (is.goes_on (tokens []) (subst (λ bytes. TokenizesFrom grammar offset (room_after found) bytes (tokens [])) (sym (drop_all offset text past)) end))
+      (is.goes_on (tokens []) (subst (λ bytes. TokenizesFrom grammar offset (room_after found) bytes (tokens [])) (sym (drop_all offset text past)) end))
 
   module _ (piece rest : List ℕ) (winner : DefId) (longest : IsLongest grammar (drop offset text) piece rest) (wins : IsWinner grammar piece winner) where
     pub behind : drop (offset + length piece) text ≡ rest
@@ -85,7 +85,7 @@ module _ (grammar : Grammar) (text : List ℕ) (offset : ℕ) (found : List Toke
       within = next_within;
       few = is.few;
       goes_on = λ scan further. is.goes_on scan (skipped longest wins kind (subst (λ bytes. TokenizesFrom grammar (offset + length piece) (room_after found) bytes scan) behind further));
-      comes = λ left comes. is.comes left (past_skip longest wins kind (subst (λ bytes. ComesTo grammar (room_after found) bytes left) behind comes))
+      comes = λ left comes. is.comes left (past_skip longest wins kind (subst (λ bytes. ComesTo grammar (room_after found) bytes left) behind comes));
     }
 
     pub scanned_token : (kind : SymbolId) → kind_of grammar winner ≡ Some (token_of kind) → length found < TOKEN_LIMIT
@@ -99,12 +99,12 @@ module _ (grammar : Grammar) (text : List ℕ) (offset : ℕ) (found : List Toke
           few = omega (arith, length-append found (token ∷ []), few);
           goes_on = λ scan further.
               let step : TokenizesFrom grammar offset (less + 1) (drop offset text) (before token scan) =
-                  more longest wins kind_is (subst (λ bytes. TokenizesFrom grammar (offset + length piece) less bytes scan) behind further) in
+              more longest wins kind_is (subst (λ bytes. TokenizesFrom grammar (offset + length piece) less bytes scan) behind further) in
               subst (Tokenizes grammar text) (sym (before_all-push found token scan))
-                (is.goes_on (before token scan) (subst (λ n. TokenizesFrom grammar offset n (drop offset text) (before token scan)) (sym room) step));
+              (is.goes_on (before token scan) (subst (λ n. TokenizesFrom grammar offset n (drop offset text) (before token scan)) (sym room) step));
           comes = λ left comes.
               let step : ComesTo grammar (less + 1) (drop offset text) left = past_token longest wins kind_is (subst (λ bytes. ComesTo grammar less bytes left) behind comes) in
-              is.comes left (subst (λ n. ComesTo grammar n (drop offset text) left) (sym room) step)
+              is.comes left (subst (λ n. ComesTo grammar n (drop offset text) left) (sym room) step);
         }
 
     pub scanned_full : (kind : SymbolId) → kind_of grammar winner ≡ Some (token_of kind) → length found ≡ TOKEN_LIMIT → Tokenizes grammar text (too_many offset)
@@ -112,7 +112,7 @@ module _ (grammar : Grammar) (text : List ℕ) (offset : ℕ) (found : List Toke
         let room : room_after found ≡ 0 = omega (arith, all) in
         let step : TokenizesFrom grammar offset 0 (drop offset text) (too_many offset) = full longest wins kind_is in
         subst (Tokenizes grammar text) (before_all-too_many found offset)
-          (is.goes_on (too_many offset) (subst (λ n. TokenizesFrom grammar offset n (drop offset text) (too_many offset)) (sym room) step))
+        (is.goes_on (too_many offset) (subst (λ n. TokenizesFrom grammar offset n (drop offset text) (too_many offset)) (sym room) step))
 
 -- ---- what is asked for
 
@@ -141,7 +141,7 @@ module _ (grammar : Grammar) (text : List ℕ) (offset : ℕ) (found : List Toke
   module _ (piece rest : List ℕ) (winner : DefId) (longest : IsLongest grammar (drop offset text) piece rest) (wins : IsWinner grammar piece winner) where
     pub asked_skip : kind_of grammar winner ≡ Some skip → drop (offset + length piece) text ≡ rest → IsAskedTo grammar text more_asked (room_after found) (drop (offset + length piece) text)
     asked_skip kind behind = subst (IsAskedTo grammar text more_asked (room_after found)) (sym behind)
-      (asked_past (room_after found) rest (λ left comes. comes_past_skip grammar (room_after found) (drop offset text) left piece rest winner longest wins kind comes))
+        (asked_past (room_after found) rest (λ left comes. comes_past_skip grammar (room_after found) (drop offset text) left piece rest winner longest wins kind comes))
 
     pub asked_token : (kind : SymbolId) (token : Token) → kind_of grammar winner ≡ Some (token_of kind) → length found < TOKEN_LIMIT → drop (offset + length piece) text ≡ rest
         → IsAskedTo grammar text more_asked (room_after (found ++ token ∷ [])) (drop (offset + length piece) text)
@@ -149,7 +149,7 @@ module _ (grammar : Grammar) (text : List ℕ) (offset : ℕ) (found : List Toke
         let less = room_after (found ++ token ∷ []) in
         let room : room_after found ≡ less + 1 = omega (arith, length-append found (token ∷ []), few) in
         subst (IsAskedTo grammar text more_asked less) (sym behind)
-          (asked_past less rest (λ left comes. comes_past_token grammar (room_after found) less (drop offset text) left piece rest winner kind room longest wins kind_is comes))
+        (asked_past less rest (λ left comes. comes_past_token grammar (room_after found) less (drop offset text) left piece rest winner kind room longest wins kind_is comes))
 
     pub asked_full : (kind : SymbolId) → kind_of grammar winner ≡ Some (token_of kind) → length found ≡ TOKEN_LIMIT → (key : ScanKey) → ReachesScan grammar text key → Contains more_asked key
     asked_full kind kind_is all = asked_here (λ left comes. comes_full grammar (room_after found) (drop offset text) left piece rest winner kind (omega (arith, all)) longest wins kind_is comes)

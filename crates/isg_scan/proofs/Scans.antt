@@ -1,12 +1,11 @@
 -- A scan over a graph, piece by piece.
-use Rattle.std.proofs.Common.{◌≡◌, inl, inr, ◌⊎◌, ◌↔◌, ℕ, ◌+◌, ◌-◌, ◌<◌, ◌≤◌, List, [], ◌∷◌, ◌++◌, length, take, drop, Option, Some, None, Contains, refl, sym, ap, ◌∙◌, subst, arith, length-drop}
+use Rattle.std.proofs.Common.{◌≡◌, inl, inr, ◌⊎◌, ◌↔◌, ℕ, ◌+◌, ◌<◌, ◌≤◌, List, [], ◌∷◌, ◌++◌, length, take, drop, Option, Some, None, Contains, refl, sym, ap, ◌∙◌, subst, arith, length-drop}
 use Rattle.forest.specs.declared.symbols.SymbolId.{SymbolId}
 use Rattle.forest.specs.declared.symbols.Token.{Token}
 use Rattle.edit_log.specs.declared.definitions.DefKind.{DefKind}
 use Rattle.edit_log.specs.declared.definitions.DefKind.TheVariants.{Token as token_of, Skip as skip}
 use Rattle.edit_log.specs.declared.limits.TheConstants.{TOKEN_LIMIT}
-use Rattle.edit_log.specs.History.{Grammar}
-use Rattle.edit_log.specs.Tokens.{IsMatched, tokens, no_token, too_many, token_at, Tokenizes}
+use Rattle.edit_log.specs.Tokens.{tokens, no_token, too_many, token_at, Tokenizes}
 use Rattle.isg_states.specs.declared.scan_key.ScanKey.{ScanKey}
 use Rattle.live_graph.specs.Meaning.{Meaning}
 use Rattle.isg_scan.specs.Reach.{Meets, ReachesScan}
@@ -44,16 +43,16 @@ module _ {Base : Type 0} (old : Meaning Base) (text : List ℕ) where
     asked = asked_none old.grammar text old.scans.keys;
     asks = asks_none (ReachesScan old.grammar text) old steps;
     stands = stands_same old;
-    never_back = omega arith
+    never_back = omega arith;
   }
 
   module _ (now : Meaning Base) (keys : List ScanKey) (accepted : List (Option DefKind)) (table : List ℕ) (offset : ℕ) (found : List Token) (before between : ℕ)
       (scanning : IsScanning old now keys accepted table text offset found before between) where
     pub scan_ends : length text ≤ offset → Tokenizes old.grammar text (tokens found) × AsksReached old now text
     scan_ends past = (
-        scanned_all old.grammar text offset found scanning.scanned past,
-        asks_reached now before between scanning.asks (asked_all old.grammar text offset (room_after found) now.scans.keys scanning.asked past),
-      )
+      scanned_all old.grammar text offset found scanning.scanned past,
+      asks_reached now before between scanning.asks (asked_all old.grammar text offset (room_after found) now.scans.keys scanning.asked past),
+    )
 
     module _ (new : Meaning Base) (after : ℕ) (best : Option (ℕ × DefKind)) (walked : IsWalked new.grammar new.scans.keys (drop offset text) best)
         (asks : AsksOnly (Meets now.grammar (drop offset text)) now new between after) (stands : Stands now new) (on : between ≤ after) where
@@ -68,8 +67,8 @@ module _ {Base : Type 0} (old : Meaning Base) (text : List ℕ) where
 
       pub all_asks : AsksOnly (ReachesScan old.grammar text) old new before after
       all_asks = asks_join (ReachesScan old.grammar text) (Meets now.grammar (drop offset text)) (ReachesScan old.grammar text) old now new before between after (λ key reaches. reaches)
-        (λ key meets. meets_reached old.grammar text offset found scanning.scanned key (subst (λ grammar. Meets grammar (drop offset text) key) scanning.stands.grammar meets))
-        scanning.asks asks
+          (λ key meets. meets_reached old.grammar text offset found scanning.scanned key (subst (λ grammar. Meets grammar (drop offset text) key) scanning.stands.grammar meets))
+          scanning.asks asks
 
       pub scan_stops : offset < length text → best ≡ None → Tokenizes old.grammar text (no_token offset) × AsksReached old new text
       scan_stops less is =
@@ -84,9 +83,9 @@ module _ {Base : Type 0} (old : Meaning Base) (text : List ℕ) where
 
         pub piece_within : (0 < size) × (offset + size ≤ length text)
         piece_within = (
-            size_some old.grammar (drop offset text) size kind piece_here,
-            omega (arith, piece_here.0, length-drop offset text, scanning.scanned.within),
-          )
+          size_some old.grammar (drop offset text) size kind piece_here,
+          omega (arith, piece_here.0, length-drop offset text, scanning.scanned.within),
+        )
 
         pub scan_full : (symbol : SymbolId) → kind ≡ token_of symbol → length found ≡ TOKEN_LIMIT → Tokenizes old.grammar text (too_many offset) × AsksReached old new text
         scan_full symbol kind_is all =
@@ -94,7 +93,7 @@ module _ {Base : Type 0} (old : Meaning Base) (text : List ℕ) where
             let own = piece_here.1.kind_is ∙ ap Some kind_is in (
               scanned_full old.grammar text offset found scanning.scanned (take size (drop offset text)) (drop size (drop offset text)) piece_here.1.winner longest piece_here.1.wins symbol own all,
               asks_reached new before after all_asks
-                (asked_full old.grammar text offset found now.scans.keys new.scans.keys scanning.asked asks.kept met_here (take size (drop offset text)) (drop size (drop offset text)) piece_here.1.winner longest piece_here.1.wins
+                  (asked_full old.grammar text offset found now.scans.keys new.scans.keys scanning.asked asks.kept met_here (take size (drop offset text)) (drop size (drop offset text)) piece_here.1.winner longest piece_here.1.wins
                   symbol own all),
             )
 
@@ -114,10 +113,10 @@ module _ {Base : Type 0} (old : Meaning Base) (text : List ℕ) where
               let length_is = size_is old.grammar (drop offset text) size kind piece_here in
               let past = behind old.grammar text offset found scanning.scanned piece rest winner longest wins in
               subst (λ list. IsScanning old new others kinds rows text (offset + size) list before after) (sym taken)
-                (scan_on found
-                  (subst (λ n. IsScannedTo old.grammar text (offset + n) found) length_is (scanned_skip old.grammar text offset found scanning.scanned piece rest winner longest wins own))
-                  (subst (λ n. IsAskedTo old.grammar text new.scans.keys (room_after found) (drop (offset + n) text)) length_is
-                    (asked_skip old.grammar text offset found now.scans.keys new.scans.keys scanning.asked asks.kept met_here piece rest winner longest wins own past)))
+              (scan_on found
+              (subst (λ n. IsScannedTo old.grammar text (offset + n) found) length_is (scanned_skip old.grammar text offset found scanning.scanned piece rest winner longest wins own))
+              (subst (λ n. IsAskedTo old.grammar text new.scans.keys (room_after found) (drop (offset + n) text)) length_is
+              (asked_skip old.grammar text offset found now.scans.keys new.scans.keys scanning.asked asks.kept met_here piece rest winner longest wins own past)))
           taken_kind (token_of symbol) kind_is more taken =
               let piece = take size (drop offset text) in
               let rest = drop size (drop offset text) in
@@ -129,11 +128,11 @@ module _ {Base : Type 0} (old : Meaning Base) (text : List ℕ) where
               let past = behind old.grammar text offset found scanning.scanned piece rest winner longest wins in
               let token = token_at symbol offset (offset + size) in
               subst (λ list. IsScanning old new others kinds rows text (offset + size) list before after) (sym taken.1)
-                (scan_on (found ++ token ∷ [])
-                  (subst (λ n. IsScannedTo old.grammar text (offset + n) (found ++ token_at symbol offset (offset + n) ∷ [])) length_is
-                    (scanned_token old.grammar text offset found scanning.scanned piece rest winner longest wins symbol own taken.0))
-                  (subst (λ n. IsAskedTo old.grammar text new.scans.keys (room_after (found ++ token ∷ [])) (drop (offset + n) text)) length_is
-                    (asked_token old.grammar text offset found now.scans.keys new.scans.keys scanning.asked asks.kept met_here piece rest winner longest wins symbol token own taken.0 past)))
+              (scan_on (found ++ token ∷ [])
+              (subst (λ n. IsScannedTo old.grammar text (offset + n) (found ++ token_at symbol offset (offset + n) ∷ [])) length_is
+              (scanned_token old.grammar text offset found scanning.scanned piece rest winner longest wins symbol own taken.0))
+              (subst (λ n. IsAskedTo old.grammar text new.scans.keys (room_after (found ++ token ∷ [])) (drop (offset + n) text)) length_is
+              (asked_token old.grammar text offset found now.scans.keys new.scans.keys scanning.asked asks.kept met_here piece rest winner longest wins symbol token own taken.0 past)))
 
           pub scan_more : (more : List Token) → IsTaken kind offset (offset + size) found more → IsScanning old new others kinds rows text (offset + size) more before after
           scan_more more taken = taken_kind kind refl more taken

@@ -7,17 +7,15 @@ use Rattle.std.proofs.lemmas.Bool.{cases_lt}
 use Rattle.std.proofs.lemmas.List.{get_or-replicate, length-replicate, take_all}
 use Rattle.std.proofs.lemmas.List.Elements.{Contains-push_cases}
 use Rattle.std.proofs.lemmas.Option.{slice_get_within, get_or_from_slice_get, slice_get-get_or, slice_get_read, same_Some}
-use Rattle.edit_log.specs.declared.definitions.DefId.{DefId}
 use Rattle.edit_log.specs.declared.definitions.DefKind.{DefKind}
 use Rattle.edit_log.specs.History.{Grammar}
-use Rattle.edit_log.proofs.PlainLists.{contains_at}
 use Rattle.edit_log.proofs.Texts.{slice_get-append}
 use Rattle.forest.proofs.Ascending.{contains_cases}
 use Rattle.isg_states.specs.declared.mark.Mark.{Mark}
 use Rattle.isg_states.specs.declared.scan_key.ScanKey.{ScanKey}
 use Rattle.isg_states.specs.declared.scan_key.ScanKey.TheVariants.{Start, Set}
 use Rattle.isg_states.specs.Expansion.{Range, AreMarks, LeadsTo}
-use Rattle.isg_scan.specs.States.{LeadsToSet, IsAccepted, TellsEntry, IsTable, AreStates, Knows, KnowsNothingYet, KeepsNumbers, LeadsToState, IsFilled, IsLedRange, IsLed}
+use Rattle.isg_scan.specs.States.{IsAccepted, TellsEntry, IsTable, AreStates, Knows, KnowsNothingYet, KeepsNumbers, LeadsToState, IsFilled, IsLedRange, IsLed}
 
 -- ---- lists
 
@@ -49,7 +47,7 @@ untold : (grammar : Grammar) (keys asked : List ScanKey) (key : ScanKey) (byte e
 untold grammar keys asked key byte entry none = record {
   nowhere = λ is. absurd (omega (arith, none, is));
   leads = λ number is. absurd (omega (arith, none, is));
-  known = λ some. absurd (omega (arith, none, some))
+  known = λ some. absurd (omega (arith, none, some));
 }
 
 -- an entry tells the same where more states are known, and more were asked for
@@ -58,7 +56,7 @@ pub told_more : (grammar : Grammar) (keys others asked more : List ScanKey) (key
 told_more grammar keys others asked more key byte entry keeps grows tells = record {
   nowhere = tells.nowhere;
   leads = λ number is. (let to = tells.leads number is in (to.0, keeps number (Set to.0) to.1, to.2));
-  known = λ some. grows key (tells.known some)
+  known = λ some. grows key (tells.known some);
 }
 
 -- ---- tables
@@ -67,7 +65,7 @@ told_more grammar keys others asked more key byte entry keeps grows tells = reco
 pub table_asked : (grammar : Grammar) (keys asked more : List ScanKey) (table : List ℕ) → ((k : ScanKey) → Contains asked k → Contains more k) → IsTable grammar keys asked table → IsTable grammar keys more table
 table_asked grammar keys asked more table grows is = record {
   size = is.size;
-  tells = λ number byte entry key at small there. told_more grammar keys keys asked more key byte entry (λ n k here. here) grows (is.tells number byte entry key at small there)
+  tells = λ number byte entry key at small there. told_more grammar keys keys asked more key byte entry (λ n k here. here) grows (is.tells number byte entry key at small there);
 }
 
 -- a row more, of a state of which nothing is known
@@ -81,7 +79,7 @@ table_row grammar keys asked key table is = record {
       | inr last ↦ absurd (omega (arith, slice_get_within table (256 * number + byte) entry front, last.0, is.size))
     ]
     | inr behind ↦ untold grammar (keys ++ key ∷ []) asked other byte entry (slice_get_same 256 behind.0 0 entry behind.2)
-  ]
+  ];
 }
 
 pub table_filled : (grammar : Grammar) (keys asked : List ScanKey) (old new : List ℕ) (state low high entry : ℕ) (key : ScanKey) → IsTable grammar keys asked old → slice_get keys state ≡ Some key → high < 256
@@ -104,7 +102,7 @@ table_filled grammar keys asked old new state low high entry key is own small fi
         ]
       ]
     ]
-  ]
+  ];
 }
 
 -- ---- states
@@ -124,7 +122,7 @@ state_more grammar keys accepted key kind are marks accepts = record {
       | inl own ↦ absurd (omega (arith, slice_get_within accepted number its own, last.0, are.size))
       | inr last' ↦ subst (λ k. IsAccepted grammar k its) last.1 (subst (IsAccepted grammar key) last'.1 accepts)
     ]
-  ]
+  ];
 }
 
 -- the start alone
@@ -138,12 +136,12 @@ knows_start grammar asked = record {
         let first : number ≡ 0 = omega (arith, slice_get_within (Start ∷ []) number key at) in
         let key_is : Start ≡ key = same_Some Start key (subst (λ n. slice_get (Start ∷ []) n ≡ Some key) first at) in
         let kind_is : None ≡ kind = same_Some None kind (subst (λ n. slice_get (None ∷ []) n ≡ Some kind) first there) in
-        subst (λ k. IsAccepted grammar k kind) key_is (subst (IsAccepted grammar Start) kind_is (λ definition ends. ends))
+        subst (λ k. IsAccepted grammar k kind) key_is (subst (IsAccepted grammar Start) kind_is (λ definition ends. ends));
   };
   entries = record {
     size = length-replicate {A = ℕ} 256 0;
-    tells = λ number byte entry key at small there. untold grammar (Start ∷ []) asked key byte entry (slice_get_same 256 (256 * number + byte) 0 entry there)
-  }
+    tells = λ number byte entry key at small there. untold grammar (Start ∷ []) asked key byte entry (slice_get_same 256 (256 * number + byte) 0 entry there);
+  };
 }
 
 -- ---- places
@@ -181,11 +179,11 @@ module _ (grammar : Grammar) (keys asked more : List ScanKey) (accepted : List (
   learned_none knows small nowhere filled = record {
     states = knows.states;
     entries = table_filled grammar keys more old new state byte byte 1 key (table_asked grammar keys asked more old grows knows.entries) own small filled
-      (λ other since upto. subst (λ b. TellsEntry grammar keys more key b 1) (omega (arith, since, upto)) (record {
-        nowhere = λ is. nowhere;
-        leads = λ number is. absurd (omega (arith, is));
-        known = λ some. known
-      }))
+        (λ other since upto. subst (λ b. TellsEntry grammar keys more key b 1) (omega (arith, since, upto)) (record {
+          nowhere = λ is. nowhere;
+          leads = λ number is. absurd (omega (arith, is));
+          known = λ some. known;
+        }));
   }
 
   -- the bytes of a range lead to a state
@@ -197,13 +195,13 @@ module _ (grammar : Grammar) (keys asked more : List ScanKey) (accepted : List (
       record {
         states = after.states;
         entries = table_filled grammar others more rows new state range.0 range.1 entry key after.entries (keeps state key own) led.bytes filled
-          (λ other since upto. record {
-            nowhere = λ one. absurd (omega (arith, one, to.1));
-            leads = λ number two.
-                let same : to.0 ≡ number = omega (arith, two, to.1) in
-                (led.marks, subst (λ n. slice_get others n ≡ Some (Set led.marks)) same (to.2 ∙ ap Some led.is), led.leads other since upto);
-            known = λ some. known
-          })
+            (λ other since upto. record {
+              nowhere = λ one. absurd (omega (arith, one, to.1));
+              leads = λ number two.
+                  let same : to.0 ≡ number = omega (arith, two, to.1) in
+                  (led.marks, subst (λ n. slice_get others n ≡ Some (Set led.marks)) same (to.2 ∙ ap Some led.is), led.leads other since upto);
+              known = λ some. known;
+            });
       }
 
 pub led_some : (grammar : Grammar) (key : ScanKey) (byte : ℕ) (led : Option Range) (range : Range) → IsLed grammar key byte led → led ≡ Some range → IsLedRange grammar key byte range

@@ -1,6 +1,5 @@
 -- The state after a part of a text is the set of positions after it.
-use Rattle.std.proofs.Common.{◌≡◌, inl, inr, ◌⊎◌, ◌↔◌, ℕ, suc, ◌+◌, ◌<◌, ◌≤◌, List, [], ◌∷◌, ◌++◌, length, take, drop, Option, Some, None, Contains, refl, sym, ap, ◌∙◌, subst, arith, append_assoc, append-nil, length-append}
-use Rattle.std.specs.List.{AllByRecursion}
+use Rattle.std.proofs.Common.{◌≡◌, ◌↔◌, ℕ, ◌<◌, List, [], ◌∷◌, ◌++◌, length, take, drop, Some, None, refl, sym, ap, subst, arith, append_assoc, append-nil, length-append}
 use Rattle.std.proofs.lemmas.List.{take-append-drop}
 use Rattle.forest.proofs.Ascending.{contains_here}
 use Rattle.edit_log.specs.declared.definitions.DefId.{DefId}
@@ -11,16 +10,13 @@ use Rattle.edit_log.specs.Tokens.{IsMatched, IsWinner}
 use Rattle.isg_states.specs.declared.mark.Mark.{Mark}
 use Rattle.isg_states.specs.declared.scan_key.ScanKey.{ScanKey}
 use Rattle.isg_states.specs.declared.scan_key.ScanKey.TheVariants.{Start, Set}
-use Rattle.isg_states.specs.Marks.{ListsMarks}
-use Rattle.isg_states.specs.Patterns.{IsLast}
 use Rattle.isg_states.specs.After.{IsAfter, AreBytes}
 use Rattle.isg_states.specs.Expansion.{LeadsTo}
-use Rattle.isg_states.specs.Winners.{Ends, Accepts}
-use Rattle.isg_states.proofs.PositionsAfter.{from_first, to_first, from_longer, to_longer, from_match, to_match, from_accepts}
+use Rattle.isg_states.proofs.PositionsAfter.{from_first, to_first, from_longer, to_longer, from_match, from_accepts}
 use Rattle.isg_states.proofs.MarkLists.{relist, list_none, contains_none}
 use Rattle.isg_states.proofs.OneExpansion.{one_list}
 use Rattle.isg_scan.specs.States.{LeadsToSet, IsAccepted}
-use Rattle.isg_scan.specs.Walks.{IsStateAfter, IsPiece}
+use Rattle.isg_scan.specs.Walks.{IsStateAfter}
 
 -- ---- bytes
 
@@ -36,18 +32,18 @@ taken_bytes size text all = first_bytes (take size text) (drop size text) (subst
 -- where the byte leads from the state are the positions after the part with the byte
 pub leads_after : (grammar : Grammar) (part : List ℕ) (key : ScanKey) (byte : ℕ) (mark : Mark) → IsStateAfter grammar part key → LeadsTo grammar key byte mark ↔ IsAfter grammar (part ++ byte ∷ []) mark
 leads_after grammar part Start byte mark none = (
-    λ leads. subst (λ p. IsAfter grammar (p ++ byte ∷ []) mark) (sym none) (from_first grammar byte mark leads),
-    λ after. to_first grammar byte mark (subst (λ p. IsAfter grammar (p ++ byte ∷ []) mark) none after),
-  )
+  λ leads. subst (λ p. IsAfter grammar (p ++ byte ∷ []) mark) (sym none) (from_first grammar byte mark leads),
+  λ after. to_first grammar byte mark (subst (λ p. IsAfter grammar (p ++ byte ∷ []) mark) none after),
+)
 leads_after grammar part (Set marks) byte mark is = (from_longer grammar part marks is.1 byte mark, to_longer grammar part marks is.0 is.1 byte mark)
 
 pub next_state : (grammar : Grammar) (part : List ℕ) (key : ScanKey) (byte : ℕ) (marks : List Mark) → IsStateAfter grammar part key → LeadsToSet grammar key byte marks
     → IsStateAfter grammar (part ++ byte ∷ []) (Set marks)
 next_state grammar part key byte marks is leads = (
-    omega (arith, length-append part (byte ∷ [])),
-    relist leads.marks_are (λ m. (leads_after grammar part key byte m is).0) (λ m. (leads_after grammar part key byte m is).1),
-    leads.some,
-  )
+  omega (arith, length-append part (byte ∷ [])),
+  relist leads.marks_are (λ m. (leads_after grammar part key byte m is).0) (λ m. (leads_after grammar part key byte m is).1),
+  leads.some,
+)
 
 -- a part has one state
 pub one_state : (grammar : Grammar) (part : List ℕ) (key other : ScanKey) → IsStateAfter grammar part key → IsStateAfter grammar part other → key ≡ other
@@ -72,7 +68,7 @@ pub dead_more : (grammar : Grammar) (part more : List ℕ) → 0 < length part �
 dead_more grammar part [] some dead = λ mark after. dead mark (subst (λ p. IsAfter grammar p mark) (append-nil part) after)
 dead_more grammar part (byte ∷ more) some dead = λ mark after.
     dead_more grammar (part ++ byte ∷ []) more (omega (arith, length-append part (byte ∷ []))) (dead_byte grammar part byte some dead) mark
-      (subst (λ p. IsAfter grammar p mark) (sym (append_assoc part (byte ∷ []) more)) after)
+    (subst (λ p. IsAfter grammar p mark) (sym (append_assoc part (byte ∷ []) more)) after)
 
 pub dead_unmatched : (grammar : Grammar) (part : List ℕ) → AreBytes part → IsDead grammar part → IsMatched grammar part → ⊥
 dead_unmatched grammar part small dead matched =

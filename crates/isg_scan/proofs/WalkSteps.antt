@@ -1,8 +1,8 @@
 -- Reading a text byte by byte from where a piece begins.
-use Rattle.std.proofs.Common.{◌≡◌, inl, inr, ◌⊎◌, ℕ, suc, ◌+◌, ◌-◌, ◌<◌, ◌≤◌, List, [], ◌∷◌, ◌++◌, length, take, drop, get_or, Option, Some, None, slice_get, Contains, refl, sym, ap, ◌∙◌, subst, arith, append_assoc, length-append, length-take, length-drop}
+use Rattle.std.proofs.Common.{◌≡◌, inl, inr, ℕ, ◌+◌, ◌-◌, ◌<◌, ◌≤◌, List, [], ◌∷◌, ◌++◌, length, take, drop, Option, Some, None, slice_get, Contains, refl, sym, ap, ◌∙◌, subst, arith, length-append, length-drop}
 use Rattle.std.proofs.lemmas.Bool.{cases_lt}
 use Rattle.std.proofs.lemmas.List.{take-append-drop, take_more, length-take-le}
-use Rattle.std.proofs.Math.Seq.{take-append_seam, take-append-add, take-length}
+use Rattle.std.proofs.Math.Seq.{take-append_seam, take-append-add}
 use Rattle.std.proofs.lemmas.Option.{slice_get_within, get_or_from_slice_get}
 use Rattle.edit_log.specs.declared.definitions.DefId.{DefId}
 use Rattle.edit_log.specs.declared.definitions.DefKind.{DefKind}
@@ -16,7 +16,7 @@ use Rattle.isg_states.specs.After.{IsAfter, AreBytes}
 use Rattle.isg_states.specs.Expansion.{LeadsTo}
 use Rattle.isg_scan.specs.Reach.{Meets}
 use Rattle.isg_scan.specs.States.{LeadsToSet, IsAccepted, KeepsNumbers}
-use Rattle.isg_scan.specs.Walks.{IsStateAfter, IsPiece, NoneMatched, IsBest, best_with, IsWalk, IsWalked}
+use Rattle.isg_scan.specs.Walks.{IsStateAfter, NoneMatched, IsBest, best_with, IsWalk, IsWalked}
 use Rattle.isg_scan.proofs.StatesAfter.{taken_bytes, leads_after, next_state, one_state, IsDead, dead_more, dead_unmatched, dead_state, accepted_none, accepted_some}
 
 -- ---- parts of a text
@@ -30,7 +30,7 @@ take_longer text shorter longer upto within =
     let front : List ℕ = take shorter text in
     let size : length front ≡ shorter = length-take-le shorter text (omega (arith, upto, within)) in
     let whole : take longer (front ++ drop shorter text) ≡ front ++ take (longer - shorter) (drop shorter text) =
-        ap (λ n. take n (front ++ drop shorter text)) (omega (arith, size, upto)) ∙ take-append-add front (drop shorter text) (longer - shorter) in
+    ap (λ n. take n (front ++ drop shorter text)) (omega (arith, size, upto)) ∙ take-append-add front (drop shorter text) (longer - shorter) in
     (take (longer - shorter) (drop shorter text), ap (take longer) (sym (take-append-drop shorter text)) ∙ whole)
 
 -- the first part of two is so many bytes
@@ -56,10 +56,10 @@ best_same grammar text at (Some piece) is next = (omega (arith, is.0), is.1, non
 best_longer : (grammar : Grammar) (text : List ℕ) (at : ℕ) (kind : DefKind) (winner : DefId) → at + 1 ≤ length text → IsMatched grammar (take (at + 1) text) → IsWinner grammar (take (at + 1) text) winner
     → kind_of grammar winner ≡ Some kind → IsBest grammar text (at + 1) (Some (at + 1, kind))
 best_longer grammar text at kind winner within matched wins is = (
-    omega arith,
-    record { within = within; matched = matched; winner = winner; wins = wins; kind_is = is },
-    λ size above upto. absurd (omega (arith, above, upto)),
-  )
+  omega arith,
+  record { within = within; matched = matched; winner = winner; wins = wins; kind_is = is },
+  λ size above upto. absurd (omega (arith, above, upto)),
+)
 
 -- where all longer parts are unmatched, it is the best of the whole text
 none_all : (grammar : Grammar) (text : List ℕ) (above upto : ℕ) → NoneMatched grammar text above upto → NoneMatched grammar text upto (length text) → NoneMatched grammar text above (length text)
@@ -83,7 +83,7 @@ module _ (grammar : Grammar) (asked keys : List ScanKey) (text : List ℕ) where
     number = start;
     after = refl;
     best_is = none_yet grammar text;
-    left_asked = λ size other less. absurd (omega (arith, less))
+    left_asked = λ size other less. absurd (omega (arith, less));
   }
 
   module _ (small : AreBytes text) (at state : ℕ) (best : Option (ℕ × DefKind)) (walk : IsWalk grammar asked keys text at state best) where
@@ -108,14 +108,14 @@ module _ (grammar : Grammar) (asked keys : List ScanKey) (text : List ℕ) where
     walk_more byte number marks accepted here there leads known is =
         let within : at < length text = slice_get_within text at byte here in
         let next : IsStateAfter grammar (take (at + 1) text) (Set marks) =
-            subst (λ part. IsStateAfter grammar part (Set marks)) (sym (take_snoc text at byte here)) (next_state grammar (take at text) walk.key byte marks walk.after leads) in
+        subst (λ part. IsStateAfter grammar part (Set marks)) (sym (take_snoc text at byte here)) (next_state grammar (take at text) walk.key byte marks walk.after leads) in
         record {
           within = omega (arith, within);
           key = Set marks;
           number = there;
           after = next;
           best_is = accepted_best marks accepted (omega (arith, within)) next is;
-          left_asked = left_more known
+          left_asked = left_more known;
         }
 
     -- the states met are those that were left, where nothing more is met
@@ -126,15 +126,15 @@ module _ (grammar : Grammar) (asked keys : List ScanKey) (text : List ℕ) where
     met_from_left last left short some (Set marks) meets =
         let state : IsStateAfter grammar meets.part (Set marks) = (meets.nonempty, meets.positions, meets.some) in
         left (length meets.part) (Set marks) (short meets.part meets.rest marks meets.begins meets.follows state)
-          (subst (λ part. IsStateAfter grammar part (Set marks)) (sym (take_part text meets.part meets.rest meets.begins)) state)
+        (subst (λ part. IsStateAfter grammar part (Set marks)) (sym (take_part text meets.part meets.rest meets.begins)) state)
 
     -- the text has ended
     pub walk_ends : at ≡ length text → IsWalked grammar asked text best
     walk_ends ended = record {
       best_is = subst (λ n. IsBest grammar text n best) ended walk.best_is;
       met_asked = met_from_left at walk.left_asked
-        (λ part rest marks begins follows state. omega (arith, ended, ap length begins, length-append part rest, follows))
-        (λ some. omega (arith, ended, some))
+          (λ part rest marks begins follows state. omega (arith, ended, ap length begins, length-append part rest, follows))
+          (λ some. omega (arith, ended, some));
     }
 
     -- no position is after a part with the byte
@@ -152,16 +152,16 @@ module _ (grammar : Grammar) (asked keys : List ScanKey) (text : List ℕ) where
     pub walk_stops : (byte : ℕ) → slice_get text at ≡ Some byte → ((mark : Mark) → LeadsTo grammar walk.key byte mark → ⊥) → Contains asked walk.key → IsWalked grammar asked text best
     walk_stops byte here nowhere known = record {
       best_is = best_all grammar text at best walk.within walk.best_is
-        (λ size above upto. dead_unmatched grammar (take size text) (taken_bytes size text small) (dead_longer byte here nowhere size above upto));
+          (λ size above upto. dead_unmatched grammar (take size text) (taken_bytes size text small) (dead_longer byte here nowhere size above upto));
       met_asked = met_from_left (at + 1) (left_more known)
-        (λ part rest marks begins follows state. elim (cases_lt at (length part)) [
-          | inl past ↦
-              let size : length part ≤ length text = omega (arith, ap length begins, length-append part rest) in
-              let dead : IsDead grammar part = subst (IsDead grammar) (take_part text part rest begins) (dead_longer byte here nowhere (length part) past size) in
-              absurd (dead_state grammar part marks state dead)
-          | inr within ↦ omega (arith, within)
-        ])
-        (λ some. omega arith)
+          (λ part rest marks begins follows state. elim (cases_lt at (length part)) [
+            | inl past ↦
+                let size : length part ≤ length text = omega (arith, ap length begins, length-append part rest) in
+                let dead : IsDead grammar part = subst (IsDead grammar) (take_part text part rest begins) (dead_longer byte here nowhere (length part) past size) in
+                absurd (dead_state grammar part marks state dead)
+            | inr within ↦ omega (arith, within)
+          ])
+          (λ some. omega arith);
     }
 
 -- more was asked for, and more states have numbers
@@ -173,7 +173,7 @@ walk_asked grammar asked more keys others text at state best grows keeps walk = 
   number = keeps state walk.key walk.number;
   after = walk.after;
   best_is = walk.best_is;
-  left_asked = λ size other less is. grows other (walk.left_asked size other less is)
+  left_asked = λ size other less is. grows other (walk.left_asked size other less is);
 }
 
 -- the state is met where a byte follows
@@ -186,5 +186,5 @@ state_met grammar text at (Set marks) within after = record {
   nonempty = after.0;
   follows = omega (arith, length-drop at text, within);
   positions = after.1;
-  some = after.2
+  some = after.2;
 }

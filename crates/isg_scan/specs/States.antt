@@ -1,5 +1,5 @@
 -- What a scan knows of the states that it has met, by their numbers.
-use Rattle.std.specs.Prelude.{◌≡◌, ℕ, ◌+◌, ◌*◌, ◌<◌, ◌≤◌, List, [], length, Option, Some, None, MatchOption, slice_get, Contains}
+use Rattle.std.specs.Prelude.{◌≡◌, ℕ, ◌+◌, ◌*◌, ◌<◌, ◌≤◌, List, length, Option, Some, MatchOption, slice_get, Contains}
 use Rattle.edit_log.specs.declared.definitions.DefId.{DefId}
 use Rattle.edit_log.specs.declared.definitions.DefKind.{DefKind}
 use Rattle.edit_log.specs.History.{Grammar}

@@ -1,11 +1,10 @@
 -- How far a text was read from where a piece begins.
-use Rattle.std.specs.Prelude.{◌≡◌, ℕ, ◌<◌, ◌≤◌, List, [], ◌++◌, length, take, drop, Option, Some, None, MatchOption, slice_get, Contains}
+use Rattle.std.specs.Prelude.{◌≡◌, ℕ, ◌<◌, ◌≤◌, List, [], length, take, Option, Some, None, MatchOption, slice_get, Contains}
 use Rattle.edit_log.specs.declared.definitions.DefId.{DefId}
 use Rattle.edit_log.specs.declared.definitions.DefKind.{DefKind}
 use Rattle.edit_log.specs.History.{Grammar}
 use Rattle.edit_log.specs.Live.{kind_of}
-use Rattle.edit_log.specs.Tokens.{IsMatched, IsWinner, IsLongest}
-use Rattle.isg_states.specs.declared.mark.Mark.{Mark}
+use Rattle.edit_log.specs.Tokens.{IsMatched, IsWinner}
 use Rattle.isg_states.specs.declared.scan_key.ScanKey.{ScanKey}
 use Rattle.isg_states.specs.declared.scan_key.ScanKey.TheVariants.{Start, Set}
 use Rattle.isg_states.specs.Marks.{ListsMarks}

@@ -1,4 +1,4 @@
-use Rattle.std.proofs.Common.{◌≡◌, take, Contains}
+use Rattle.std.proofs.Common.{take, Contains}
 use Rattle.isg_states.specs.Expansion.{Range}
 use Rattle.isg_scan.specs.States.{HasByte}
 use Rattle.isg_scan.proofs.leading.range_of.Given as goal

@@ -1,4 +1,4 @@
-use Rattle.std.proofs.Common.{◌≡◌, ◌-◌, take, ◌∙◌, ◌∷◌, ◌++◌, [], None, replicate, refl, sym, ap, subst}
+use Rattle.std.proofs.Common.{◌≡◌, ◌-◌, take, ◌∙◌, ◌∷◌, ◌++◌, [], None, replicate, sym, ap, subst}
 use Rattle.std.specs.Prelude.{vec_len}
 use Rattle.indexmap.specs.IndexSet.{insert_key}
 use Rattle.isg_states.specs.declared.scan_key.ScanKey.TheVariants.{Start}
@@ -13,4 +13,4 @@ returns c =
     let accepted : c.push.new.self.items ≡ None ∷ [] = c.in_ok-push.ensures.items ∙ ap (λ list. list ++ None ∷ []) c.new-accepted.ensures.items in
     let table : c.resize.new.self.items ≡ replicate 256 0 = c.in_ok-resize.ensures.items ∙ ap (λ list. take 256 list ++ replicate (256 - vec_len c.new-table.result) 0) c.new-table.ensures.items ∙ ap (λ n. replicate (256 - n) 0) c.new-table.ensures.len in
     subst (λ k. KnowsNothingYet k c.push.new.self.items c.resize.new.self.items) (sym keys) (subst (λ a. KnowsNothingYet (Start ∷ []) a c.resize.new.self.items) (sym accepted)
-      (subst (KnowsNothingYet (Start ∷ []) (None ∷ [])) (sym table) knows_start))
+    (subst (KnowsNothingYet (Start ∷ []) (None ∷ [])) (sym table) knows_start))
