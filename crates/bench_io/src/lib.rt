@@ -17,6 +17,3 @@ pub use mem_source::MemSource;
 pub use plain::{PlainSink, PlainSource};
 pub use sink::Sink;
 pub use source::Source;
-
-#[cfg(test)]
-mod tests;

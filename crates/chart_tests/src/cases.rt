@@ -1,8 +1,14 @@
-//! Grammars and texts, written as short rows.
+//! Rules and texts, written as short rows.
 
 use forest::{Rule, RuleId, RuleList, Rules, SymbolId, Symbols};
 use std::alloc::{AllocError, Global};
-use std::test::Fail;
+
+/// Rules, and the kinds of a text's tokens.
+#[derive(Drop)]
+pub(crate) struct Case {
+    pub(crate) rules: Rules,
+    pub(crate) tokens: Vec<SymbolId>,
+}
 
 /// The number that a digit stands for.
 fn digit(byte: u8) -> u32 {
@@ -10,7 +16,7 @@ fn digit(byte: u8) -> u32 {
 }
 
 /// The symbols whose numbers are these digits.
-pub fn symbols_of(alloc: Global, digits: &[u8]) -> Result<Vec<SymbolId>, AllocError> {
+fn symbols_of(alloc: Global, digits: &[u8]) -> Result<Vec<SymbolId>, AllocError> {
     let mut symbols = Vec::new(alloc);
     for byte in digits {
         symbols.push(SymbolId(digit(*byte)))?;
@@ -19,26 +25,48 @@ pub fn symbols_of(alloc: Global, digits: &[u8]) -> Result<Vec<SymbolId>, AllocEr
 }
 
 /// A rule as it is written: its number, its left side and its right side, as `2:1=121`.
-fn rule_of(alloc: Global, written: &str) -> Result<Rule, Fail> {
+fn rule_of(alloc: Global, written: &str) -> Result<Option<Rule>, AllocError> {
     let [number, _, left, _, right @ ..] = written.as_bytes() else {
-        return Err(Fail::from("no rule"));
+        return Ok(None);
     };
-    Ok(Rule {
+    Ok(Some(Rule {
         number: RuleId(digit(*number)),
         left: SymbolId(digit(*left)),
         right: Symbols::from_vec(symbols_of(alloc, right)?),
-    })
+    }))
 }
 
-/// The rules, which a blank parts.
-pub fn rules_of(alloc: Global, written: &str) -> Result<Rules, Fail> {
+/// The rules, which blanks part, if each is one.
+fn list_of(alloc: Global, written: &str) -> Result<Option<RuleList>, AllocError> {
     let mut list = Vec::new(alloc);
     for word in written.split_whitespace() {
-        list.push(rule_of(alloc, word)?)?;
+        match rule_of(alloc, word)? {
+            Some(rule) => list.push(rule)?,
+            None => return Ok(None),
+        }
     }
-    let rules = RuleList::from_vec(list);
-    if !rules.is_ascending() {
-        return Err(Fail::from("rules do not ascend"));
+    Ok(Some(RuleList::from_vec(list)))
+}
+
+/// The rules, if their numbers ascend.
+fn ascending(list: RuleList) -> Option<Rules> {
+    if !list.is_ascending() {
+        return None;
     }
-    Ok(Rules { rules })
+    Some(Rules { rules: list })
+}
+
+/// The case of a row: rules whose numbers ascend, a bar, and a digit for each token.
+pub(crate) fn case_of(alloc: Global, row: &str) -> Result<Option<Case>, AllocError> {
+    let Some((rules, tokens)) = row.split_once('/') else {
+        return Ok(None);
+    };
+    let Some(list) = list_of(alloc, rules)? else {
+        return Ok(None);
+    };
+    let Some(rules) = ascending(list) else {
+        return Ok(None);
+    };
+    let tokens = symbols_of(alloc, tokens.as_bytes())?;
+    Ok(Some(Case { rules, tokens }))
 }

@@ -6,11 +6,11 @@ use forest::{Rule, SymbolId};
 use std::alloc::{AllocError, Global};
 
 /// The longest text that is searched.
-pub const LONGEST: u32 = 9;
+const LONGEST: u32 = 9;
 
 /// A span, in the order of a forest's nodes.
 #[derive(Clone, Copy, PartialEq, Eq, PartialOrd, Ord)]
-pub struct Span {
+struct Span {
     from: u32,
     to: u32,
     symbol: u32,
@@ -254,7 +254,7 @@ fn reached_spans(
 }
 
 /// What is told of the forest of the tokens: each node as its symbol, its ends and its splits.
-pub fn told_forest(
+pub(crate) fn found_by_search(
     alloc: Global,
     rules: &[Rule],
     tokens: &[SymbolId],

@@ -1,8 +1,11 @@
 -- A byte behind a text, in its words.
-use Rattle.std.proofs.Common.{◌≡◌, ℕ, ◌+◌, ◌*◌, ◌/◌, ◌%◌, ◌^◌, ◌<◌, ◌≤◌, List, [], ◌∷◌, ◌++◌, length, get_or, set, drop, sym, ap, ◌∙◌, arith}
+use Rattle.std.proofs.Common.{◌≡◌, ℕ, ◌+◌, ◌*◌, ◌/◌, ◌%◌, ◌^◌, ◌<◌, ◌≤◌, List, [], ◌∷◌, ◌++◌, length, get_or, set, drop, nat_lt, if◌then◌else◌, sym, ap, ◌∙◌, append-nil, append_assoc, arith}
+use Rattle.std.specs.List.{fold}
 use Rattle.std.specs.Prelude.{bit_or}
 use Rattle.std.proofs.Math.Numerals.{one-add}
 use Rattle.std.proofs.lemmas.List.{length_push}
+use Rattle.std.proofs.lemmas.Bool.{lt-ltb}
+use Rattle.grammar_text.specs.declared.limits.TheConstants.{EDIT_LIMIT}
 use Rattle.edit_entry.specs.Entries.{words_of, words_for, bytes_of, length_in, text_in}
 use Rattle.edit_entry.proofs.EntryBytes.{Bytes, packed_found, put_byte, take_bytes, bytes_of_bytes}
 
@@ -56,3 +59,22 @@ pub pushed_closes : (words text : List ℕ) (byte : ℕ) → words ≡ words_for
 pushed_closes words text byte packed of short is =
     let grown : length (text ++ byte ∷ []) ≡ length text + 1 = length_push text byte in
     closes (pushed words byte) (text ++ byte ∷ []) (ap (λ ws. pushed ws byte) packed ∙ pushed-go text byte of short is) (joined_bytes text byte of is) (omega arith)
+
+-- ---- a whole text
+
+-- the text with one more byte, if there is room for it
+abbrev pub with_room : List ℕ → ℕ → List ℕ
+with_room text byte = if nat_lt (length text) EDIT_LIMIT then text ++ byte ∷ [] else text
+
+room_taken : (text : List ℕ) (byte : ℕ) → length text < EDIT_LIMIT → with_room text byte ≡ text ++ byte ∷ []
+room_taken text byte room = ap (λ fits. if fits then text ++ byte ∷ [] else text) (lt-ltb (length text) EDIT_LIMIT room)
+
+more_packed : (text more : List ℕ) → length text + length more ≤ EDIT_LIMIT → fold with_room text more ≡ text ++ more
+more_packed text [] fits = sym (append-nil text)
+more_packed text (byte ∷ more) fits =
+    let grown : length (text ++ byte ∷ []) ≡ length text + 1 = length_push text byte in
+    ap (λ t. fold with_room t more) (room_taken text byte (omega arith)) ∙ more_packed (text ++ byte ∷ []) more (omega arith) ∙ append_assoc text (byte ∷ []) more
+
+-- a text that has room is packed whole
+pub all_packed : (text : List ℕ) → length text ≤ EDIT_LIMIT → fold with_room [] text ≡ text
+all_packed text fits = more_packed [] text (omega arith)

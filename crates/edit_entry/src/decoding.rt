@@ -12,12 +12,9 @@ ghost use Rattle.edit_entry.specs.BadEntries.{IsRefusedFor, Gives, HasCause};
 use crate::NoMemory;
 use crate::bad_entry::BadEntry;
 use crate::encoding::encode;
-use crate::entry::ENTRY_WORDS;
-use grammar_text::{EDIT_LIMIT, Edit, read_edit};
+use crate::entry::{ENTRY_WORDS, TEXT_LIMIT};
+use grammar_text::{Edit, read_edit};
 use std::alloc::{AllocError, Global};
-
-/// The most bytes that a text in an entry may have.
-const TEXT_LIMIT: u64 = EDIT_LIMIT as u64;
 
 /// The bytes of the words, the lowest of each word first.
 fn bytes_of(alloc: Global, words: &[u64]) -> Result<Vec<u8>, NoMemory>
@@ -39,7 +36,7 @@ fn text_in(alloc: Global, words: &[u64; 32]) -> Result<Vec<u8>, NoMemory>
     Ok(text)
 }
 
-pub(crate) fn is_line(bytes: &[u8]) -> bool
+fn is_line(bytes: &[u8]) -> bool
     ensures { result ≡ list_all (λ byte. not (byte == 10)) bytes.now }
 {
     bytes.iter().all(|byte| *byte != b'\n')

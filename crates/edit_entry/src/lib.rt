@@ -18,6 +18,3 @@ pub use laws::{entry_or_cause, one_entry};
 
 /// Memory ran out.
 pub type NoMemory = AllocError;
-
-#[cfg(test)]
-mod tests;

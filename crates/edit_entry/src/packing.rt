@@ -1,9 +1,12 @@
 //! Bytes into words.
 
-ghost use Rattle.std.specs.Prelude.{◌≡◌, ◌<◌, ◌≤◌, ◌+◌, ◌++◌, ◌∷◌, [], length};
+ghost use Rattle.std.specs.Prelude.{◌≡◌, ◌<◌, ◌++◌, ◌∷◌, [], length, nat_lt, if◌then◌else◌};
 ghost use Rattle.grammar_text.specs.declared.limits.TheConstants.{EDIT_LIMIT};
 ghost use Rattle.edit_entry.specs.Entries.{words_for};
 
+use crate::entry::TEXT_LIMIT;
+use grammar_text::Output;
+use std::convert::Infallible;
 use std::marker::Model;
 
 /// The words of a text that grows byte by byte. A contract sees the text.
@@ -30,7 +33,13 @@ impl Packer {
         Packer { words: [0; 32] }
     }
 
-    pub(crate) fn push(&mut self, byte: u8)
+    fn len(&self) -> u64
+        ensures { result ≡ length self.now }
+    {
+        self.words[0]
+    }
+
+    fn push(&mut self, byte: u8)
         requires { length self.old < EDIT_LIMIT }
         ensures { self.new ≡ self.old ++ byte ∷ [] }
     {
@@ -40,19 +49,24 @@ impl Packer {
         self.words[0] = len + 1;
     }
 
-    pub(crate) fn push_all(&mut self, bytes: &[u8])
-        requires { length self.old + length bytes.now ≤ EDIT_LIMIT }
-        ensures { self.new ≡ self.old ++ bytes.now }
-    {
-        for byte in bytes {
-            self.push(*byte);
-        }
-    }
-
     /// The words of the text.
     pub(crate) fn into_words(self) -> [u64; 32]
         ensures { result ≡ words_for self }
     {
         self.words
+    }
+}
+
+/// A byte for which the words have no room is left out.
+impl Output for Packer {
+    type Error = Infallible;
+
+    ghost after = { λ text byte. if nat_lt (length text) EDIT_LIMIT then text ++ byte ∷ [] else text };
+
+    fn put(&mut self, byte: u8) -> Result<(), Infallible> {
+        if self.len() < TEXT_LIMIT {
+            self.push(byte);
+        }
+        Ok(())
     }
 }

@@ -1,5 +1,6 @@
 -- The grammar after an edit.
-use Rattle.std.proofs.Common.{◌≡◌, ℕ, ◌+◌, ◌<◌, ◌≤◌, List, [], ◌∷◌, length, map, Bool, true, false, not, ◌==◌, filter, Some, None, refl, sym, ap, subst, ◌∙◌, arith, Contains}
+use Rattle.std.proofs.Common.{◌≡◌, ℕ, ◌+◌, ◌<◌, ◌≤◌, List, [], ◌∷◌, length, map, Bool, true, false, not, ◌==◌, filter, Some, None, refl, sym, ap, subst, ◌∙◌}
+use Rattle.std.proofs.Common.{arith, Contains}
 use Rattle.std.specs.List.{AllByRecursion}
 use Rattle.std.specs.List.Sorted.{IsStrictlySortedBy}
 use Rattle.std.specs.Prelude.{◌&&◌, Option}
@@ -22,12 +23,14 @@ use Rattle.edit_log.specs.History.{Definition, Grammar, empty_grammar, after, re
 use Rattle.edit_log.specs.Verdict.{IsAccepted, rule_found, definition_found, is_defined, is_left, is_taken}
 use Rattle.edit_log.specs.Facts.{IsWellFormed}
 use Rattle.edit_log.specs.Replicas.{adds, drops}
-use Rattle.edit_log.proofs.PlainLists.{none_any, each_contained, all_contained, all_also, filter_same, found, none_found, contains_map_from, distinct_map, distinct_places, sorted_keys}
+use Rattle.edit_log.proofs.PlainLists.{none_any, each_contained, all_contained, all_also, filter_same, found, none_found, contains_map_from, distinct_map}
+use Rattle.edit_log.proofs.PlainLists.{distinct_places, sorted_keys}
 use Rattle.edit_log.proofs.Places.{IsPlaced, ArePlaced, placed_from_get, with_symbols-grows, with_symbols-same, with_symbols-placed, with_symbols-distinct}
 use Rattle.edit_log.proofs.Texts.{symbol_at_get, text_of-numbered, numbers_within, named_number, old_name, name_at, texts-grow}
 use Rattle.edit_log.proofs.SoundEdits.{short_right, short_dropped}
 use Rattle.edit_log.proofs.Verdicts.{IsFree, free, when_none, map_none, rule_there, definition_there}
-use Rattle.edit_log.proofs.WellFormed.{next_with, IsNewDefinition, well_grown, well_with_rule, well_without_rules, well_with_definition, well_without_definitions}
+use Rattle.edit_log.proofs.WellFormed.{next_with, IsNewDefinition, well_grown, well_with_rule, well_without_rules, well_with_definition}
+use Rattle.edit_log.proofs.WellFormed.{well_without_definitions}
 
 pub well_formed_empty : IsWellFormed empty_grammar
 unfolding IsStrictlySortedBy
@@ -64,7 +67,8 @@ called g skip name live is =
     let both = and_parts (has_name g.symbols name live) (is_of_kind skip live) at.passes in
     (at.there, both.0, both.1)
 
-parts_placed : (symbols : List Symbol) (right : List SymbolId) → AllByRecursion (λ part. part.0 < length symbols) right → ArePlaced symbols (map (symbol_at symbols) right)
+parts_placed : (symbols : List Symbol) (right : List SymbolId) → AllByRecursion (λ part. part.0 < length symbols) right
+    → ArePlaced symbols (map (symbol_at symbols) right)
 parts_placed symbols [] within = tt
 parts_placed symbols (part ∷ right) within =
     (placed_from_get symbols (symbol_at symbols part) part.0 (slice_get-get_or symbols part.0 (Named []) within.0), parts_placed symbols right within.1)
@@ -78,12 +82,16 @@ symbols_stay_rule g r well accepted =
     let is = written g r there.0 there.1 in
     let named = each_contained _ g.rules there.0 well.lefts is.0 in
     let right = each_contained _ g.rules there.0 well.rights is.0 in
-    let left : IsPlaced g.symbols (symbol_at g.symbols there.0.left) = rw (symbol_at_get g.symbols there.0.left (Named named.0) named.1) (placed_from_get g.symbols (Named named.0) there.0.left.0 named.1) in
-    let name : Named (text_of g.symbols there.0).left ≡ symbol_at g.symbols there.0.left = rw (symbol_at_get g.symbols there.0.left (Named named.0) named.1) refl in
-    let placed : ArePlaced g.symbols (Named (text_of g.symbols there.0).left ∷ (text_of g.symbols there.0).right) = (subst (λ (s : Symbol). IsPlaced g.symbols s) (sym name) left, parts_placed g.symbols there.0.right right.0) in
+    let left : IsPlaced g.symbols (symbol_at g.symbols there.0.left) = rw (symbol_at_get g.symbols there.0.left (Named named.0) named.1)
+        (placed_from_get g.symbols (Named named.0) there.0.left.0 named.1) in
+    let name : Named (text_of g.symbols there.0).left ≡ symbol_at g.symbols there.0.left =
+        rw (symbol_at_get g.symbols there.0.left (Named named.0) named.1) refl in
+    let placed : ArePlaced g.symbols (Named (text_of g.symbols there.0).left ∷ (text_of g.symbols there.0).right) =
+        (subst (λ (s : Symbol). IsPlaced g.symbols s) (sym name) left, parts_placed g.symbols there.0.right right.0) in
     with_symbols-same g.symbols (Named r.left ∷ r.right) (subst (λ (text : RuleText). ArePlaced g.symbols (Named text.left ∷ text.right)) is.1 placed)
 
-pub symbols_stay_definition : (g : Grammar) (skip : Bool) (name : List ℕ) → IsWellFormed g → IsAccepted g (drops skip name) → (after g (drops skip name)).symbols ≡ g.symbols
+pub symbols_stay_definition : (g : Grammar) (skip : Bool) (name : List ℕ) → IsWellFormed g → IsAccepted g (drops skip name)
+    → (after g (drops skip name)).symbols ≡ g.symbols
 unfolding after
 symbols_stay_definition g skip name well accepted =
     let free = free g (drops skip name) accepted.taken in
@@ -103,9 +111,11 @@ same_answers false true there back = back refl
 same_answers false false there back = refl
 
 -- the rule that is written so is the one with its number
-same_test : (g : Grammar) (r : RuleText) (live other : Rule) → IsWellFormed g → Contains g.rules live × (text_of g.symbols live ≡ r) → Contains g.rules other → reads g.symbols r other ≡ (other.number.0 == live.number.0)
+same_test : (g : Grammar) (r : RuleText) (live other : Rule) → IsWellFormed g → Contains g.rules live × (text_of g.symbols live ≡ r) → Contains g.rules other
+    → reads g.symbols r other ≡ (other.number.0 == live.number.0)
 same_test g r live other well at there =
-    let one : other.number.0 ≡ live.number.0 → other ≡ live = λ e. distinct_map (λ (r : Rule). r.number.0) g.rules other live (sorted_keys (λ (r : Rule). r.number.0) g.rules well.rule_order) there at.0 e in
+    let one : other.number.0 ≡ live.number.0 → other ≡ live = λ e. distinct_map (λ (r : Rule). r.number.0) g.rules other live
+        (sorted_keys (λ (r : Rule). r.number.0) g.rules well.rule_order) there at.0 e in
     same_answers (reads g.symbols r other) (other.number.0 == live.number.0)
     (λ e.
     let text : text_of g.symbols other ≡ r = (rule_eq-decides (text_of g.symbols other) r).0 e in
@@ -121,10 +131,12 @@ rules_dropped g r live well accepted is =
     let stay = symbols_stay_rule g r well accepted in
     let at = written g r live is in
     ap (λ (symbols : List Symbol). filter (λ other. not (reads symbols r other)) g.rules) stay
-    ∙ filter_same (λ other. not (reads g.symbols r other)) (λ other. not (other.number.0 == live.number.0)) g.rules (all_contained _ g.rules (λ other c. ap not (same_test g r live other well at c)))
+    ∙ filter_same (λ other. not (reads g.symbols r other)) (λ other. not (other.number.0 == live.number.0)) g.rules
+        (all_contained _ g.rules (λ other c. ap not (same_test g r live other well at c)))
 
 -- one definition at most has the name
-pub one_named : (g : Grammar) (name : List ℕ) (a b : Definition) → IsWellFormed g → Contains g.definitions a → Contains g.definitions b → has_name g.symbols name a ≡ true → has_name g.symbols name b ≡ true → a ≡ b
+pub one_named : (g : Grammar) (name : List ℕ) (a b : Definition) → IsWellFormed g → Contains g.definitions a → Contains g.definitions b
+    → has_name g.symbols name a ≡ true → has_name g.symbols name b ≡ true → a ≡ b
 one_named g name a b well left right a-is b-is =
     let place = name_at g.symbols name a.name (each_contained _ g.definitions a well.names left) a-is in
     let other = name_at g.symbols name b.name (each_contained _ g.definitions b well.names right) b-is in
@@ -133,9 +145,11 @@ one_named g name a b well left right a-is b-is =
 
 -- and one has the number
 pub one_numbered : (g : Grammar) (a b : Definition) → IsWellFormed g → Contains g.definitions a → Contains g.definitions b → a.number.0 ≡ b.number.0 → a ≡ b
-one_numbered g a b well left right same = distinct_map (λ (d : Definition). d.number.0) g.definitions a b (sorted_keys (λ (d : Definition). d.number.0) g.definitions well.definition_order) left right same
+one_numbered g a b well left right same = distinct_map (λ (d : Definition). d.number.0) g.definitions a b
+    (sorted_keys (λ (d : Definition). d.number.0) g.definitions well.definition_order) left right same
 
-same_definition : (g : Grammar) (skip : Bool) (name : List ℕ) (live other : Definition) → IsWellFormed g → definition_found g skip name ≡ Some live → Contains g.definitions other
+same_definition : (g : Grammar) (skip : Bool) (name : List ℕ) (live other : Definition) → IsWellFormed g → definition_found g skip name ≡ Some live
+    → Contains g.definitions other
     → is_named g.symbols skip name other ≡ (other.number.0 == live.number.0)
 same_definition g skip name live other well is there =
     let at = called g skip name live is in
@@ -148,7 +162,8 @@ same_definition g skip name live other well is there =
     let same : other ≡ live = one_numbered g other live well there at.0 (eqb-true other.number.0 live.number.0 e) in
     ap (is_named g.symbols skip name) same ∙ and_from (has_name g.symbols name live) (is_of_kind skip live) at.1 at.2)
 
-pub definitions_dropped : (g : Grammar) (skip : Bool) (name : List ℕ) (live : Definition) → IsWellFormed g → IsAccepted g (drops skip name) → definition_found g skip name ≡ Some live
+pub definitions_dropped : (g : Grammar) (skip : Bool) (name : List ℕ) (live : Definition) → IsWellFormed g → IsAccepted g (drops skip name)
+    → definition_found g skip name ≡ Some live
     → (after g (drops skip name)).definitions ≡ filter (λ other. not (other.number.0 == live.number.0)) g.definitions
 unfolding after
 definitions_dropped g true name live well accepted is =
@@ -170,7 +185,8 @@ growing : (g : Grammar) (edit : Edit) → IsWellFormed g → IsFree g edit → l
 growing g edit well free few =
     let grows = with_symbols-grows g.symbols (symbols_of edit) in
     let not_full : g.version ≡ LOG_LIMIT → ⊥ = eqb-false g.version LOG_LIMIT (when_none (g.version == LOG_LIMIT) _ free.fullness) in
-    well_grown g (with_symbols g.symbols (symbols_of edit)) well (omega (arith, well.version, not_full)) (record { more = grows.more; is = grows.is; few = omega (arith, grows.few) }) (with_symbols-distinct g.symbols (symbols_of edit) well.distinct)
+    well_grown g (with_symbols g.symbols (symbols_of edit)) well (omega (arith, well.version, not_full)) (record { more = grows.more; is = grows.is; few =
+        omega (arith, grows.few) }) (with_symbols-distinct g.symbols (symbols_of edit) well.distinct)
 
 rule_well : (g : Grammar) (r : RuleText) → IsWellFormed g → IsAccepted g (AddRule r) → IsWellFormed (after g (AddRule r))
 unfolding after
@@ -181,7 +197,8 @@ rule_well g r well accepted =
     let symbols = with_symbols g.symbols (symbols_of edit) in
     let grows = with_symbols-grows g.symbols (symbols_of edit) in
     let placed = with_symbols-placed g.symbols (symbols_of edit) in
-    let texts : map (text_of symbols) g.rules ≡ map (text_of g.symbols) g.rules = ap (λ ss. map (text_of ss) g.rules) grows.is ∙ texts-grow g.symbols grows.more g.rules well.lefts well.rights in
+    let texts : map (text_of symbols) g.rules ≡ map (text_of g.symbols) g.rules = ap (λ ss. map (text_of ss) g.rules) grows.is
+        ∙ texts-grow g.symbols grows.more g.rules well.lefts well.rights in
     let undefined = none_any (has_name g.symbols r.left) g.definitions (when_none (is_defined g r.left) _ free.clash) in
     let unwritten = none_found (reads g.symbols r) g.rules (map_none _ (rule_found g r) free.twin) in
     well_with_rule (with_its g edit) (numbered symbols (g.version + 1) r) (growing g edit well free (omega (arith, short)))
@@ -191,7 +208,9 @@ rule_well g r well accepted =
       left = named_number symbols r.left placed.0;
       right = (numbers_within symbols r.right placed.1, omega (arith, short, length-map r.right (number_of symbols)));
       text = λ c.
-          let there : Contains (map (text_of g.symbols) g.rules) r = subst (λ (x : RuleText). Contains (map (text_of g.symbols) g.rules) x) (text_of-numbered symbols (g.version + 1) r placed) (subst (λ (xs : List RuleText). Contains xs (text_of symbols (numbered symbols (g.version + 1) r))) texts c) in
+          let there : Contains (map (text_of g.symbols) g.rules) r = subst (λ (x : RuleText). Contains (map (text_of g.symbols) g.rules) x)
+              (text_of-numbered symbols (g.version + 1) r placed)
+              (subst (λ (xs : List RuleText). Contains xs (text_of symbols (numbered symbols (g.version + 1) r))) texts c) in
           let at = contains_map_from (text_of g.symbols) g.rules r there in
           let yes = (rule_eq-decides (text_of g.symbols at.from) r).1 at.is in
           let no = each_contained _ g.rules at.from unwritten at.there in
@@ -207,7 +226,8 @@ pub record IsUnused (g : Grammar) (name : List ℕ) : Type 0 where
   pub lefts : AllByRecursion (λ (r : Rule). symbol_eq (symbol_at g.symbols r.left) (Named name) ≡ false) g.rules
   pub names : AllByRecursion (λ live. has_name g.symbols name live ≡ false) g.definitions
 
-neither : (symbols : List Symbol) (name : List ℕ) (live : Definition) → is_named symbols true name live ≡ false → is_named symbols false name live ≡ false → has_name symbols name live ≡ false
+neither : (symbols : List Symbol) (name : List ℕ) (live : Definition) → is_named symbols true name live ≡ false → is_named symbols false name live ≡ false
+    → has_name symbols name live ≡ false
 neither symbols name live skip token = by (has_name symbols name live) live.is_skip skip token
   where
     by : (named skips : Bool) → (named && skips) ≡ false → (named && not skips) ≡ false → named ≡ false
@@ -221,7 +241,8 @@ unused g name left skip token =
     let tokens = none_found (is_named g.symbols false name) g.definitions token in
     record {
       lefts = none_any _ g.rules left;
-      names = all_contained _ g.definitions (λ live c. neither g.symbols name live (each_contained _ g.definitions live skips c) (each_contained _ g.definitions live tokens c));
+      names = all_contained _ g.definitions (λ live c. neither g.symbols name live (each_contained _ g.definitions live skips c)
+          (each_contained _ g.definitions live tokens c));
     }
 
 no_definition : (g : Grammar) (skip : Bool) (name : List ℕ) → is_some (definition_found g skip name) ≡ false → definition_found g skip name ≡ None
@@ -268,7 +289,8 @@ well_formed_after g (DropRule r) well accepted =
     well_without_rules (with_its g (DropRule r)) _ (growing g (DropRule r) well free (omega (arith, short_dropped r accepted.proper.0)))
 well_formed_after g (AddToken d) well accepted =
     let free = free g (AddToken d) accepted.taken in
-    well_with_definition (with_its g (AddToken d)) _ (growing g (AddToken d) well free (omega arith)) (new_definition g false d well (added_unused g false d free))
+    well_with_definition (with_its g (AddToken d)) _ (growing g (AddToken d) well free (omega arith))
+        (new_definition g false d well (added_unused g false d free))
 well_formed_after g (DropToken name) well accepted =
     let free = free g (DropToken name) accepted.taken in
     well_without_definitions (with_its g (DropToken name)) _ (growing g (DropToken name) well free (omega arith))

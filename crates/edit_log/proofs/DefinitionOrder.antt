@@ -1,5 +1,6 @@
 -- Lists of definitions in their order, as one goes in or out.
-use Rattle.std.proofs.Common.{◌≡◌, ℕ, zero, suc, ◌+◌, ◌<◌, ◌≤◌, ◌⊎◌, inl, inr, ◌↔◌, List, [], ◌∷◌, ◌++◌, length, get_or, take, drop, refl, sym, ◌∙◌, ap, subst, arith, Contains, Err}
+use Rattle.std.proofs.Common.{◌≡◌, ℕ, zero, suc, ◌+◌, ◌<◌, ◌≤◌, ◌⊎◌, inl, inr, ◌↔◌, List, [], ◌∷◌, ◌++◌, length, get_or, take, drop, refl, sym, ◌∙◌, ap, subst}
+use Rattle.std.proofs.Common.{arith, Contains, Err}
 use Rattle.std.proofs.lemmas.Bool.{cases_lt}
 use Rattle.std.proofs.lemmas.List.{take-append-drop, get_or-take, get_or-drop, length-take, length-drop}
 use Rattle.std.proofs.Math.Seq.{drop-cons}
@@ -82,7 +83,8 @@ turned a b e = flips b a ∙ ap ordering_reverse e
 
 -- ---- an element between two parts of a list
 
-sorted_with : (before after : List DefId) (x : DefId) → IsStrictlySortedBy definition_cmp (before ++ after) → ((y : DefId) → Contains before y → definition_cmp y x ≡ Less)
+sorted_with : (before after : List DefId) (x : DefId) → IsStrictlySortedBy definition_cmp (before ++ after)
+    → ((y : DefId) → Contains before y → definition_cmp y x ≡ Less)
     → ((y : DefId) → Contains after y → definition_cmp x y ≡ Less) → IsStrictlySortedBy definition_cmp (before ++ x ∷ after)
 unfolding IsStrictlySortedBy
 sorted_with [] after x sorted below above = (all_of _ after above, sorted)
@@ -140,7 +142,8 @@ members_with before after x y = (
 )
 
 -- and of one from which it goes
-members_without : (before after : List DefId) (x : DefId) → IsAround before after x → (y : DefId) → Contains (before ++ after) y ↔ (Contains (before ++ x ∷ after) y × (y ≡ x → ⊥))
+members_without : (before after : List DefId) (x : DefId) → IsAround before after x → (y : DefId)
+    → Contains (before ++ after) y ↔ (Contains (before ++ x ∷ after) y × (y ≡ x → ⊥))
 members_without before after x is y = (
   λ c. (
     (members_with before after x y).1 (inl c),
@@ -216,10 +219,12 @@ module _ (xs : List DefId) (x : DefId) (sorted : IsStrictlySortedBy definition_c
             ]
 
   -- it goes out
-  pub take_there : (at : ℕ) → at < length xs → HoldsAt (λ y. definition_cmp y x ≡ Equal) xs at → ListsDefinitions (λ y. Contains xs y × (y ≡ x → ⊥)) (remove xs at)
+  pub take_there : (at : ℕ) → at < length xs → HoldsAt (λ y. definition_cmp y x ≡ Equal) xs at
+      → ListsDefinitions (λ y. Contains xs y × (y ≡ x → ⊥)) (remove xs at)
   take_there at within found =
       let whole : take at xs ++ x ∷ drop (suc at) xs ≡ xs =
-      ap (λ y. take at xs ++ y ∷ drop (suc at) xs) (sym (at_found at found)) ∙ ap (λ ys. take at xs ++ ys) (sym (drop-cons xs at x within)) ∙ take-append-drop at xs in
+      ap (λ y. take at xs ++ y ∷ drop (suc at) xs) (sym (at_found at found)) ∙ ap (λ ys. take at xs ++ ys) (sym (drop-cons xs at x within))
+          ∙ take-append-drop at xs in
       let is = around (take at xs) (drop (suc at) xs) x (subst (IsStrictlySortedBy definition_cmp) (sym whole) sorted) in
       record {
         order = is.sorted;

@@ -37,11 +37,15 @@ none_live (named number) live = absurd cc
 one_place : (one : Vec RuleId Global) (place : ℕ) → place < 1 → place ≡ 0
 one_place one place within = omega arith
 
-pub agrees_empty : (symbols : List Symbol) (rules : List Rule) (numbers : RuleText → Option RuleId) (names : List ℕ → Option RuleId) (lefts : List (Vec RuleId Global)) (one : Vec RuleId Global) (uses : List ℕ) (literals : List (Option Table))
-    (definitions : List NamedDefinition) (live : List DefId) (spare : List Rule) → symbols ≡ start → rules ≡ [] → ((r : RuleText) → numbers r ≡ None) → ((name : List ℕ) → names name ≡ None) → lefts ≡ one ∷ [] → one.items ≡ []
-    → uses ≡ 0 ∷ [] → literals ≡ None ∷ [] → definitions ≡ [] → live ≡ [] → spare ≡ [] → Agrees (grammar_in 0 symbols rules definitions) numbers names lefts uses literals definitions live spare
+pub agrees_empty : (symbols : List Symbol) (rules : List Rule) (numbers : RuleText → Option RuleId) (names : List ℕ → Option RuleId)
+    (lefts : List (Vec RuleId Global)) (one : Vec RuleId Global) (uses : List ℕ) (literals : List (Option Table))
+    (definitions : List NamedDefinition) (live : List DefId) (spare : List Rule) → symbols ≡ start → rules ≡ [] → ((r : RuleText) → numbers r ≡ None)
+        → ((name : List ℕ) → names name ≡ None) → lefts ≡ one ∷ [] → one.items ≡ []
+    → uses ≡ 0 ∷ [] → literals ≡ None ∷ [] → definitions ≡ [] → live ≡ [] → spare ≡ []
+        → Agrees (grammar_in 0 symbols rules definitions) numbers names lefts uses literals definitions live spare
 unfolding IsStrictlySortedBy
-agrees_empty symbols rules numbers names lefts one uses literals definitions live spare symbols-is rules-is no_number no_name lefts-are one-is uses-are literals-are definitions-are live-is spare-is =
+agrees_empty symbols rules numbers names lefts one uses literals definitions live spare symbols-is rules-is no_number no_name lefts-are one-is uses-are
+    literals-are definitions-are live-is spare-is =
     rw (symbols-is, rules-is, lefts-are, uses-are, literals-are, definitions-are, live-is) (record {
       well_formed = well_formed_empty;
       finds_rules = no_number;
@@ -55,5 +59,6 @@ agrees_empty symbols rules numbers names lefts one uses literals definitions liv
     })
 
 -- an empty map has no number of any key
-pub none_among : {K S : Type 0} (eq : K → K → Bool) (numbers : HashMap K (Option RuleId) S) → numbers.entries ≡ [] → (key : K) → live_number eq numbers key ≡ None
+pub none_among : {K S : Type 0} (eq : K → K → Bool) (numbers : HashMap K (Option RuleId) S) → numbers.entries ≡ [] → (key : K)
+    → live_number eq numbers key ≡ None
 none_among eq numbers empty key = ap (λ es. option_flatten (lookup (eq key) es)) empty

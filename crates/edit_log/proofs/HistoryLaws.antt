@@ -22,7 +22,8 @@ well_formed_always history accepted = along empty_grammar history well_formed_em
 -- the rule is there already, or has this number
 pub new_rule : (g : Grammar) (edit : Edit) (live : Rule) → Contains (after g edit).rules live → Contains g.rules live ⊎ (live.number.0 ≡ g.version + 1)
 unfolding after
-new_rule g (AddRule r) live there = elim (Contains-push_cases g.rules (numbered (with_symbols g.symbols (symbols_of (AddRule r))) (g.version + 1) r) live there) [
+new_rule g (AddRule r) live there = elim (Contains-push_cases g.rules (numbered (with_symbols g.symbols (symbols_of (AddRule r))) (g.version + 1) r) live there)
+    [
   | inl c ↦ inl c
   | inr e ↦ inr (ap (λ (r : Rule). r.number.0) (sym e))
 ]
@@ -32,13 +33,15 @@ new_rule g (DropToken name) live there = inl there
 new_rule g (AddSkip d) live there = inl there
 new_rule g (DropSkip name) live there = inl there
 
-pushed : (g : Grammar) (d live : Definition) → d.number.0 ≡ g.version + 1 → Contains (g.definitions ++ d ∷ []) live → Contains g.definitions live ⊎ (live.number.0 ≡ g.version + 1)
+pushed : (g : Grammar) (d live : Definition) → d.number.0 ≡ g.version + 1 → Contains (g.definitions ++ d ∷ []) live
+    → Contains g.definitions live ⊎ (live.number.0 ≡ g.version + 1)
 pushed g d live number there = elim (Contains-push_cases g.definitions d live there) [
   | inl c ↦ inl c
   | inr e ↦ inr (ap (λ (d : Definition). d.number.0) (sym e) ∙ number)
 ]
 
-pub new_definition : (g : Grammar) (edit : Edit) (live : Definition) → Contains (after g edit).definitions live → Contains g.definitions live ⊎ (live.number.0 ≡ g.version + 1)
+pub new_definition : (g : Grammar) (edit : Edit) (live : Definition) → Contains (after g edit).definitions live
+    → Contains g.definitions live ⊎ (live.number.0 ≡ g.version + 1)
 unfolding after
 new_definition g (AddRule r) live there = inl there
 new_definition g (DropRule r) live there = inl there

@@ -1,5 +1,6 @@
 -- The rules under each left side after an edit.
-use Rattle.std.proofs.Common.{◌≡◌, ℕ, zero, suc, append-nil, ◌+◌, ◌≤◌, ◌==◌, inl, inr, List, [], ◌∷◌, ◌++◌, Bool, true, false, not, length, map, filter, Some, Vec, Contains, if◌then◌else◌, refl, sym, ap, ◌∙◌, arith, length-append}
+use Rattle.std.proofs.Common.{◌≡◌, ℕ, zero, suc, append-nil, ◌+◌, ◌≤◌, ◌==◌, inl, inr, List, [], ◌∷◌, ◌++◌, Bool, true, false, not, length, map, filter, Some}
+use Rattle.std.proofs.Common.{Vec, Contains, if◌then◌else◌, refl, sym, ap, ◌∙◌, arith, length-append}
 use Rattle.std.specs.declared.alloc.Global.{Global}
 use Rattle.std.specs.List.{AllByRecursion}
 use Rattle.std.specs.Option.{option_map_or}
@@ -36,7 +37,8 @@ filter_map f test [] = refl
 filter_map {X} {Y} f test (x ∷ xs) = by (test (f x)) (filter_map f test xs)
   where
     by : (passes : Bool) → map f (filter (λ x. test (f x)) xs) ≡ filter test (map f xs)
-        → map f (if passes then x ∷ filter (λ x. test (f x)) xs else filter (λ x. test (f x)) xs) ≡ (if passes then f x ∷ filter test (map f xs) else filter test (map f xs))
+        → map f (if passes then x ∷ filter (λ x. test (f x)) xs else filter (λ x. test (f x)) xs) ≡
+            (if passes then f x ∷ filter test (map f xs) else filter test (map f xs))
     by true rest = ap (λ ys. f x ∷ ys) rest
     by false rest = rest
 
@@ -45,7 +47,8 @@ filter_swap : {X : Type 0} (p q : X → Bool) (xs : List X) → filter p (filter
 filter_swap p q [] = refl
 filter_swap {X} p q (x ∷ xs) = by (p x) (q x) refl refl (filter_swap p q xs)
   where
-    by : (a b : Bool) → p x ≡ a → q x ≡ b → filter p (filter q xs) ≡ filter q (filter p xs) → filter p (if b then x ∷ filter q xs else filter q xs) ≡ filter q (if a then x ∷ filter p xs else filter p xs)
+    by : (a b : Bool) → p x ≡ a → q x ≡ b → filter p (filter q xs) ≡ filter q (filter p xs) → filter p (if b then x ∷ filter q xs else filter q xs) ≡ filter q
+        (if a then x ∷ filter p xs else filter p xs)
     by true true is at rest = rw (is, at) (ap (λ ys. x ∷ ys) rest)
     by true false is at rest = rw at rest
     by false true is at rest = rw is rest
@@ -56,7 +59,8 @@ filter_kept : {X : Type 0} (p q : X → Bool) (xs : List X) → AllByRecursion (
 filter_kept p q [] all = refl
 filter_kept {X} p q (x ∷ xs) all = by (p x) (q x) refl refl (filter_kept p q xs all.1)
   where
-    by : (a b : Bool) → p x ≡ a → q x ≡ b → filter p (filter q xs) ≡ filter p xs → filter p (if b then x ∷ filter q xs else filter q xs) ≡ (if a then x ∷ filter p xs else filter p xs)
+    by : (a b : Bool) → p x ≡ a → q x ≡ b → filter p (filter q xs) ≡ filter p xs
+        → filter p (if b then x ∷ filter q xs else filter q xs) ≡ (if a then x ∷ filter p xs else filter p xs)
     by true true is at rest = rw is (ap (λ ys. x ∷ ys) rest)
     by true false is at rest = let passes = all.0 is in absurd cc
     by false true is at rest = rw is rest
@@ -77,7 +81,8 @@ under_fresh (one ∷ fresh) all zero = all.0.rules
 under_fresh (one ∷ fresh) all (suc place) = under_fresh fresh all.1 place
 
 -- a list is as it was, and a fresh one is empty
-under_with : (lefts : List (Vec RuleId Global)) (fresh : List FreshSymbol) → AllByRecursion IsFresh fresh → (place : ℕ) → under (with_fresh lefts fresh) place ≡ under lefts place
+under_with : (lefts : List (Vec RuleId Global)) (fresh : List FreshSymbol) → AllByRecursion IsFresh fresh → (place : ℕ)
+    → under (with_fresh lefts fresh) place ≡ under lefts place
 under_with [] fresh all place = under_fresh fresh all place
 under_with (list ∷ lefts) fresh all zero = refl
 under_with (list ∷ lefts) fresh all (suc place) = under_with lefts fresh all place
@@ -93,13 +98,15 @@ no_left g place well past =
     ne_eqb r.left.0 place (λ e. absurd (omega arith)))))
 
 -- the lists are right at each place, also where there is no symbol
-everywhere : (g : Grammar) (lefts : List (Vec RuleId Global)) → IsWellFormed g → AreLefts g.symbols g.rules lefts → (place : ℕ) → under lefts place ≡ numbers_of_left g.rules (record { 0 = place })
+everywhere : (g : Grammar) (lefts : List (Vec RuleId Global)) → IsWellFormed g → AreLefts g.symbols g.rules lefts → (place : ℕ)
+    → under lefts place ≡ numbers_of_left g.rules (record { 0 = place })
 everywhere g lefts well are place = elim (cases_lt place (length g.symbols)) [
   | inl within ↦ are.lists place within
   | inr past ↦ under_past lefts place (omega (arith, are.len)) ∙ sym (no_left g place well past)
 ]
 
-length_with : (g : Grammar) (edit : Edit) (lefts : List (Vec RuleId Global)) (fresh : List FreshSymbol) → AreFreshFor g edit fresh → length lefts ≡ length g.symbols → length (with_fresh lefts fresh) ≡ length (after g edit).symbols
+length_with : (g : Grammar) (edit : Edit) (lefts : List (Vec RuleId Global)) (fresh : List FreshSymbol) → AreFreshFor g edit fresh
+    → length lefts ≡ length g.symbols → length (with_fresh lefts fresh) ≡ length (after g edit).symbols
 length_with g edit lefts fresh are_fresh len =
     omega (
       arith,
@@ -113,12 +120,15 @@ length_with g edit lefts fresh are_fresh len =
 
 -- ---- rules
 
-left_added : (rules : List Rule) (r : Rule) (place : ℕ) → numbers_of_left (rules ++ r ∷ []) (record { 0 = place }) ≡ (if place == r.left.0 then numbers_of_left rules (record { 0 = place }) ++ r.number ∷ [] else numbers_of_left rules (record { 0 = place }))
+left_added : (rules : List Rule) (r : Rule) (place : ℕ) → numbers_of_left (rules ++ r ∷ []) (record { 0 = place }) ≡
+    (if place == r.left.0 then numbers_of_left rules (record { 0 = place }) ++ r.number ∷ [] else numbers_of_left rules (record { 0 = place }))
 left_added rules r place =
     ap (map (λ (r : Rule). r.number)) (filter-append (λ (r : Rule). r.left.0 == place) rules (r ∷ []))
     ∙ elim (cases_eq place r.left.0) [
-      | inl e ↦ rw (eq-eqb place r.left.0 e, eq-eqb r.left.0 place (sym e)) (map-append (λ (r : Rule). r.number) (filter (λ (r : Rule). r.left.0 == place) rules) (r ∷ []))
-      | inr other ↦ rw (ne_eqb place r.left.0 other, ne_eqb r.left.0 place (λ e. other (sym e))) (ap (map (λ (r : Rule). r.number)) (append-nil (filter (λ (r : Rule). r.left.0 == place) rules)))
+      | inl e ↦ rw (eq-eqb place r.left.0 e, eq-eqb r.left.0 place (sym e))
+          (map-append (λ (r : Rule). r.number) (filter (λ (r : Rule). r.left.0 == place) rules) (r ∷ []))
+      | inr other ↦ rw (ne_eqb place r.left.0 other, ne_eqb r.left.0 place (λ e. other (sym e)))
+          (ap (map (λ (r : Rule). r.number)) (append-nil (filter (λ (r : Rule). r.left.0 == place) rules)))
     ]
 
 pub lefts_rule_added : (g : Grammar) (r : RuleText) (lefts new : List (Vec RuleId Global)) (fresh : List FreshSymbol) (left : SymbolId) (number : RuleId)
@@ -131,7 +141,8 @@ lefts_rule_added g r lefts new fresh left number well accepted are_fresh are lef
   len = len ∙ length_with g (AddRule r) lefts fresh are_fresh are.len;
   lists = λ place within.
       let rule = numbered (with_symbols g.symbols (symbols_of (AddRule r))) (g.version + 1) r in
-      let old : under (with_fresh lefts fresh) place ≡ numbers_of_left g.rules (record { 0 = place }) = under_with lefts fresh are_fresh.each place ∙ everywhere g lefts well are place in
+      let old : under (with_fresh lefts fresh) place ≡ numbers_of_left g.rules (record { 0 = place }) = under_with lefts fresh are_fresh.each place
+          ∙ everywhere g lefts well are place in
       lists place
       ∙ (λ i. if place == (left-is i).0 then old i ++ number-is i ∷ [] else old i)
       ∙ sym (left_added g.rules rule place);
@@ -139,15 +150,18 @@ lefts_rule_added g r lefts new fresh left number well accepted are_fresh are lef
 
 left_dropped : (g : Grammar) (live : Rule) (place : ℕ) → IsWellFormed g → Contains g.rules live
     → numbers_of_left (filter (λ other. not (other.number.0 == live.number.0)) g.rules) (record { 0 = place })
-    ≡ (if place == live.left.0 then filter (λ n. not (n.0 == live.number.0)) (numbers_of_left g.rules (record { 0 = place })) else numbers_of_left g.rules (record { 0 = place }))
+    ≡ (if place == live.left.0 then filter (λ n. not (n.0 == live.number.0)) (numbers_of_left g.rules (record { 0 = place })) else numbers_of_left g.rules
+        (record { 0 = place }))
 left_dropped g live place well there = elim (cases_eq place live.left.0) [
   | inl e ↦ rw (eq-eqb place live.left.0 e)
       (ap (map (λ (r : Rule). r.number)) (filter_swap (λ (r : Rule). r.left.0 == place) (λ (r : Rule). not (r.number.0 == live.number.0)) g.rules)
       ∙ filter_map (λ (r : Rule). r.number) (λ n. not (n.0 == live.number.0)) (filter (λ (r : Rule). r.left.0 == place) g.rules))
   | inr other ↦ rw (ne_eqb place live.left.0 other)
-      (ap (map (λ (r : Rule). r.number)) (filter_kept (λ (r : Rule). r.left.0 == place) (λ (r : Rule). not (r.number.0 == live.number.0)) g.rules (all_contained _ g.rules (λ r c at.
+      (ap (map (λ (r : Rule). r.number)) (filter_kept (λ (r : Rule). r.left.0 == place) (λ (r : Rule). not (r.number.0 == live.number.0)) g.rules
+          (all_contained _ g.rules (λ r c at.
       ap not (false_from_ne_true (r.number.0 == live.number.0) (λ e.
-      let same : r ≡ live = distinct_map (λ (r : Rule). r.number.0) g.rules r live (sorted_keys (λ (r : Rule). r.number.0) g.rules well.rule_order) c there (eqb-true r.number.0 live.number.0 e) in
+      let same : r ≡ live = distinct_map (λ (r : Rule). r.number.0) g.rules r live (sorted_keys (λ (r : Rule). r.number.0) g.rules well.rule_order) c there
+          (eqb-true r.number.0 live.number.0 e) in
       other (sym (eqb-true r.left.0 place at) ∙ ap (λ (r : Rule). r.left.0) same)))))))
 ]
 
@@ -187,7 +201,8 @@ rules_stay g true name = refl
 rules_stay g false name = refl
 
 pub lefts_definition_dropped : (g : Grammar) (skip : Bool) (name : List ℕ) (lefts : List (Vec RuleId Global))
-    → IsWellFormed g → IsAccepted g (drops skip name) → AreLefts g.symbols g.rules lefts → AreLefts (after g (drops skip name)).symbols (after g (drops skip name)).rules lefts
+    → IsWellFormed g → IsAccepted g (drops skip name) → AreLefts g.symbols g.rules lefts
+        → AreLefts (after g (drops skip name)).symbols (after g (drops skip name)).rules lefts
 lefts_definition_dropped g skip name lefts well accepted are = record {
   len = are.len ∙ ap length (sym (symbols_stay_definition g skip name well accepted));
   lists = λ place within. everywhere g lefts well are place ∙ ap (λ rules. numbers_of_left rules (record { 0 = place })) (sym (rules_stay g skip name));

@@ -1,5 +1,6 @@
 -- Whether a name is a left side, by the rules under its number.
-use Rattle.std.proofs.Common.{◌≡◌, ℕ, suc, ◌==◌, ◌||◌, List, [], ◌∷◌, Bool, true, false, not, cond, nat_lt, length, map, filter, slice_get, slice_index_or, position, Some, None, Vec, refl, ap, sym, ◌∙◌, subst, arith}
+use Rattle.std.proofs.Common.{◌≡◌, ℕ, suc, ◌==◌, ◌||◌, List, [], ◌∷◌, Bool, true, false, not, cond, nat_lt, length, map, filter, slice_get, slice_index_or}
+use Rattle.std.proofs.Common.{position, Some, None, Vec, refl, ap, sym, ◌∙◌, subst, arith}
 use Rattle.std.specs.List.{AllByRecursion, list_any}
 use Rattle.std.proofs.lemmas.Bool.{eq-eqb, ne_eqb, ltb-true, ltb-false}
 use Rattle.std.proofs.lemmas.Option.{same_Some, get_or_from_slice_get, slice_get_within, slice_get_read}
@@ -25,7 +26,8 @@ use Rattle.edit_log.proofs.Places.{place_of-get, placed_from_get}
 pub found_at : (symbols : List Symbol) (s : Symbol) (place : ℕ) → position (symbol_eq s) symbols ≡ Some place → slice_get symbols place ≡ Some s
 found_at symbols s place is = by (nat_lt (place_of symbols s) (length symbols)) refl is
   where
-    by : (there : Bool) → nat_lt (place_of symbols s) (length symbols) ≡ there → cond there (Some (place_of symbols s)) None ≡ Some place → slice_get symbols place ≡ Some s
+    by : (there : Bool) → nat_lt (place_of symbols s) (length symbols) ≡ there → cond there (Some (place_of symbols s)) None ≡ Some place
+        → slice_get symbols place ≡ Some s
     by true there is =
         let same : place_of symbols s ≡ place = same_Some (place_of symbols s) place is in
         subst (λ n. slice_get symbols n ≡ Some s) same (place_of-get symbols s (ltb-true (place_of symbols s) (length symbols) there))
@@ -40,7 +42,8 @@ not_found symbols s is place at = by (nat_lt (place_of symbols s) (length symbol
     by false there is = omega (arith, ltb-false (place_of symbols s) (length symbols) there, placed_from_get symbols s place at)
 
 -- the left side has the name exactly where it has the name's number
-same_left : (symbols : List Symbol) (name : List ℕ) (place : ℕ) (left : SymbolId) → IsDistinct symbols → slice_get symbols place ≡ Some (Named name) → IsNamed symbols left
+same_left : (symbols : List Symbol) (name : List ℕ) (place : ℕ) (left : SymbolId) → IsDistinct symbols → slice_get symbols place ≡ Some (Named name)
+    → IsNamed symbols left
     → (left.0 == place) ≡ symbol_eq (symbol_at symbols left) (Named name)
 same_left symbols name place left distinct at is = by (symbol_eq (Named is.0) (Named name)) refl
   where
@@ -72,20 +75,24 @@ left_by_list g name place numbers well at is = ap (λ ns. not (length ns == 0)) 
       where
         by : (is : Bool) → is ≡ symbol_eq (symbol_at g.symbols r.left) (Named name)
             → not (length (numbers_of_left rules (record { 0 = place })) == 0) ≡ list_any (λ live. symbol_eq (symbol_at g.symbols live.left) (Named name)) rules
-            → not (length (map (λ (r : Rule). r.number) (cond is (r ∷ filter (λ (r : Rule). r.left.0 == place) rules) (filter (λ (r : Rule). r.left.0 == place) rules))) == 0)
+            → not (length (map (λ (r : Rule). r.number) (cond is (r ∷ filter (λ (r : Rule). r.left.0 == place) rules)
+                (filter (λ (r : Rule). r.left.0 == place) rules))) == 0)
             ≡ (symbol_eq (symbol_at g.symbols r.left) (Named name) || list_any (λ live. symbol_eq (symbol_at g.symbols live.left) (Named name)) rules)
-        by true is rest = ap not (ne_eqb (suc (length (numbers_of_left rules (record { 0 = place })))) 0 (λ e. omega (arith, e))) ∙ ap (λ b. b || list_any (λ (live : Rule). symbol_eq (symbol_at g.symbols live.left) (Named name)) rules) is
+        by true is rest = ap not (ne_eqb (suc (length (numbers_of_left rules (record { 0 = place })))) 0 (λ e. omega (arith, e))) ∙ ap
+            (λ b. b || list_any (λ (live : Rule). symbol_eq (symbol_at g.symbols live.left) (Named name)) rules) is
         by false is rest = rest ∙ ap (λ b. b || list_any (λ (live : Rule). symbol_eq (symbol_at g.symbols live.left) (Named name)) rules) is
 
 -- a name that has no number is no left side
 pub left_unknown : (g : Grammar) (name : List ℕ) → IsWellFormed g → position (symbol_eq (Named name)) g.symbols ≡ None → false ≡ is_left g name
 left_unknown g name well none = go g.rules well.lefts
   where
-    go : (rules : List Rule) → AllByRecursion (λ r. IsNamed g.symbols r.left) rules → false ≡ list_any (λ live. symbol_eq (symbol_at g.symbols live.left) (Named name)) rules
+    go : (rules : List Rule) → AllByRecursion (λ r. IsNamed g.symbols r.left) rules
+        → false ≡ list_any (λ live. symbol_eq (symbol_at g.symbols live.left) (Named name)) rules
     go [] all = refl
     go (r ∷ rules) all = by (symbol_eq (symbol_at g.symbols r.left) (Named name)) refl (go rules all.1)
       where
-        by : (same : Bool) → symbol_eq (symbol_at g.symbols r.left) (Named name) ≡ same → false ≡ list_any (λ live. symbol_eq (symbol_at g.symbols live.left) (Named name)) rules
+        by : (same : Bool) → symbol_eq (symbol_at g.symbols r.left) (Named name) ≡ same
+            → false ≡ list_any (λ live. symbol_eq (symbol_at g.symbols live.left) (Named name)) rules
             → false ≡ (same || list_any (λ live. symbol_eq (symbol_at g.symbols live.left) (Named name)) rules)
         by true same rest =
             let names : symbol_at g.symbols r.left ≡ Named name = (symbol_eq-decides (symbol_at g.symbols r.left) (Named name)).0 same in
@@ -94,7 +101,8 @@ left_unknown g name well none = go g.rules well.lefts
         by false same rest = rest
 
 -- the list that is read at a symbol's place has the rules under it
-pub under_index : (symbols : List Symbol) (rules : List Rule) (lefts : List (Vec RuleId Global)) (place : ℕ) (list : Vec RuleId Global) (s : Symbol) → AreLefts symbols rules lefts
+pub under_index : (symbols : List Symbol) (rules : List Rule) (lefts : List (Vec RuleId Global)) (place : ℕ) (list : Vec RuleId Global) (s : Symbol)
+    → AreLefts symbols rules lefts
     → list ≡ slice_index_or lefts place list → slice_get symbols place ≡ Some s → list.items ≡ numbers_of_left rules (record { 0 = place })
 under_index symbols rules lefts place list s are read at =
     let within = slice_get_within symbols place s at in

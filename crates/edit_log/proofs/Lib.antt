@@ -15,7 +15,7 @@ pub mod LeftLists
 pub mod DefinitionOrder
 pub mod UseLists
 pub mod RowLists
-pub mod LiveFacts
+pub mod LiveByUses
 pub mod NewSymbols
 pub mod LiveAfter
 pub mod Liveness
@@ -25,10 +25,10 @@ pub mod LookupLemmas
 pub mod LeftNames
 pub mod EmptyReplica
 pub mod VerdictSteps
-pub mod RuleAdded
+pub mod AgreesAfterAddRule
 pub mod OneName
 pub mod Planning
-pub mod Applied
-pub mod AppliedNew
-pub mod AppliedRule
+pub mod AgreesAfterDropDefinition
+pub mod AgreesAfterAddDefinition
+pub mod AgreesAfterDropRule
 pub mod HistoryLaws

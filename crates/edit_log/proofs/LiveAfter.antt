@@ -1,5 +1,6 @@
 -- What is live after an edit.
-use Rattle.std.proofs.Common.{◌≡◌, ◌↔◌, ◌⊎◌, inl, inr, ℕ, ◌+◌, ◌<◌, ◌≤◌, ◌==◌, List, [], ◌∷◌, ◌++◌, Bool, true, false, not, cond, length, filter, Some, refl, sym, ◌∙◌, ap, subst, arith, append-nil, Contains}
+use Rattle.std.proofs.Common.{◌≡◌, ◌↔◌, ◌⊎◌, inl, inr, ℕ, ◌+◌, ◌<◌, ◌≤◌, ◌==◌, List, [], ◌∷◌, ◌++◌, Bool, true, false, not, cond, length, filter, Some, refl}
+use Rattle.std.proofs.Common.{sym, ◌∙◌, ap, subst, arith, append-nil, Contains}
 use Rattle.std.specs.List.{AllByRecursion}
 use Rattle.std.proofs.lemmas.Bool.{eqb-true, eqb-false}
 use Rattle.std.proofs.lemmas.List.{map-append}
@@ -22,7 +23,7 @@ use Rattle.edit_log.specs.Replicas.{adds, drops}
 use Rattle.edit_log.proofs.After.{symbols_stay_definition, definitions_dropped}
 use Rattle.edit_log.proofs.DefinitionOrder.{contains_first, contains_later, contains_cases, contains_none}
 use Rattle.edit_log.proofs.NewSymbols.{with_symbols-grown}
-use Rattle.edit_log.proofs.LiveFacts.{numbers_in, live_literal, live_named, counted_within}
+use Rattle.edit_log.proofs.LiveByUses.{numbers_in, live_literal, live_named, counted_within}
 
 -- ---- literals
 
@@ -31,7 +32,8 @@ pub symbol_kept : (old new more : List Symbol) (s : SymbolId) → new ≡ old ++
 symbol_kept old new more s grows within = ap (λ symbols. symbol_at symbols s) grows ∙ get_or-append old more (Named []) s.0 within
 
 -- what is live stays so where no use goes
-pub literal_kept : (old new : Grammar) (more : List Symbol) (s : SymbolId) → IsWellFormed old → new.symbols ≡ old.symbols ++ more → all_occurrences s old.rules ≤ all_occurrences s new.rules
+pub literal_kept : (old new : Grammar) (more : List Symbol) (s : SymbolId) → IsWellFormed old → new.symbols ≡ old.symbols ++ more
+    → all_occurrences s old.rules ≤ all_occurrences s new.rules
     → IsLive old (literal s) → IsLive new (literal s)
 literal_kept old new more s well grows uses live =
     let both = (live_literal old s).0 live in
@@ -39,7 +41,8 @@ literal_kept old new more s well grows uses live =
     (live_literal new s).1 (ap is_literal same ∙ both.0, omega (arith, uses, both.1))
 
 -- and was live before where no use comes
-pub literal_back : (old new : Grammar) (more : List Symbol) (s : SymbolId) → IsWellFormed old → new.symbols ≡ old.symbols ++ more → all_occurrences s new.rules ≤ all_occurrences s old.rules
+pub literal_back : (old new : Grammar) (more : List Symbol) (s : SymbolId) → IsWellFormed old → new.symbols ≡ old.symbols ++ more
+    → all_occurrences s new.rules ≤ all_occurrences s old.rules
     → IsLive new (literal s) → IsLive old (literal s)
 literal_back old new more s well grows uses live =
     let both = (live_literal new s).0 live in
@@ -56,7 +59,8 @@ named_same old new n same = (
 )
 
 -- the numbers are versions up to this one
-pub number_within : (version : ℕ) (definitions : List Definition) (n : RuleId) → AllByRecursion (λ live. IsNumber version live.number.0) definitions → Contains (numbers_in definitions) n → n.0 ≤ version
+pub number_within : (version : ℕ) (definitions : List Definition) (n : RuleId) → AllByRecursion (λ live. IsNumber version live.number.0) definitions
+    → Contains (numbers_in definitions) n → n.0 ≤ version
 number_within version [] n each c = absurd (contains_none n c)
 number_within version (x ∷ xs) n each c = elim (contains_cases x.number (numbers_in xs) n c) [
   | inl e ↦ let same : x.number.0 ≡ n.0 = ap (λ (r : RuleId). r.0) e in omega (arith, same, each.0.1)
@@ -64,11 +68,13 @@ number_within version (x ∷ xs) n each c = elim (contains_cases x.number (numbe
 ]
 
 -- the numbers without one
-numbers_without : (definitions : List Definition) (gone n : RuleId) → Contains (numbers_in (filter (λ other. not (other.number.0 == gone.0)) definitions)) n ↔ (Contains (numbers_in definitions) n × (n ≡ gone → ⊥))
+numbers_without : (definitions : List Definition) (gone n : RuleId) → Contains (numbers_in (filter (λ other. not (other.number.0 == gone.0)) definitions)) n ↔
+    (Contains (numbers_in definitions) n × (n ≡ gone → ⊥))
 numbers_without [] gone n = (λ c. absurd (contains_none n c), λ w. absurd (contains_none n w.0))
 numbers_without (x ∷ xs) gone n = by (x.number.0 == gone.0) refl (numbers_without xs gone n)
   where
-    by : (b : Bool) → (x.number.0 == gone.0) ≡ b → Contains (numbers_in (filter (λ other. not (other.number.0 == gone.0)) xs)) n ↔ (Contains (numbers_in xs) n × (n ≡ gone → ⊥))
+    by : (b : Bool) → (x.number.0 == gone.0) ≡ b → Contains (numbers_in (filter (λ other. not (other.number.0 == gone.0)) xs)) n ↔ (Contains (numbers_in xs) n
+        × (n ≡ gone → ⊥))
         → Contains (numbers_in (cond (not b) (x ∷ filter (λ other. not (other.number.0 == gone.0)) xs) (filter (λ other. not (other.number.0 == gone.0)) xs))) n
         ↔ (Contains (numbers_in (x ∷ xs)) n × (n ≡ gone → ⊥))
     by true is rest =
@@ -78,11 +84,13 @@ numbers_without (x ∷ xs) gone n = by (x.number.0 == gone.0) refl (numbers_with
         )
     by false is rest = (
       λ c. elim (contains_cases x.number (numbers_in (filter (λ other. not (other.number.0 == gone.0)) xs)) n c) [
-        | inl e ↦ (subst (Contains (numbers_in (x ∷ xs))) e (contains_first x.number (numbers_in xs)), λ gone-is. eqb-false x.number.0 gone.0 is (ap (λ (r : RuleId). r.0) (e ∙ gone-is)))
+        | inl e ↦ (subst (Contains (numbers_in (x ∷ xs))) e (contains_first x.number (numbers_in xs)), λ gone-is. eqb-false x.number.0 gone.0 is
+            (ap (λ (r : RuleId). r.0) (e ∙ gone-is)))
         | inr d ↦ let known = rest.0 d in (contains_later x.number (numbers_in xs) n known.0, known.1)
       ],
       λ w. elim (contains_cases x.number (numbers_in xs) n w.0) [
-        | inl e ↦ subst (Contains (x.number ∷ numbers_in (filter (λ other. not (other.number.0 == gone.0)) xs))) e (contains_first x.number (numbers_in (filter (λ other. not (other.number.0 == gone.0)) xs)))
+        | inl e ↦ subst (Contains (x.number ∷ numbers_in (filter (λ other. not (other.number.0 == gone.0)) xs))) e
+            (contains_first x.number (numbers_in (filter (λ other. not (other.number.0 == gone.0)) xs)))
         | inr d ↦ contains_later x.number (numbers_in (filter (λ other. not (other.number.0 == gone.0)) xs)) n (rest.1 (d, w.1))
       ],
     )
@@ -99,7 +107,8 @@ unfolding after
 added_rules g true d = refl
 added_rules g false d = refl
 
-added_numbers : (g : Grammar) (skip : Bool) (d : DefText) → numbers_in (after g (adds skip d)).definitions ≡ numbers_in g.definitions ++ record { 0 = g.version + 1 } ∷ []
+added_numbers : (g : Grammar) (skip : Bool) (d : DefText) → numbers_in (after g (adds skip d)).definitions ≡ numbers_in g.definitions ++ record { 0 =
+    g.version + 1 } ∷ []
 unfolding after
 added_numbers g true d = map-append (λ (live : Definition). live.number) g.definitions _
 added_numbers g false d = map-append (λ (live : Definition). live.number) g.definitions _
@@ -115,7 +124,8 @@ live_added g skip d well (literal s) =
     )
 live_added g skip d well (named n) =
     let new : RuleId = record { 0 = g.version + 1 } in (
-      λ live. elim (Contains-push_cases (numbers_in g.definitions) new n (subst (λ numbers. Contains numbers n) (added_numbers g skip d) ((live_named (after g (adds skip d)) n).0 live))) [
+      λ live. elim (Contains-push_cases (numbers_in g.definitions) new n (subst (λ numbers. Contains numbers n) (added_numbers g skip d)
+          ((live_named (after g (adds skip d)) n).0 live))) [
         | inl c ↦ inl ((live_named g n).1 c)
         | inr e ↦ inr (ap named (sym e))
       ],
@@ -132,7 +142,8 @@ unfolding after
 dropped_rules g true name = refl
 dropped_rules g false name = refl
 
-pub live_dropped : (g : Grammar) (skip : Bool) (name : List ℕ) (gone : Definition) → IsWellFormed g → IsAccepted g (drops skip name) → definition_found g skip name ≡ Some gone → (other : DefId)
+pub live_dropped : (g : Grammar) (skip : Bool) (name : List ℕ) (gone : Definition) → IsWellFormed g → IsAccepted g (drops skip name)
+    → definition_found g skip name ≡ Some gone → (other : DefId)
     → IsLive (after g (drops skip name)) other ↔ (IsLive g other × (other ≡ named gone.number → ⊥))
 live_dropped g skip name gone well accepted found (literal s) =
     let grows = symbols_stay_definition g skip name well accepted ∙ sym (append-nil g.symbols) in
@@ -146,5 +157,6 @@ live_dropped g skip name gone well accepted found (named n) =
       λ live.
           let known = numbers.0 (subst (λ definitions. Contains (numbers_in definitions) n) kept ((live_named (after g (drops skip name)) n).0 live)) in
           ((live_named g n).1 known.0, λ e. known.1 (let same : n ≡ gone.number = cc in same)),
-      λ w. (live_named (after g (drops skip name)) n).1 (subst (λ definitions. Contains (numbers_in definitions) n) (sym kept) (numbers.1 ((live_named g n).0 w.0, λ e. w.1 (ap named e)))),
+      λ w. (live_named (after g (drops skip name)) n).1 (subst (λ definitions. Contains (numbers_in definitions) n) (sym kept)
+          (numbers.1 ((live_named g n).0 w.0, λ e. w.1 (ap named e)))),
     )

@@ -1,5 +1,6 @@
 -- What is live after an edit, and how often symbols are used.
-use Rattle.std.proofs.Common.{◌≡◌, ◌↔◌, ◌⊎◌, inl, inr, ℕ, zero, suc, ◌+◌, ◌-◌, ◌<◌, ◌≤◌, List, [], ◌∷◌, ◌++◌, Bool, length, map, slice_get, Option, Some, option_map, refl, sym, ◌∙◌, ap, arith, Contains}
+use Rattle.std.proofs.Common.{◌≡◌, ◌↔◌, ◌⊎◌, inl, inr, ℕ, zero, suc, ◌+◌, ◌-◌, ◌<◌, ◌≤◌, List, [], ◌∷◌, ◌++◌, Bool, length, map, slice_get, Option, Some}
+use Rattle.std.proofs.Common.{option_map, refl, sym, ◌∙◌, ap, arith, Contains}
 use Rattle.std.specs.List.{AllZip, AllByRecursion}
 use Rattle.std.proofs.lemmas.Bool.{cases_lt}
 use Rattle.std.proofs.lemmas.List.{length-map}
@@ -22,15 +23,17 @@ use Rattle.edit_log.specs.Facts.{IsWellFormed}
 use Rattle.edit_log.specs.Live.{IsLive}
 use Rattle.edit_log.specs.Lookups.{ListsDefinitions}
 use Rattle.edit_log.specs.Lists.{occurrences, all_occurrences, IsLiveBy}
-use Rattle.edit_log.specs.Kept.{AreUses, AreLiterals}
+use Rattle.edit_log.specs.Kept.{AreUses, AreLiteralTables}
 use Rattle.edit_log.specs.Replicas.{AreFreshFor, ArePositionsOfSymbol, IsFresh, adds, drops}
 use Rattle.edit_log.proofs.After.{symbols_stay_rule, rules_dropped}
-pub use Rattle.edit_log.proofs.LiveFacts.{numbers_in}
-use Rattle.edit_log.proofs.LiveFacts.{live_literal, live_named, literal_has, has_is_literal, lists_same, counted_beyond, counted_push, sum_without, found_there, same_length}
+pub use Rattle.edit_log.proofs.LiveByUses.{numbers_in}
+use Rattle.edit_log.proofs.LiveByUses.{live_literal, live_named, literal_has, has_is_literal, lists_same, counted_beyond, counted_push, sum_without, found_there}
+use Rattle.edit_log.proofs.LiveByUses.{same_length}
 use Rattle.edit_log.proofs.LiveAfter.{live_added, live_dropped}
 
 -- live by the lists that are kept, and by the grammar
-pub live_by : (g : Grammar) (uses : List ℕ) (literals : List (Option Table)) → IsWellFormed g → AreUses g.symbols g.rules uses → AreLiterals g.symbols literals
+pub live_by : (g : Grammar) (uses : List ℕ) (literals : List (Option Table)) → IsWellFormed g → AreUses g.symbols g.rules uses
+    → AreLiteralTables g.symbols literals
     → (d : DefId) → IsLive g d ↔ IsLiveBy literals uses (numbers_in g.definitions) d
 live_by g uses literals well are_uses are_literals (named n) = live_named g n
 live_by g uses literals well are_uses are_literals (literal s) =
@@ -62,14 +65,17 @@ all_zip_append R [] us (y ∷ ys) vs first second = absurd first
 all_zip_append R (x ∷ xs) us [] vs first second = absurd first
 all_zip_append R (x ∷ xs) us (y ∷ ys) vs first second = (first.0, all_zip_append R xs us ys vs first.1 second)
 
-fresh_literals : (fresh : List FreshSymbol) → AllByRecursion IsFresh fresh → AllZip ArePositionsOfSymbol (map (λ one. one.symbol) fresh) (map (λ one. one.positions) fresh)
+fresh_literals : (fresh : List FreshSymbol) → AllByRecursion IsFresh fresh
+    → AllZip ArePositionsOfSymbol (map (λ one. one.symbol) fresh) (map (λ one. one.positions) fresh)
 fresh_literals [] each = tt
 fresh_literals (one ∷ fresh) each = (each.0.positions, fresh_literals fresh each.1)
 
-pub literals_grown : (g : Grammar) (edit : Edit) (literals : List (Option Table)) (fresh : List FreshSymbol) → AreFreshFor g edit fresh → AreLiterals g.symbols literals
-    → AreLiterals (after g edit).symbols (literals_with literals fresh)
+pub literals_grown : (g : Grammar) (edit : Edit) (literals : List (Option Table)) (fresh : List FreshSymbol) → AreFreshFor g edit fresh
+    → AreLiteralTables g.symbols literals
+    → AreLiteralTables (after g edit).symbols (literals_with literals fresh)
 literals_grown g edit literals fresh are_fresh are =
-    rw are_fresh.symbols (all_zip_append ArePositionsOfSymbol g.symbols (map (λ one. one.symbol) fresh) literals (map (λ one. one.positions) fresh) are (fresh_literals fresh are_fresh.each))
+    rw are_fresh.symbols (all_zip_append ArePositionsOfSymbol g.symbols (map (λ one. one.symbol) fresh) literals (map (λ one. one.positions) fresh) are
+        (fresh_literals fresh are_fresh.each))
 
 get_left : {A : Type 0} (xs ys : List A) (k : ℕ) → k < length xs → slice_get (xs ++ ys) k ≡ slice_get xs k
 get_left [] ys k less = absurd (omega arith)
@@ -88,16 +94,19 @@ get_right (x ∷ uses) fresh zero more less = absurd (omega arith)
 get_right (x ∷ uses) fresh (suc k) more less = get_right uses fresh k (omega arith) (omega arith)
 
 -- the lists of uses and literals are equally long
-pub uses_grown : (g : Grammar) (edit : Edit) (uses : List ℕ) (fresh : List FreshSymbol) → IsWellFormed g → AreFreshFor g edit fresh → AreUses g.symbols g.rules uses
+pub uses_grown : (g : Grammar) (edit : Edit) (uses : List ℕ) (fresh : List FreshSymbol) → IsWellFormed g → AreFreshFor g edit fresh
+    → AreUses g.symbols g.rules uses
     → AreUses (after g edit).symbols g.rules (uses_with uses fresh)
 uses_grown g edit uses fresh well are_fresh are =
     let symbols = g.symbols ++ map (λ (one : FreshSymbol). one.symbol) fresh in
-    let long : length symbols ≡ length g.symbols + length fresh = length-append g.symbols (map (λ (one : FreshSymbol). one.symbol) fresh) ∙ ap (λ n. length g.symbols + n) (length-map fresh (λ (one : FreshSymbol). one.symbol)) in
+    let long : length symbols ≡ length g.symbols + length fresh = length-append g.symbols (map (λ (one : FreshSymbol). one.symbol) fresh) ∙ ap
+        (λ n. length g.symbols + n) (length-map fresh (λ (one : FreshSymbol). one.symbol)) in
     rw are_fresh.symbols (record {
       len = length-append uses (map (λ one. 0) fresh) ∙ omega (arith, length-map fresh (λ (one : FreshSymbol). zero), long, are.len);
       counts = λ place within. elim (cases_lt place (length g.symbols)) [
         | inl less ↦ get_left uses (map (λ one. 0) fresh) place (omega (arith, are.len)) ∙ are.counts place less
-        | inr more ↦ get_right uses fresh place (omega (arith, are.len)) (omega (arith, are.len, long)) ∙ ap Some (sym (counted_beyond g.symbols g.rules (record { 0 = place }) well.rights more))
+        | inr more ↦ get_right uses fresh place (omega (arith, are.len)) (omega (arith, are.len, long)) ∙ ap Some
+            (sym (counted_beyond g.symbols g.rules (record { 0 = place }) well.rights more))
       ];
     })
 
@@ -113,7 +122,8 @@ uses_rule_added g r grown new right well accepted are right-is len counts = reco
   counts = λ place within.
       let s : SymbolId = record { 0 = place } in
       let rule : Rule = numbered (after g (AddRule r)).symbols (g.version + 1) r in
-      counts place ∙ ap (option_map (λ n. n + occurrences s right)) (are.counts place within) ∙ ap Some (ap (λ parts. all_occurrences s g.rules + occurrences s parts) right-is ∙ sym (counted_push s g.rules rule));
+      counts place ∙ ap (option_map (λ n. n + occurrences s right)) (are.counts place within) ∙ ap Some
+          (ap (λ parts. all_occurrences s g.rules + occurrences s parts) right-is ∙ sym (counted_push s g.rules rule));
 }
 
 pub uses_rule_dropped : (g : Grammar) (r : RuleText) (uses new : List ℕ) (live : Rule) → IsWellFormed g → IsAccepted g (DropRule r) → rule_found g r ≡ Some live
@@ -148,40 +158,47 @@ by_grown g uses literals fresh long (literal s) = (
     )
     | inr more ↦
         let within = slice_get_within (uses_with uses fresh) s.0 count there in
-        let none = get_right uses fresh s.0 more (omega (arith, within, length-append uses (map (λ one. 0) fresh), length-map fresh (λ (one : FreshSymbol). zero))) in
+        let none = get_right uses fresh s.0 more (omega (arith, within, length-append uses (map (λ one. 0) fresh),
+            length-map fresh (λ (one : FreshSymbol). zero))) in
         let same : count ≡ 0 = cc in
         absurd (omega (arith, same, some))
   ],
 )
 
 -- a list by the lists that are kept is one by the grammar
-pub live_from : (g : Grammar) (uses : List ℕ) (literals : List (Option Table)) (live : List DefId) → IsWellFormed g → AreUses g.symbols g.rules uses → AreLiterals g.symbols literals
+pub live_from : (g : Grammar) (uses : List ℕ) (literals : List (Option Table)) (live : List DefId) → IsWellFormed g → AreUses g.symbols g.rules uses
+    → AreLiteralTables g.symbols literals
     → ListsDefinitions (IsLiveBy literals uses (numbers_in g.definitions)) live → ListsDefinitions (IsLive g) live
 live_from g uses literals live well are_uses are_literals lists =
     lists_same _ _ live (λ d. let same = live_by g uses literals well are_uses are_literals d in (same.1, same.0)) lists
 
 -- and the other way
-pub live_to : (g : Grammar) (uses : List ℕ) (literals : List (Option Table)) (live : List DefId) → IsWellFormed g → AreUses g.symbols g.rules uses → AreLiterals g.symbols literals
+pub live_to : (g : Grammar) (uses : List ℕ) (literals : List (Option Table)) (live : List DefId) → IsWellFormed g → AreUses g.symbols g.rules uses
+    → AreLiteralTables g.symbols literals
     → ListsDefinitions (IsLive g) live → ListsDefinitions (IsLiveBy literals uses (numbers_in g.definitions)) live
 live_to g uses literals live well are_uses are_literals lists = lists_same _ _ live (λ d. live_by g uses literals well are_uses are_literals d) lists
 
 -- with fresh symbols nothing else is live
-pub live_grown : (g : Grammar) (edit : Edit) (uses : List ℕ) (literals : List (Option Table)) (fresh : List FreshSymbol) (live : List DefId) → IsWellFormed g → AreFreshFor g edit fresh
-    → AreUses g.symbols g.rules uses → AreLiterals g.symbols literals → ListsDefinitions (IsLive g) live
+pub live_grown : (g : Grammar) (edit : Edit) (uses : List ℕ) (literals : List (Option Table)) (fresh : List FreshSymbol) (live : List DefId) → IsWellFormed g
+    → AreFreshFor g edit fresh
+    → AreUses g.symbols g.rules uses → AreLiteralTables g.symbols literals → ListsDefinitions (IsLive g) live
     → ListsDefinitions (IsLiveBy (literals_with literals fresh) (uses_with uses fresh) (numbers_in g.definitions)) live
 live_grown g edit uses literals fresh live well are_fresh are_uses are_literals lists =
     let long : length uses ≡ length literals = are_uses.len ∙ same_length g.symbols literals are_literals in
     lists_same _ _ live (by_grown g uses literals fresh long) (live_to g uses literals live well are_uses are_literals lists)
 
-pub live_definition_added : (g : Grammar) (skip : Bool) (d : DefText) (old new : List DefId) → IsWellFormed g → IsAccepted g (adds skip d) → ListsDefinitions (IsLive g) old
-    → ListsDefinitions (λ other. Contains old other ⊎ (other ≡ named (record { 0 = g.version + 1 }))) new → ListsDefinitions (IsLive (after g (adds skip d))) new
+pub live_definition_added : (g : Grammar) (skip : Bool) (d : DefText) (old new : List DefId) → IsWellFormed g → IsAccepted g (adds skip d)
+    → ListsDefinitions (IsLive g) old
+    → ListsDefinitions (λ other. Contains old other ⊎ (other ≡ named (record { 0 = g.version + 1 }))) new
+        → ListsDefinitions (IsLive (after g (adds skip d))) new
 live_definition_added g skip d old new well accepted lists added = lists_same _ _ new (λ other.
     let live = live_added g skip d well other in (
       λ w. live.1 (elim w [ inl c ↦ inl ((lists.members other).0 c) | inr e ↦ inr e ]),
       λ now. elim (live.0 now) [ inl before ↦ inl ((lists.members other).1 before) | inr e ↦ inr e ],
     )) added
 
-pub live_definition_dropped : (g : Grammar) (skip : Bool) (name : List ℕ) (gone : Definition) (old new : List DefId) → IsWellFormed g → IsAccepted g (drops skip name)
+pub live_definition_dropped : (g : Grammar) (skip : Bool) (name : List ℕ) (gone : Definition) (old new : List DefId) → IsWellFormed g
+    → IsAccepted g (drops skip name)
     → definition_found g skip name ≡ Some gone → ListsDefinitions (IsLive g) old
     → ListsDefinitions (λ other. Contains old other × (other ≡ named gone.number → ⊥)) new → ListsDefinitions (IsLive (after g (drops skip name))) new
 live_definition_dropped g skip name gone old new well accepted found lists dropped = lists_same _ _ new (λ other.

@@ -1,5 +1,6 @@
 -- The literals that a rule brings.
-use Rattle.std.proofs.Common.{◌≡◌, ℕ, zero, suc, ◌+◌, ◌-◌, ◌<◌, ◌≤◌, inl, inr, List, [], ◌∷◌, ◌++◌, length, get_or, drop, map, Bool, true, false, not, cond, slice_get, Some, refl, ap, sym, ◌∙◌, subst, arith, Contains}
+use Rattle.std.proofs.Common.{◌≡◌, ℕ, zero, suc, ◌+◌, ◌-◌, ◌<◌, ◌≤◌, inl, inr, List, [], ◌∷◌, ◌++◌, length, get_or, drop, map, Bool, true, false, not, cond}
+use Rattle.std.proofs.Common.{slice_get, Some, refl, ap, sym, ◌∙◌, subst, arith, Contains}
 use Rattle.std.specs.List.{list_any}
 use Rattle.std.proofs.lemmas.Bool.{or_cases, or_left, or_right}
 use Rattle.std.proofs.lemmas.List.{get_or-append-add}
@@ -59,11 +60,13 @@ literal_some (x ∷ xs) zero e = or_left (is_literal x) (list_any is_literal xs)
 literal_some (x ∷ xs) (suc k) e = or_right (is_literal x) (list_any is_literal xs) (literal_some xs k e)
 
 -- a literal behind the old symbols is fresh
-pub is_fresh_literal : (old fresh : List Symbol) (s : SymbolId) → length old ≤ s.0 → is_literal (symbol_at (old ++ fresh) s) ≡ true → list_any is_literal fresh ≡ true
+pub is_fresh_literal : (old fresh : List Symbol) (s : SymbolId) → length old ≤ s.0 → is_literal (symbol_at (old ++ fresh) s) ≡ true
+    → list_any is_literal fresh ≡ true
 is_fresh_literal old fresh s more e =
     let k = s.0 - length old in
     let place : length old + k ≡ s.0 = omega arith in
-    let same : get_or (old ++ fresh) s.0 (Named []) ≡ get_or fresh k (Named []) = ap (λ n. get_or (old ++ fresh) n (Named [])) (sym place) ∙ get_or-append-add old fresh k (Named []) in
+    let same : get_or (old ++ fresh) s.0 (Named []) ≡ get_or fresh k (Named []) = ap (λ n. get_or (old ++ fresh) n (Named [])) (sym place)
+        ∙ get_or-append-add old fresh k (Named []) in
     literal_some fresh k (ap is_literal (sym same) ∙ e)
 
 -- a literal of the rule that is new
@@ -77,14 +80,16 @@ grown_after : (g : Grammar) (r : RuleText) → Grown g.symbols (symbols_of (AddR
 unfolding after
 grown_after g r = with_symbols-grown g.symbols (symbols_of (AddRule r))
 
-pub fresh_literal : (g : Grammar) (r : RuleText) (fresh : List FreshSymbol) → AreFreshFor g (AddRule r) fresh → list_any is_literal (symbols_in fresh) ≡ true → FreshLiteral g r
+pub fresh_literal : (g : Grammar) (r : RuleText) (fresh : List FreshSymbol) → AreFreshFor g (AddRule r) fresh → list_any is_literal (symbols_in fresh) ≡ true
+    → FreshLiteral g r
 fresh_literal g r fresh are_fresh some =
     let one = some_literal (symbols_in fresh) some in
     let y : Symbol = one.0 in
     let symbols = (after g (AddRule r)).symbols in
     let grown = grown_after g r in
     let same : grown.more ≡ symbols_in fresh =
-    sym (drop-append_seam g.symbols grown.more) ∙ ap (drop (length g.symbols)) (sym grown.is ∙ are_fresh.symbols) ∙ drop-append_seam g.symbols (symbols_in fresh) in
+    sym (drop-append_seam g.symbols grown.more) ∙ ap (drop (length g.symbols)) (sym grown.is ∙ are_fresh.symbols) ∙ drop-append_seam g.symbols
+        (symbols_in fresh) in
     let more : Contains grown.more y = subst (λ ss. Contains ss y) (sym same) one.1 in
     let there : Contains symbols y = subst (λ ss. Contains ss y) (sym are_fresh.symbols) (Contains-append_right g.symbols (symbols_in fresh) y one.1) in
     let at : slice_get symbols (place_of symbols y) ≡ Some y = at_place symbols y (placed symbols y there) in
@@ -98,6 +103,7 @@ fresh_literal g r fresh are_fresh some =
       used = contains_map (number_of symbols) r.right y right;
       absent = λ less.
           let old : get_or g.symbols (place_of symbols y) y ≡ y =
-          sym (get_or-append g.symbols (symbols_in fresh) y (place_of symbols y) less) ∙ ap (λ ss. get_or ss (place_of symbols y) y) (sym are_fresh.symbols) ∙ get_or_from_slice_get symbols (place_of symbols y) y y at in
+          sym (get_or-append g.symbols (symbols_in fresh) y (place_of symbols y) less) ∙ ap (λ ss. get_or ss (place_of symbols y) y) (sym are_fresh.symbols)
+              ∙ get_or_from_slice_get symbols (place_of symbols y) y y at in
           grown.absent y more (place_of symbols y, less, old);
     }

@@ -1,5 +1,6 @@
 -- Which symbols an edit brings.
-use Rattle.std.proofs.Common.{◌≡◌, ◌+◌, ◌<◌, ◌⊎◌, inl, inr, List, [], ◌∷◌, ◌++◌, length, Bool, true, false, not, cond, nat_lt, slice_get, Some, if◌then◌else◌, refl, ap, sym, ◌∙◌, subst, arith, append_assoc, append-nil, one-add, Contains}
+use Rattle.std.proofs.Common.{◌≡◌, ◌+◌, ◌<◌, ◌⊎◌, inl, inr, List, [], ◌∷◌, ◌++◌, length, Bool, true, false, not, cond, nat_lt, slice_get, Some, if◌then◌else◌}
+use Rattle.std.proofs.Common.{refl, ap, sym, ◌∙◌, subst, arith, append_assoc, append-nil, one-add, Contains}
 use Rattle.std.proofs.lemmas.Bool.{ltb-false, ltb-true}
 use Rattle.std.proofs.lemmas.Option.{get_or_from_slice_get}
 use Rattle.std.proofs.lemmas.List.Elements.{Contains-append_left, Contains-append_right, Contains-append_cases}
@@ -15,7 +16,8 @@ pub placed : (symbols : List Symbol) (s : Symbol) → Contains symbols s → pla
 placed [] s c = absurd (contains_none s c)
 placed (x ∷ xs) s c = by (symbol_eq s x) refl (contains_cases x xs s c) (λ d. placed xs s d)
   where
-    by : (b : Bool) → symbol_eq s x ≡ b → (x ≡ s) ⊎ Contains xs s → (Contains xs s → place_of xs s < length xs) → cond (not b) (1 + place_of xs s) 0 < length (x ∷ xs)
+    by : (b : Bool) → symbol_eq s x ≡ b → (x ≡ s) ⊎ Contains xs s → (Contains xs s → place_of xs s < length xs)
+        → cond (not b) (1 + place_of xs s) 0 < length (x ∷ xs)
     by true is there rest = omega arith
     by false is (inl e) rest = let same : symbol_eq s x ≡ true = (symbol_eq-decides s x).1 (sym e) in absurd cc
     by false is (inr d) rest = omega (arith, rest d)
@@ -25,7 +27,8 @@ pub at_place : (symbols : List Symbol) (s : Symbol) → place_of symbols s < len
 at_place [] s there = absurd (omega arith)
 at_place (first ∷ others) s there = by (symbol_eq s first) refl (at_place others s) there
   where
-    by : (same : Bool) → symbol_eq s first ≡ same → (place_of others s < length others → slice_get others (place_of others s) ≡ Some s) → cond (not same) (1 + place_of others s) 0 < length (first ∷ others)
+    by : (same : Bool) → symbol_eq s first ≡ same → (place_of others s < length others → slice_get others (place_of others s) ≡ Some s)
+        → cond (not same) (1 + place_of others s) 0 < length (first ∷ others)
         → slice_get (first ∷ others) (cond (not same) (1 + place_of others s) 0) ≡ Some s
     by true is rest less = ap Some (sym ((symbol_eq-decides s first).0 is))
     by false is rest less = rw (one-add (place_of others s)) (rest (omega arith))
@@ -49,7 +52,8 @@ with_symbol-grown symbols x = by (nat_lt (place_of symbols x) (length symbols)) 
       is = refl;
       known = λ s c. c;
       absent = λ s c d. elim (contains_cases x [] s c) [
-        | inl e ↦ let less = placed symbols x (subst (Contains symbols) (sym e) d) in absurd (omega (arith, less, ltb-false (place_of symbols x) (length symbols) is))
+        | inl e ↦ let less = placed symbols x (subst (Contains symbols) (sym e) d) in
+            absurd (omega (arith, less, ltb-false (place_of symbols x) (length symbols) is))
         | inr none ↦ contains_none s none
       ];
     }
@@ -63,7 +67,8 @@ with_symbols-grown symbols (x ∷ xs) =
       more = one.more ++ rest.more;
       is = rest.is ∙ ap (λ ss. ss ++ rest.more) one.is ∙ append_assoc symbols one.more rest.more;
       known = λ s c. elim (Contains-append_cases one.more rest.more s c) [
-        | inl d ↦ elim (contains_cases x [] s (one.known s d)) [ inl e ↦ subst (Contains (x ∷ xs)) e (contains_first x xs) | inr none ↦ absurd (contains_none s none) ]
+        | inl d ↦ elim (contains_cases x [] s (one.known s d)) [ inl e ↦ subst (Contains (x ∷ xs)) e (contains_first x xs) | inr none ↦
+            absurd (contains_none s none) ]
         | inr d ↦ contains_later x xs s (rest.known s d)
       ];
       absent = λ s c there. elim (Contains-append_cases one.more rest.more s c) [
@@ -87,6 +92,7 @@ with_symbols-has symbols [] s c = absurd (contains_none s c)
 with_symbols-has symbols (x ∷ xs) s c = elim (contains_cases x xs s c) [
   | inl e ↦
       let rest = with_symbols-grown (with_symbol symbols x) xs in
-      subst (Contains (with_symbols symbols (x ∷ xs))) e (subst (λ ss. Contains ss x) (sym rest.is) (Contains-append_left (with_symbol symbols x) rest.more x (with_symbol-has symbols x)))
+      subst (Contains (with_symbols symbols (x ∷ xs))) e (subst (λ ss. Contains ss x) (sym rest.is) (Contains-append_left (with_symbol symbols x) rest.more x
+          (with_symbol-has symbols x)))
   | inr d ↦ with_symbols-has (with_symbol symbols x) xs s d
 ]

@@ -1,5 +1,6 @@
 -- What is found by number in a list that ascends by number.
-use Rattle.std.proofs.Common.{◌≡◌, ℕ, zero, suc, ◌<◌, ◌≤◌, ◌==◌, inl, inr, List, [], ◌∷◌, length, map, filter, not, Bool, true, get_or, slice_get, Option, Some, None, option_map, Result, Ok, Err, refl, sym, ap, ◌∙◌, arith, Contains, subst}
+use Rattle.std.proofs.Common.{◌≡◌, ℕ, zero, suc, ◌<◌, ◌≤◌, ◌==◌, inl, inr, List, [], ◌∷◌, length, map, filter, not, Bool, true, get_or, slice_get, Option, Some}
+use Rattle.std.proofs.Common.{None, option_map, Result, Ok, Err, refl, sym, ap, ◌∙◌, arith, Contains, subst}
 use Rattle.std.specs.List.{AllByRecursion, AllPairs, find, remove}
 use Rattle.std.specs.List.Sorted.{IsStrictlySortedBy, IsStrictlyIncreasing, IsSearchInRange, IsBinarySearchResult, IsNonDecreasingBy}
 use Rattle.std.specs.Ordering.{nat_cmp, ordering_index}
@@ -13,7 +14,8 @@ use Rattle.std.proofs.lemmas.Map.Keys.{Less-from_sorted}
 use Rattle.std.proofs.lemmas.Map.Lookups.{exact_unsigned}
 use Rattle.std.proofs.lemmas.Option.{slice_get_cases, slice_get-map, slice_get_read, slice_get_within, get_or_from_slice_get}
 use Rattle.forest.specs.Distinct.{IsDistinct}
-use Rattle.edit_log.proofs.PlainLists.{each_contained, all_also, found, none_found, all_contained, find_only, find_none, contains_at, contains_map, distinct_map, by_key, nat_cmp_less, sorted_keys}
+use Rattle.edit_log.proofs.PlainLists.{each_contained, all_also, found, none_found, all_contained, find_only, find_none, contains_at, contains_map}
+use Rattle.edit_log.proofs.PlainLists.{distinct_map, by_key, nat_cmp_less, sorted_keys}
 
 -- ---- a binary search
 
@@ -24,7 +26,8 @@ module _ {X : Type 0} (key : X → ℕ) (xs : List X) (sorted : IsStrictlySorted
   along : IsNonDecreasingBy (λ y. ordering_index (nat_cmp (key y) n)) xs
   along i j d up within = elim (cases_lt i j) [
     | inl less ↦
-        let rises : key (get_or xs i d) < key (get_or xs j d) = nat_cmp_less (key (get_or xs i d)) (key (get_or xs j d)) (Less-from_sorted (by_key key) xs i j d sorted less within) in
+        let rises : key (get_or xs i d) < key (get_or xs j d) = nat_cmp_less (key (get_or xs i d)) (key (get_or xs j d))
+            (Less-from_sorted (by_key key) xs i j d sorted less within) in
         index_rises (key (get_or xs i d)) (key (get_or xs j d)) n (omega arith)
     | inr more ↦ let same : i ≡ j = omega arith in rw same (omega arith)
   ]
@@ -43,7 +46,8 @@ module _ {X : Type 0} (key : X → ℕ) (xs : List X) (sorted : IsStrictlySorted
         | inr above ↦ let more : nat_cmp (key (get_or xs k y)) n ≡ Greater = (h along).1 k y above within in absurd cc
       ]
 
-  pub searched : (r : Result ℕ ℕ) → IsSearchInRange r (length xs) → IsBinarySearchResult (λ y. nat_cmp (key y) n) xs r → option_map (λ place. slice_get xs place) (result_ok r) ≡ option_map Some (find (λ y. key y == n) xs)
+  pub searched : (r : Result ℕ ℕ) → IsSearchInRange r (length xs) → IsBinarySearchResult (λ y. nat_cmp (key y) n) xs r
+      → option_map (λ place. slice_get xs place) (result_ok r) ≡ option_map Some (find (λ y. key y == n) xs)
   searched (Ok at) range h = elim (slice_get_cases xs at).1 [
     | inl (x, within, is, same) ↦
         let equal : key x ≡ n = ap key (sym same) ∙ exact_unsigned (key (get_or xs at x)) n (h x) in
@@ -57,7 +61,8 @@ module _ {X : Type 0} (key : X → ℕ) (xs : List X) (sorted : IsStrictlySorted
   there_found (Ok at) y there same h = (at, refl)
   there_found (Err at) y there same h = absurd (absent at h y there same)
 
-  pub there_at : (at : ℕ) (y : X) → Contains xs y → key y ≡ n → at < length xs → IsBinarySearchResult (λ y. nat_cmp (key y) n) xs (Ok at) → slice_get xs at ≡ Some y
+  pub there_at : (at : ℕ) (y : X) → Contains xs y → key y ≡ n → at < length xs → IsBinarySearchResult (λ y. nat_cmp (key y) n) xs (Ok at)
+      → slice_get xs at ≡ Some y
   there_at at y there same range h = elim (slice_get_cases xs at).1 [
     | inl (x, within, is, here) ↦
         let equal : key x ≡ n = ap key (sym here) ∙ exact_unsigned (key (get_or xs at x)) n (h x) in
@@ -84,25 +89,30 @@ no_place None e = refl
 no_place (Some x) e = absurd cc
 
 -- the same of an answer that is known to be the place, or none
-pub found_in : {X : Type 0} (test : X → Bool) (xs : List X) (answer : Option ℕ) (place : ℕ) → answer ≡ Some place → option_map (λ place. slice_get xs place) answer ≡ option_map Some (find test xs) → IsFoundAt test xs place
+pub found_in : {X : Type 0} (test : X → Bool) (xs : List X) (answer : Option ℕ) (place : ℕ) → answer ≡ Some place
+    → option_map (λ place. slice_get xs place) answer ≡ option_map Some (find test xs) → IsFoundAt test xs place
 found_in test xs answer place is e = some_found test xs place (ap (option_map (λ place. slice_get xs place)) (sym is) ∙ e)
 
-pub none_in : {X : Type 0} (test : X → Bool) (xs : List X) (answer : Option ℕ) → answer ≡ None → option_map (λ place. slice_get xs place) answer ≡ option_map Some (find test xs) → find test xs ≡ None
+pub none_in : {X : Type 0} (test : X → Bool) (xs : List X) (answer : Option ℕ) → answer ≡ None
+    → option_map (λ place. slice_get xs place) answer ≡ option_map Some (find test xs) → find test xs ≡ None
 none_in test xs answer is e = no_place (find test xs) (ap (option_map (λ place. slice_get xs place)) (sym is) ∙ e)
 
 -- ---- numbers that ascend
 
-pub sorted_map : {X Y : Type 0} (f : X → Y) (key : Y → ℕ) (xs : List X) → IsStrictlySortedBy (by_key key) (map f xs) → IsStrictlySortedBy (by_key (λ x. key (f x))) xs
+pub sorted_map : {X Y : Type 0} (f : X → Y) (key : Y → ℕ) (xs : List X) → IsStrictlySortedBy (by_key key) (map f xs)
+    → IsStrictlySortedBy (by_key (λ x. key (f x))) xs
 unfolding IsStrictlySortedBy
 sorted_map f key [] sorted = tt
-sorted_map f key (x ∷ xs) sorted = (all_contained _ xs (λ y there. each_contained _ (map f xs) (f y) sorted.0 (contains_map f xs y there)), sorted_map f key xs sorted.1)
+sorted_map f key (x ∷ xs) sorted = (all_contained _ xs (λ y there. each_contained _ (map f xs) (f y) sorted.0 (contains_map f xs y there)),
+    sorted_map f key xs sorted.1)
 
 sorted_pairs : {X : Type 0} (key : X → ℕ) (xs : List X) → AllPairs (λ a b. a < b) (map key xs) → IsStrictlySortedBy (by_key key) xs
 unfolding IsStrictlySortedBy
 sorted_pairs key [] pairs = tt
 sorted_pairs key (x ∷ xs) pairs = (
   all_contained _ xs (λ y (k, within, is).
-      let at : slice_get (map key xs) k ≡ Some (key y) = slice_get-map key xs k ∙ ap (option_map key) (slice_get_read xs (length xs) k y refl within (sym is)) in
+      let at : slice_get (map key xs) k ≡ Some (key y) = slice_get-map key xs k ∙ ap (option_map key)
+          (slice_get_read xs (length xs) k y refl within (sym is)) in
       let less : key x < get_or (map key xs) k 0 = pairs 0 (suc k) 0 (omega arith) (omega (arith, slice_get_within (map key xs) k (key y) at)) in
       let same : get_or (map key xs) k 0 ≡ key y = get_or_from_slice_get (map key xs) k (key y) 0 at in
       rw (lt-ltb (key x) (key y) (omega arith)) refl),
@@ -122,7 +132,8 @@ pub nothing_removed : {X : Type 0} (key : X → ℕ) (n : ℕ) (xs : List X) →
 nothing_removed key n xs none = sym (filter_all (λ y. not (key y == n)) xs (all_also _ _ xs (λ y no. ap not no) (none_found (λ y. key y == n) xs none)))
 
 -- without the element at a place the others are left
-pub removed : {X : Type 0} (key : X → ℕ) (xs : List X) (i : ℕ) (x : X) → IsDistinct (map key xs) → slice_get xs i ≡ Some x → remove xs i ≡ filter (λ y. not (key y == key x)) xs
+pub removed : {X : Type 0} (key : X → ℕ) (xs : List X) (i : ℕ) (x : X) → IsDistinct (map key xs) → slice_get xs i ≡ Some x
+    → remove xs i ≡ filter (λ y. not (key y == key x)) xs
 removed key [] i x apart at = absurd (omega (arith, slice_get_within [] i x at))
 removed key (y ∷ ys) zero x apart at =
     let same : y ≡ x = cc in
@@ -135,7 +146,8 @@ removed key (y ∷ ys) (suc i) x apart at =
     rw (ne_eqb (key y) (key x) other) (ap (λ rest. y ∷ rest) (removed key ys i x apart.1 at))
 
 -- without the one that is found
-pub found_removed : {X : Type 0} (key : X → ℕ) (n : ℕ) (xs : List X) (place : ℕ) → IsStrictlySortedBy (by_key key) xs → IsFoundAt (λ y. key y == n) xs place → remove xs place ≡ filter (λ y. not (key y == n)) xs
+pub found_removed : {X : Type 0} (key : X → ℕ) (n : ℕ) (xs : List X) (place : ℕ) → IsStrictlySortedBy (by_key key) xs → IsFoundAt (λ y. key y == n) xs place
+    → remove xs place ≡ filter (λ y. not (key y == n)) xs
 found_removed key n xs place sorted h =
     let passes = (found (λ y. key y == n) xs h.item h.found).passes in
     removed key xs place h.item (sorted_keys key xs sorted) h.at ∙ ap (λ m. filter (λ y. not (key y == m)) xs) (eqb-true (key h.item) n passes)

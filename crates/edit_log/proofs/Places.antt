@@ -1,5 +1,7 @@
 -- The places of symbols in a list that grows.
-use Rattle.std.proofs.Common.{◌≡◌, ℕ, zero, suc, inl, inr, Contains, ◌+◌, ◌<◌, ◌≤◌, List, [], ◌∷◌, ◌++◌, length, map, take, Bool, true, false, not, ◌||◌, cond, nat_lt, position, slice_get, Some, None, if◌then◌else◌, refl, ap, sym, ◌∙◌, arith, append_assoc, append-nil, length-append, length-take, one-add}
+use Rattle.std.proofs.Common.{◌≡◌, ℕ, zero, suc, inl, inr, Contains, ◌+◌, ◌<◌, ◌≤◌, List, [], ◌∷◌, ◌++◌, length, map, take, Bool, true, false, not, ◌||◌, cond}
+use Rattle.std.proofs.Common.{nat_lt, position, slice_get, Some, None, if◌then◌else◌, refl, ap, sym, ◌∙◌, arith, append_assoc, append-nil, length-append}
+use Rattle.std.proofs.Common.{length-take, one-add}
 use Rattle.std.specs.List.{position_or_len, list_any, AllByRecursion}
 use Rattle.indexmap.specs.IndexSet.{insert_key}
 use Rattle.std.proofs.lemmas.List.{map-append}
@@ -19,10 +21,12 @@ pub place_of-within : (symbols : List Symbol) (s : Symbol) → place_of symbols 
 place_of-within symbols s = prefix_len-le-length _ symbols
 
 -- a symbol that no place has gets the next one
-pub place_of-push : (symbols keys : List Symbol) (s : Symbol) → position (symbol_eq s) symbols ≡ None → keys ≡ symbols ++ s ∷ [] → place_of keys s ≡ length symbols
+pub place_of-push : (symbols keys : List Symbol) (s : Symbol) → position (symbol_eq s) symbols ≡ None → keys ≡ symbols ++ s ∷ []
+    → place_of keys s ≡ length symbols
 place_of-push symbols keys s none keys-is = by (nat_lt (place_of symbols s) (length symbols)) refl none
   where
-    by : (there : Bool) → nat_lt (place_of symbols s) (length symbols) ≡ there → cond there (Some (place_of symbols s)) None ≡ None → place_of keys s ≡ length symbols
+    by : (there : Bool) → nat_lt (place_of symbols s) (length symbols) ≡ there → cond there (Some (place_of symbols s)) None ≡ None
+        → place_of keys s ≡ length symbols
     by true is none = cc
     by false is none =
         let same : symbol_eq s s ≡ true = (symbol_eq-decides s s).1 refl in
@@ -42,7 +46,8 @@ any_none {X} test (x ∷ xs) e = by (test x) refl (any_none test xs) e
 pub insert_key-new : (symbols : List Symbol) (s : Symbol) → position (symbol_eq s) symbols ≡ None → insert_key symbol_eq symbols s ≡ symbols ++ s ∷ []
 insert_key-new symbols s none = by (nat_lt (place_of symbols s) (length symbols)) refl none
   where
-    by : (there : Bool) → nat_lt (place_of symbols s) (length symbols) ≡ there → cond there (Some (place_of symbols s)) None ≡ None → insert_key symbol_eq symbols s ≡ symbols ++ s ∷ []
+    by : (there : Bool) → nat_lt (place_of symbols s) (length symbols) ≡ there → cond there (Some (place_of symbols s)) None ≡ None
+        → insert_key symbol_eq symbols s ≡ symbols ++ s ∷ []
     by true is none = cc
     by false is none = rw (any_none (symbol_eq s) symbols (ltb-false (place_of symbols s) (length symbols) is)) refl
 
@@ -57,7 +62,8 @@ pub place_of-append : (symbols more : List Symbol) (s : Symbol) → IsPlaced sym
 place_of-append [] more s there = absurd (omega arith)
 place_of-append (first ∷ others) more s there = by (symbol_eq s first) (place_of-append others more s) there
   where
-    by : (same : Bool) → (IsPlaced others s → place_of (others ++ more) s ≡ place_of others s) → cond (not same) (1 + place_of others s) 0 < length (first ∷ others)
+    by : (same : Bool) → (IsPlaced others s → place_of (others ++ more) s ≡ place_of others s)
+        → cond (not same) (1 + place_of others s) 0 < length (first ∷ others)
         → cond (not same) (1 + place_of (others ++ more) s) 0 ≡ cond (not same) (1 + place_of others s) 0
     by true rest less = refl
     by false rest less = ap (λ n. 1 + n) (rest (omega arith))
@@ -70,7 +76,8 @@ pub place_of-get : (symbols : List Symbol) (s : Symbol) → IsPlaced symbols s �
 place_of-get [] s there = absurd (omega arith)
 place_of-get (first ∷ others) s there = by (symbol_eq s first) refl (place_of-get others s) there
   where
-    by : (same : Bool) → symbol_eq s first ≡ same → (IsPlaced others s → slice_get others (place_of others s) ≡ Some s) → cond (not same) (1 + place_of others s) 0 < length (first ∷ others)
+    by : (same : Bool) → symbol_eq s first ≡ same → (IsPlaced others s → slice_get others (place_of others s) ≡ Some s)
+        → cond (not same) (1 + place_of others s) 0 < length (first ∷ others)
         → slice_get (first ∷ others) (cond (not same) (1 + place_of others s) 0) ≡ Some s
     by true is rest less = ap Some (sym ((symbol_eq-decides s first).0 is))
     by false is rest less = rw (one-add (place_of others s)) (rest (omega arith))
@@ -96,7 +103,8 @@ with_symbol-placed symbols s = by (nat_lt (place_of symbols s) (length symbols))
     by false is =
         let same : symbol_eq s s ≡ true = (symbol_eq-decides s s).1 refl in
         let last : place_of symbols s ≡ length symbols = omega (arith, ltb-false (place_of symbols s) (length symbols) is, place_of-within symbols s) in
-        let place : place_of (symbols ++ s ∷ []) s ≡ length symbols = position_or_len_push (symbol_eq s) symbols s ∙ rw (eq-eqb (place_of symbols s) (length symbols) last, same) (omega arith) in
+        let place : place_of (symbols ++ s ∷ []) s ≡ length symbols = position_or_len_push (symbol_eq s) symbols s ∙ rw
+            (eq-eqb (place_of symbols s) (length symbols) last, same) (omega arith) in
         rw place (omega (arith, length-append symbols (s ∷ [])))
 
 pub with_symbols-push : (symbols xs : List Symbol) (s : Symbol) → with_symbols symbols (xs ++ s ∷ []) ≡ with_symbol (with_symbols symbols xs) s
@@ -122,7 +130,8 @@ pub ArePlaced-grow : (old new : List Symbol) (room : ℕ) (xs : List Symbol) →
 ArePlaced-grow old new room [] grows placed = tt
 ArePlaced-grow old new room (x ∷ xs) grows placed = (rw grows.is (IsPlaced-append old grows.more x placed.0), ArePlaced-grow old new room xs grows placed.1)
 
-pub numbers-grow : (old new : List Symbol) (room : ℕ) (xs : List Symbol) → Grows old new room → ArePlaced old xs → map (number_of new) xs ≡ map (number_of old) xs
+pub numbers-grow : (old new : List Symbol) (room : ℕ) (xs : List Symbol) → Grows old new room → ArePlaced old xs
+    → map (number_of new) xs ≡ map (number_of old) xs
 numbers-grow old new room [] grows placed = refl
 numbers-grow old new room (x ∷ xs) grows placed =
     let first : place_of new x ≡ place_of old x = rw grows.is (place_of-append old grows.more x placed.0) in
@@ -156,7 +165,8 @@ numbered_more before symbols after xs s numbers number so_far known is =
           (λ i. old i ++ is i ∷ []) ∙ sym (map-append (number_of after) xs (s ∷ []));
     }
 
-pub few_numbered : (before symbols right : List Symbol) (i : ℕ) (numbers : List SymbolId) → AreNumbered before symbols (take i right) numbers → length symbols ≤ length before + i
+pub few_numbered : (before symbols right : List Symbol) (i : ℕ) (numbers : List SymbolId) → AreNumbered before symbols (take i right) numbers
+    → length symbols ≤ length before + i
 few_numbered before symbols right i numbers so_far =
     let grows = with_symbols-grows before (take i right) in
     rw (so_far.known, grows.is) (omega (arith, length-append before grows.more, grows.few, length-take i right))
@@ -217,7 +227,8 @@ with_symbols-distinct symbols [] apart = apart
 with_symbols-distinct symbols (x ∷ xs) apart = with_symbols-distinct (with_symbol symbols x) xs (with_symbol-distinct symbols x apart)
 
 -- a symbol that is there keeps its number
-pub number_stays : (middle symbols xs : List Symbol) (s : Symbol) → IsPlaced middle s → symbols ≡ with_symbols middle xs → number_of symbols s ≡ number_of middle s
+pub number_stays : (middle symbols xs : List Symbol) (s : Symbol) → IsPlaced middle s → symbols ≡ with_symbols middle xs
+    → number_of symbols s ≡ number_of middle s
 number_stays middle symbols xs s placed is =
     let grows = with_symbols-grows middle xs in
     let same : place_of symbols s ≡ place_of middle s = ap (λ ss. place_of ss s) (is ∙ grows.is) ∙ place_of-append middle grows.more s placed in

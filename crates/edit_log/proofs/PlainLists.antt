@@ -1,5 +1,6 @@
 -- Facts about plain lists.
-use Rattle.std.proofs.Common.{◌≡◌, ℕ, zero, suc, ◌<◌, inl, inr, List, [], ◌∷◌, ◌++◌, map, filter, Bool, true, false, cond, ltb, eqb, Some, None, slice_get, refl, sym, ap, subst, ◌∙◌, arith, Contains}
+use Rattle.std.proofs.Common.{◌≡◌, ℕ, zero, suc, ◌<◌, inl, inr, List, [], ◌∷◌, ◌++◌, map, filter, Bool, true, false, cond, ltb, eqb, Some, None, slice_get}
+use Rattle.std.proofs.Common.{refl, sym, ap, subst, ◌∙◌, arith, Contains}
 use Rattle.std.specs.List.{AllByRecursion, find, list_any}
 use Rattle.std.specs.List.Sorted.{IsStrictlySortedBy}
 use Rattle.std.specs.Ordering.{nat_cmp}
@@ -59,7 +60,8 @@ found test [] x e = absurd cc
 found {X} test (y ∷ ys) x e = by (test y) refl (found test ys x) e
   where
     by : (passes : Bool) → test y ≡ passes → (find test ys ≡ Some x → Finds test ys x) → cond passes (Some y) (find test ys) ≡ Some x → Finds test (y ∷ ys) x
-    by true is others e = let same : y ≡ x = cc in record { there = subst (Contains (y ∷ ys)) same (contains_here y ys); passes = subst (λ z. test z ≡ true) same is }
+    by true is others e = let same : y ≡ x = cc in record { there = subst (Contains (y ∷ ys)) same (contains_here y ys); passes =
+        subst (λ z. test z ≡ true) same is }
     by false is others e = let rest = others e in record { there = contains_there y ys x rest.there; passes = rest.passes }
 
 pub none_found : {X : Type 0} (test : X → Bool) (xs : List X) → find test xs ≡ None → AllByRecursion (λ x. test x ≡ false) xs
@@ -80,7 +82,8 @@ find_none test [] all = refl
 find_none test (y ∷ ys) all = rw all.0 (find_none test ys all.1)
 
 -- the one element that passes is found
-pub find_only : {X : Type 0} (test : X → Bool) (xs : List X) (x : X) → Finds test xs x → ((y : X) → Contains xs y → test y ≡ true → y ≡ x) → find test xs ≡ Some x
+pub find_only : {X : Type 0} (test : X → Bool) (xs : List X) (x : X) → Finds test xs x → ((y : X) → Contains xs y → test y ≡ true → y ≡ x)
+    → find test xs ≡ Some x
 find_only {X} test xs x finds only = by (find test xs) refl
   where
     by : (answer : _) → find test xs ≡ answer → answer ≡ Some x
@@ -103,16 +106,19 @@ pub filter_passes : {X : Type 0} (test : X → Bool) (xs : List X) → AllByRecu
 filter_passes test [] = tt
 filter_passes {X} test (x ∷ xs) = by (test x) refl (filter_passes test xs)
   where
-    by : (passes : Bool) → test x ≡ passes → AllByRecursion (λ x. test x ≡ true) (filter test xs) → AllByRecursion (λ x. test x ≡ true) (cond passes (x ∷ filter test xs) (filter test xs))
+    by : (passes : Bool) → test x ≡ passes → AllByRecursion (λ x. test x ≡ true) (filter test xs)
+        → AllByRecursion (λ x. test x ≡ true) (cond passes (x ∷ filter test xs) (filter test xs))
     by true is rest = (is, rest)
     by false is rest = rest
 
 -- a filter that keeps all that pass
-pub find_kept : {X : Type 0} (test kept : X → Bool) (xs : List X) → AllByRecursion (λ x. test x ≡ true → kept x ≡ true) xs → find test (filter kept xs) ≡ find test xs
+pub find_kept : {X : Type 0} (test kept : X → Bool) (xs : List X) → AllByRecursion (λ x. test x ≡ true → kept x ≡ true) xs
+    → find test (filter kept xs) ≡ find test xs
 find_kept test kept [] all = refl
 find_kept {X} test kept (x ∷ xs) all = by (kept x) (test x) refl refl (find_kept test kept xs all.1)
   where
-    by : (keeps passes : Bool) → kept x ≡ keeps → test x ≡ passes → find test (filter kept xs) ≡ find test xs → find test (cond keeps (x ∷ filter kept xs) (filter kept xs)) ≡ cond passes (Some x) (find test xs)
+    by : (keeps passes : Bool) → kept x ≡ keeps → test x ≡ passes → find test (filter kept xs) ≡ find test xs
+        → find test (cond keeps (x ∷ filter kept xs) (filter kept xs)) ≡ cond passes (Some x) (find test xs)
     by true passes is answers rest = rw answers (ap (λ o. cond passes (Some x) o) rest)
     by false true is answers rest = let keeps = all.0 answers in absurd cc
     by false false is answers rest = rest
@@ -221,7 +227,8 @@ sorted_keys key (x ∷ xs) sorted = (
   sorted_keys key xs sorted.1,
 )
 
-pub sorted_push : {X : Type 0} (key : X → ℕ) (xs : List X) (x : X) → AllByRecursion (λ y. key y < key x) xs → IsStrictlySortedBy (by_key key) xs → IsStrictlySortedBy (by_key key) (xs ++ x ∷ [])
+pub sorted_push : {X : Type 0} (key : X → ℕ) (xs : List X) (x : X) → AllByRecursion (λ y. key y < key x) xs → IsStrictlySortedBy (by_key key) xs
+    → IsStrictlySortedBy (by_key key) (xs ++ x ∷ [])
 unfolding IsStrictlySortedBy
 sorted_push key [] x below sorted = (tt, tt)
 sorted_push key (y ∷ ys) x below sorted = (all_push _ ys x sorted.0 (rw (lt-ltb (key y) (key x) below.0) refl), sorted_push key ys x below.1 sorted.1)

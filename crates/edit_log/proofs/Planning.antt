@@ -1,5 +1,6 @@
 -- What preparing an edit makes is ready for it.
-use Rattle.std.proofs.Common.{◌≡◌, ◌<◌, ◌≤◌, ◌+◌, ℕ, zero, suc, List, [], ◌∷◌, ◌++◌, length, Bool, true, false, cond, nat_lt, Option, Some, None, slice_get, option_map, find, IfSome, IsTrue, Vec, Contains, not, ◌↔◌, ◌==◌, ◌⊎◌, inl, inr, Result, Ok, Err, refl, ap, sym, ◌∙◌, subst, arith}
+use Rattle.std.proofs.Common.{◌≡◌, ◌<◌, ◌≤◌, ◌+◌, ℕ, zero, suc, List, [], ◌∷◌, ◌++◌, length, Bool, true, false, cond, nat_lt, Option, Some, None, slice_get}
+use Rattle.std.proofs.Common.{option_map, find, IfSome, IsTrue, Vec, Contains, not, ◌↔◌, ◌==◌, ◌⊎◌, inl, inr, Result, Ok, Err, refl, ap, sym, ◌∙◌, subst, arith}
 use Rattle.std.specs.List.{AllByRecursion}
 use Rattle.std.specs.declared.alloc.Global.{Global}
 use Rattle.edit_log.specs.declared.definitions.DefId.{DefId}
@@ -26,19 +27,22 @@ use Rattle.edit_log.specs.History.{Definition, Grammar, after, has_name, is_of_k
 use Rattle.edit_log.specs.Facts.{IsWellFormed, IsRight}
 use Rattle.edit_log.specs.Verdict.{IsAccepted, rule_found, definition_found}
 use Rattle.edit_log.specs.Touches.{IsTouchOf}
-use Rattle.edit_log.specs.Replicas.{Replica, Room, symbols_in, seen_of, IsFresh, HasPositions, AreFreshFor, HasRoom, HasRoomAt, HasRoomUnder, IsNoMoreThan, IsPlanFor, IsReadyFor, of_kind, adds, drops}
+use Rattle.edit_log.specs.Replicas.{Replica, Spare, symbols_in, seen_of, IsFresh, HasPositions, AreFreshFor, HasRoom, HasRoomAt, HasRoomUnder, IsNoMoreThan}
+use Rattle.edit_log.specs.Replicas.{IsPlanFor, IsReadyFor, of_kind, adds, drops}
 use Rattle.edit_log.proofs.Places.{place_of-append, with_symbols-grows}
 use Rattle.edit_log.proofs.Verdicts.{free, rule_there, definition_there}
 use Rattle.edit_log.proofs.OneName.{found_of_kind}
 
 -- ---- a rule that is added
 
-pub fresh_for_rule : (g : Grammar) (r : RuleText) (fresh : List FreshSymbol) → g.symbols ++ symbols_in fresh ≡ with_symbols g.symbols (Named r.left ∷ r.right) → AllByRecursion IsFresh fresh → length fresh ≤ 1 + length r.right → length r.right ≤ 16
+pub fresh_for_rule : (g : Grammar) (r : RuleText) (fresh : List FreshSymbol) → g.symbols ++ symbols_in fresh ≡ with_symbols g.symbols (Named r.left ∷ r.right)
+    → AllByRecursion IsFresh fresh → length fresh ≤ 1 + length r.right → length r.right ≤ 16
     → AreFreshFor g (AddRule r) fresh
 unfolding after
 fresh_for_rule g r fresh grown each few short = record { symbols = sym grown; each = each; few = omega (arith, few, short) }
 
-pub rule_planned : (g : Grammar) (r : RuleText) (fresh : List FreshSymbol) (number : RuleId) (live : Rule) → g.symbols ++ symbols_in fresh ≡ with_symbols g.symbols (Named r.left ∷ r.right) → number.0 ≡ g.version + 1
+pub rule_planned : (g : Grammar) (r : RuleText) (fresh : List FreshSymbol) (number : RuleId) (live : Rule)
+    → g.symbols ++ symbols_in fresh ≡ with_symbols g.symbols (Named r.left ∷ r.right) → number.0 ≡ g.version + 1
     → live ≡ numbered (g.symbols ++ symbols_in fresh) number.0 r → live ≡ numbered (after g (AddRule r)).symbols (g.version + 1) r
 unfolding after
 rule_planned g r fresh number live grown number-is is = is ∙ (λ i. numbered (grown i) (number-is i) r)
@@ -46,10 +50,12 @@ rule_planned g r fresh number live grown number-is is = is ∙ (λ i. numbered (
 -- ---- a rule that is dropped
 
 -- its number is that of the live rule that is written so
-pub dropped_number : (g : Grammar) (r : RuleText) (number : RuleId) → Some number ≡ option_map (λ live. live.number) (rule_found g r) → (live : Rule) × (rule_found g r ≡ Some live) × (number ≡ live.number)
+pub dropped_number : (g : Grammar) (r : RuleText) (number : RuleId) → Some number ≡ option_map (λ live. live.number) (rule_found g r)
+    → (live : Rule) × (rule_found g r ≡ Some live) × (number ≡ live.number)
 dropped_number g r number told = by (rule_found g r) refl told
   where
-    by : (o : Option Rule) → rule_found g r ≡ o → Some number ≡ option_map (λ live. live.number) o → (live : Rule) × (rule_found g r ≡ Some live) × (number ≡ live.number)
+    by : (o : Option Rule) → rule_found g r ≡ o → Some number ≡ option_map (λ live. live.number) o
+        → (live : Rule) × (rule_found g r ≡ Some live) × (number ≡ live.number)
     by None is told = absurd cc
     by (Some live) is told = (live, is, let same : number ≡ live.number = cc in same)
 
@@ -68,49 +74,58 @@ found_by_number g r live well is =
     (λ other there passes. distinct_map (λ (l : Rule). l.number.0) g.rules other live numbers there finds.there (eqb-true other.number.0 live.number.0 passes))
 
 -- the parts of a live rule have numbers
-pub parts_within : (g : Grammar) (r : RuleText) (live : Rule) → IsWellFormed g → rule_found g r ≡ Some live → (part : SymbolId) → Contains live.right part → part.0 < length g.symbols
+pub parts_within : (g : Grammar) (r : RuleText) (live : Rule) → IsWellFormed g → rule_found g r ≡ Some live → (part : SymbolId) → Contains live.right part
+    → part.0 < length g.symbols
 parts_within g r live well is part there =
     let right = each_contained (λ (l : Rule). IsRight g.symbols l.right) g.rules live well.rights (found _ g.rules live is).there in
     each_contained (λ (x : SymbolId). x.0 < length g.symbols) live.right part right.0 there
 
 pub some_listed : (items : List DefId) (n : ℕ) → n ≡ length items → IsTrue (not (n == 0)) ↔ (items ≡ [] → ⊥)
-some_listed [] n is = (λ some. absurd (let none : not (n == 0) ≡ false = ap not (eq-eqb n 0 is) in let never : false ≡ true = sym none ∙ some in cc), λ never. absurd (never refl))
+some_listed [] n is = (λ some. absurd (let none : not (n == 0) ≡ false = ap not (eq-eqb n 0 is) in let never : false ≡ true = sym none ∙ some in cc),
+    λ never. absurd (never refl))
 some_listed (d ∷ items) n is = (λ some empty. absurd cc, λ never. ap not (ne_eqb n 0 (λ e. omega (arith, e, is))))
 
 -- ---- a token or a skip that is added
 
-pub fresh_for_definition : (g : Grammar) (skip : Bool) (d : DefText) (fresh : List FreshSymbol) → g.symbols ++ symbols_in fresh ≡ with_symbol g.symbols (Named d.name) → AllByRecursion IsFresh fresh → length fresh ≤ 1 → AreFreshFor g (adds skip d) fresh
+pub fresh_for_definition : (g : Grammar) (skip : Bool) (d : DefText) (fresh : List FreshSymbol)
+    → g.symbols ++ symbols_in fresh ≡ with_symbol g.symbols (Named d.name) → AllByRecursion IsFresh fresh → length fresh ≤ 1 → AreFreshFor g (adds skip d) fresh
 unfolding after
 fresh_for_definition g true d fresh grown each few = record { symbols = sym grown; each = each; few = omega (arith, few) }
 fresh_for_definition g false d fresh grown each few = record { symbols = sym grown; each = each; few = omega (arith, few) }
 
 pub definition_planned : (g : Grammar) (skip : Bool) (d : DefText) (fresh : List FreshSymbol) (number : RuleId) (symbol : SymbolId) (live : NamedDefinition)
-    → g.symbols ++ symbols_in fresh ≡ with_symbol g.symbols (Named d.name) → AllByRecursion IsFresh fresh → length fresh ≤ 1 → number.0 ≡ g.version + 1 → symbol ≡ number_of (g.symbols ++ symbols_in fresh) (Named d.name)
+    → g.symbols ++ symbols_in fresh ≡ with_symbol g.symbols (Named d.name) → AllByRecursion IsFresh fresh → length fresh ≤ 1 → number.0 ≡ g.version + 1
+        → symbol ≡ number_of (g.symbols ++ symbols_in fresh) (Named d.name)
     → seen_of live ≡ record { number = number; name = symbol; is_skip = skip; expression = d.expression } → HasPositions live
-    → (list : Vec FreshSymbol Global) → list.items ≡ fresh → IsPlanFor g (adds skip d) (plan.AddDefinition (record { name = d.name; live = live; fresh = list }))
+    → (list : Vec FreshSymbol Global) → list.items ≡ fresh → IsPlanFor g (adds skip d) (plan.AddDefinition (record { name = d.name; live = live; fresh =
+        list }))
 unfolding after
 definition_planned g true d fresh number symbol live grown each few number-is symbol-is seen positions list list-is = (
   refl,
-  record { is = seen ∙ (λ i. record { number = record { 0 = number-is i }; name = (symbol-is ∙ ap (λ ss. number_of ss (Named d.name)) grown) i; is_skip = true; expression = d.expression }); positions = positions },
+  record { is = seen ∙ (λ i. record { number = record { 0 = number-is i }; name = (symbol-is ∙ ap (λ ss. number_of ss (Named d.name)) grown) i; is_skip = true;
+      expression = d.expression }); positions = positions },
   subst (AreFreshFor g (AddSkip d)) (sym list-is) (fresh_for_definition g true d fresh grown each few),
 )
 definition_planned g false d fresh number symbol live grown each few number-is symbol-is seen positions list list-is = (
   refl,
-  record { is = seen ∙ (λ i. record { number = record { 0 = number-is i }; name = (symbol-is ∙ ap (λ ss. number_of ss (Named d.name)) grown) i; is_skip = false; expression = d.expression }); positions = positions },
+  record { is = seen ∙ (λ i. record { number = record { 0 = number-is i }; name = (symbol-is ∙ ap (λ ss. number_of ss (Named d.name)) grown) i; is_skip = false;
+      expression = d.expression }); positions = positions },
   subst (AreFreshFor g (AddToken d)) (sym list-is) (fresh_for_definition g false d fresh grown each few),
 )
 
 -- ---- a token or a skip that is dropped
 
 -- the definition that an accepted edit drops has the number that is told of its name
-pub dropped_definition : (g : Grammar) (skip : Bool) (name : List ℕ) (number : RuleId) → IsWellFormed g → IsAccepted g (drops skip name) → Some number ≡ option_map (λ live. live.number) (find (has_name g.symbols name) g.definitions)
+pub dropped_definition : (g : Grammar) (skip : Bool) (name : List ℕ) (number : RuleId) → IsWellFormed g → IsAccepted g (drops skip name)
+    → Some number ≡ option_map (λ live. live.number) (find (has_name g.symbols name) g.definitions)
     → (live : Definition) × (definition_found g skip name ≡ Some live) × (number ≡ live.number)
 dropped_definition g skip name number well accepted told = by (find (has_name g.symbols name) g.definitions) refl told
   where
     there : (live : Definition) × (definition_found g skip name ≡ Some live)
     there = definition_there g skip name (free g (drops skip name) accepted.taken).lack
 
-    by : (o : Option Definition) → find (has_name g.symbols name) g.definitions ≡ o → Some number ≡ option_map (λ live. live.number) o → (live : Definition) × (definition_found g skip name ≡ Some live) × (number ≡ live.number)
+    by : (o : Option Definition) → find (has_name g.symbols name) g.definitions ≡ o → Some number ≡ option_map (λ live. live.number) o
+        → (live : Definition) × (definition_found g skip name ≡ Some live) × (number ≡ live.number)
     by None is told = absurd cc
     by (Some one) is told = (there.0, there.1, (let first : number ≡ one.number = cc in first) ∙ ap (λ (d : Definition). d.number) same)
       where
@@ -121,7 +136,8 @@ dropped_definition g skip name number well accepted told = by (find (has_name g.
         same : one ≡ there.0
         same = kind (is_of_kind skip one) (sym (found_of_kind g skip name well ∙ ap (of_kind skip) is) ∙ there.1)
 
-pub no_definition : (g : Grammar) (skip : Bool) (name : List ℕ) → IsWellFormed g → IsAccepted g (drops skip name) → None ≡ option_map (λ live. live.number) (find (has_name g.symbols name) g.definitions) → ⊥
+pub no_definition : (g : Grammar) (skip : Bool) (name : List ℕ) → IsWellFormed g → IsAccepted g (drops skip name)
+    → None ≡ option_map (λ live. live.number) (find (has_name g.symbols name) g.definitions) → ⊥
 no_definition g skip name well accepted told = by (find (has_name g.symbols name) g.definitions) refl told
   where
     there : (live : Definition) × (definition_found g skip name ≡ Some live)
@@ -131,13 +147,14 @@ no_definition g skip name well accepted told = by (find (has_name g.symbols name
     by None is told = let never : None ≡ Some there.0 = sym (found_of_kind g skip name well ∙ ap (of_kind skip) is) ∙ there.1 in absurd cc
     by (Some one) is told = absurd cc
 
-pub definition_end_planned : (g : Grammar) (skip : Bool) (name : List ℕ) (number : RuleId) → (live : Definition) × (definition_found g skip name ≡ Some live) × (number ≡ live.number) → IsPlanFor g (drops skip name) (plan.DropDefinition (record { name = name; number = number }))
+pub definition_end_planned : (g : Grammar) (skip : Bool) (name : List ℕ) (number : RuleId) → (live : Definition) × (definition_found g skip name ≡ Some live) ×
+    (number ≡ live.number) → IsPlanFor g (drops skip name) (plan.DropDefinition (record { name = name; number = number }))
 definition_end_planned g true name number there = (refl, there)
 definition_end_planned g false name number there = (refl, there)
 
 -- ---- what is ready stays ready where memory grows
 
-room_stays : (old new : Room) → IsNoMoreThan old new → HasRoom old → HasRoom new
+room_stays : (old new : Spare) → IsNoMoreThan old new → HasRoom old → HasRoom new
 room_stays old new grows has = record {
   symbols = omega (arith, grows.symbols, has.symbols);
   rows = omega (arith, grows.rows, has.rows);
@@ -148,7 +165,8 @@ room_stays old new grows has = record {
   definition_numbers = omega (arith, grows.definition_numbers, has.definition_numbers);
 }
 
-at_stays : (old new : Room) (place : ℕ) → IsNoMoreThan old new → IfSome (slice_get old.under place) (λ count. 1 ≤ count) → IfSome (slice_get new.under place) (λ count. 1 ≤ count)
+at_stays : (old new : Spare) (place : ℕ) → IsNoMoreThan old new → IfSome (slice_get old.under place) (λ count. 1 ≤ count)
+    → IfSome (slice_get new.under place) (λ count. 1 ≤ count)
 at_stays old new place grows has = by (slice_get old.under place) refl has
   where
     none : {X : Type 0} (xs : List X) (i : ℕ) → slice_get xs i ≡ None → length xs ≤ i
@@ -162,14 +180,16 @@ at_stays old new place grows has = by (slice_get old.under place) refl has
 
 under_stays : (old new : Replica) (edit : Edit) → new.grammar ≡ old.grammar → IsNoMoreThan old.room new.room → HasRoomUnder old edit → HasRoomUnder new edit
 under_stays old new (AddRule r) same grows has =
-    subst (λ (g : Grammar). IfSome (slice_get new.room.under (number_of g.symbols (Named r.left)).0) (λ count. 1 ≤ count)) (sym same) (at_stays old.room new.room (place_of old.grammar.symbols (Named r.left)) grows has)
+    subst (λ (g : Grammar). IfSome (slice_get new.room.under (number_of g.symbols (Named r.left)).0) (λ count. 1 ≤ count)) (sym same)
+        (at_stays old.room new.room (place_of old.grammar.symbols (Named r.left)) grows has)
 under_stays old new (DropRule r) same grows has = tt
 under_stays old new (AddToken d) same grows has = tt
 under_stays old new (DropToken name) same grows has = tt
 under_stays old new (AddSkip d) same grows has = tt
 under_stays old new (DropSkip name) same grows has = tt
 
-pub stays_ready : (old new : Replica) → new.grammar ≡ old.grammar → IsNoMoreThan old.room new.room → (edit : Edit) (ready : Ready) → IsReadyFor old edit ready → IsReadyFor new edit ready
+pub stays_ready : (old new : Replica) → new.grammar ≡ old.grammar → IsNoMoreThan old.room new.room → (edit : Edit) (ready : Ready) → IsReadyFor old edit ready
+    → IsReadyFor new edit ready
 stays_ready old new same grows edit ready is = record {
   applicable = record {
     accepted = subst (λ g. IsAccepted g edit) (sym same) is.applicable.accepted;
@@ -186,23 +206,28 @@ grows_symbol : (g : Grammar) (r : RuleText) → (more : List Symbol) × ((after 
 unfolding after
 grows_symbol g r = let grows = with_symbols-grows g.symbols (Named r.left ∷ r.right) in (grows.more, grows.is)
 
-under_prepared : (replica : Replica) (edit : Edit) (ready : Ready) → IsTouchOf replica.grammar edit ready.touch → length replica.room.under ≡ length replica.grammar.symbols → HasRoomAt replica.room ready.touch.left → HasRoomUnder replica edit
+under_prepared : (replica : Replica) (edit : Edit) (ready : Ready) → IsTouchOf replica.grammar edit ready.touch
+    → length replica.room.under ≡ length replica.grammar.symbols → HasRoomAt replica.room ready.touch.left → HasRoomUnder replica edit
 under_prepared replica (AddRule r) ready touch count room = by (nat_lt (place_of replica.grammar.symbols (Named r.left)) (length replica.grammar.symbols)) refl
   where
     by : (there : Bool) → nat_lt (place_of replica.grammar.symbols (Named r.left)) (length replica.grammar.symbols) ≡ there
         → IfSome (slice_get replica.room.under (place_of replica.grammar.symbols (Named r.left))) (λ count. 1 ≤ count)
     by true there =
         let grown = grows_symbol replica.grammar r in
-        let same : place_of (after replica.grammar (AddRule r)).symbols (Named r.left) ≡ place_of replica.grammar.symbols (Named r.left) = ap (λ ss. place_of ss (Named r.left)) grown.1 ∙ place_of-append replica.grammar.symbols grown.0 (Named r.left) (ltb-true (place_of replica.grammar.symbols (Named r.left)) (length replica.grammar.symbols) there) in
+        let same : place_of (after replica.grammar (AddRule r)).symbols (Named r.left) ≡ place_of replica.grammar.symbols (Named r.left) =
+            ap (λ ss. place_of ss (Named r.left)) grown.1 ∙ place_of-append replica.grammar.symbols grown.0 (Named r.left)
+            (ltb-true (place_of replica.grammar.symbols (Named r.left)) (length replica.grammar.symbols) there) in
         subst (λ place. IfSome (slice_get replica.room.under place) (λ count. 1 ≤ count)) same (subst (HasRoomAt replica.room) touch.left room)
-    by false there = rw (slice_get_past replica.room.under (place_of replica.grammar.symbols (Named r.left)) (omega (arith, count, ltb-false (place_of replica.grammar.symbols (Named r.left)) (length replica.grammar.symbols) there))) tt
+    by false there = rw (slice_get_past replica.room.under (place_of replica.grammar.symbols (Named r.left)) (omega (arith, count,
+        ltb-false (place_of replica.grammar.symbols (Named r.left)) (length replica.grammar.symbols) there))) tt
 under_prepared replica (DropRule r) ready touch count room = tt
 under_prepared replica (AddToken d) ready touch count room = tt
 under_prepared replica (DropToken name) ready touch count room = tt
 under_prepared replica (AddSkip d) ready touch count room = tt
 under_prepared replica (DropSkip name) ready touch count room = tt
 
-pub prepared : (middle new : Replica) (edit : Edit) (ready : Ready) → new.grammar ≡ middle.grammar → IsNoMoreThan middle.room new.room → HasRoom middle.room → IsAccepted middle.grammar edit → IsPlanFor middle.grammar edit ready.plan → IsTouchOf middle.grammar edit ready.touch
+pub prepared : (middle new : Replica) (edit : Edit) (ready : Ready) → new.grammar ≡ middle.grammar → IsNoMoreThan middle.room new.room → HasRoom middle.room
+    → IsAccepted middle.grammar edit → IsPlanFor middle.grammar edit ready.plan → IsTouchOf middle.grammar edit ready.touch
     → length new.room.under ≡ length new.grammar.symbols → HasRoomAt new.room ready.touch.left → IsReadyFor new edit ready
 prepared middle new edit ready same grows has accepted planned touch count room =
     let new_touch = subst (λ g. IsTouchOf g edit ready.touch) (sym same) touch in

@@ -33,11 +33,13 @@ symbol_at_get symbols n s at = get_or_from_slice_get symbols n.0 s (Named []) at
 pub symbol_at-grow : (symbols more : List Symbol) (n : SymbolId) → n.0 < length symbols → symbol_at (symbols ++ more) n ≡ symbol_at symbols n
 symbol_at-grow symbols more n within = get_or-append symbols more (Named []) n.0 within
 
-pub right-grow : (symbols more : List Symbol) (right : List SymbolId) → AllByRecursion (λ part. part.0 < length symbols) right → AllByRecursion (λ part. part.0 < length (symbols ++ more)) right
+pub right-grow : (symbols more : List Symbol) (right : List SymbolId) → AllByRecursion (λ part. part.0 < length symbols) right
+    → AllByRecursion (λ part. part.0 < length (symbols ++ more)) right
 right-grow symbols more [] within = tt
 right-grow symbols more (n ∷ right) within = (omega (arith, within.0, length-append symbols more), right-grow symbols more right within.1)
 
-pub symbols_at-grow : (symbols more : List Symbol) (right : List SymbolId) → AllByRecursion (λ part. part.0 < length symbols) right → map (symbol_at (symbols ++ more)) right ≡ map (symbol_at symbols) right
+pub symbols_at-grow : (symbols more : List Symbol) (right : List SymbolId) → AllByRecursion (λ part. part.0 < length symbols) right
+    → map (symbol_at (symbols ++ more)) right ≡ map (symbol_at symbols) right
 symbols_at-grow symbols more [] within = refl
 symbols_at-grow symbols more (n ∷ right) within =
     let first = symbol_at-grow symbols more n within.0 in
@@ -46,7 +48,8 @@ symbols_at-grow symbols more (n ∷ right) within =
 
 -- ---- rules
 
-pub text_of-grow : (symbols more : List Symbol) (r : Rule) → r.left.0 < length symbols → AllByRecursion (λ part. part.0 < length symbols) r.right → text_of (symbols ++ more) r ≡ text_of symbols r
+pub text_of-grow : (symbols more : List Symbol) (r : Rule) → r.left.0 < length symbols → AllByRecursion (λ part. part.0 < length symbols) r.right
+    → text_of (symbols ++ more) r ≡ text_of symbols r
 text_of-grow symbols more r left right =
     let name = symbol_at-grow symbols more r.left left in
     let parts = symbols_at-grow symbols more r.right right in
@@ -62,7 +65,8 @@ symbols_at_numbers symbols (x ∷ xs) placed =
     let rest = symbols_at_numbers symbols xs placed.1 in
     (λ i. first i ∷ rest i)
 
-pub texts-grow : (symbols more : List Symbol) (rules : List Rule) → AllByRecursion (λ r. IsNamed symbols r.left) rules → AllByRecursion (λ r. IsRight symbols r.right) rules
+pub texts-grow : (symbols more : List Symbol) (rules : List Rule) → AllByRecursion (λ r. IsNamed symbols r.left) rules
+    → AllByRecursion (λ r. IsRight symbols r.right) rules
     → map (text_of (symbols ++ more)) rules ≡ map (text_of symbols) rules
 texts-grow symbols more [] lefts rights = refl
 texts-grow symbols more (r ∷ rules) lefts rights =
@@ -71,7 +75,8 @@ texts-grow symbols more (r ∷ rules) lefts rights =
     (λ i. first i ∷ rest i)
 
 -- a rule that is numbered is written as it was
-pub text_of-numbered : (symbols : List Symbol) (number : ℕ) (r : RuleText) → ArePlaced symbols (Named r.left ∷ r.right) → text_of symbols (numbered symbols number r) ≡ r
+pub text_of-numbered : (symbols : List Symbol) (number : ℕ) (r : RuleText) → ArePlaced symbols (Named r.left ∷ r.right)
+    → text_of symbols (numbered symbols number r) ≡ r
 text_of-numbered symbols number r placed =
     let name = symbol_at_number symbols (Named r.left) placed.0 in
     let parts = symbols_at_numbers symbols r.right placed.1 in
@@ -83,11 +88,13 @@ numbers_within symbols (x ∷ xs) placed = (placed.0, numbers_within symbols xs 
 
 -- the rule from the numbers that its symbols got one after the other
 pub rule_numbered : (before middle symbols : List Symbol) (r : RuleText) (name : List ℕ) (number : RuleId) (left : SymbolId) (right : List SymbolId)
-    → name ≡ r.left → middle ≡ with_symbol before (Named name) → left ≡ number_of middle (Named name) → symbols ≡ with_symbols middle r.right → right ≡ map (number_of symbols) r.right
+    → name ≡ r.left → middle ≡ with_symbol before (Named name) → left ≡ number_of middle (Named name) → symbols ≡ with_symbols middle r.right
+        → right ≡ map (number_of symbols) r.right
     → (record { number = number; left = left; right = right }) ≡ numbered symbols number.0 r
 rule_numbered before middle symbols r name number left right name-is middle-is left-is symbols-is right-is =
     let placed : IsPlaced middle (Named name) = rw middle-is (with_symbol-placed before (Named name)) in
-    let same : left ≡ number_of symbols (Named r.left) = left-is ∙ sym (number_stays middle symbols r.right (Named name) placed symbols-is) ∙ ap (λ n. number_of symbols (Named n)) name-is in
+    let same : left ≡ number_of symbols (Named r.left) = left-is ∙ sym (number_stays middle symbols r.right (Named name) placed symbols-is) ∙ ap
+        (λ n. number_of symbols (Named n)) name-is in
     (λ i. record { number = number; left = same i; right = right-is i })
 
 -- ---- names
@@ -96,15 +103,18 @@ pub named_number : (symbols : List Symbol) (name : List ℕ) → IsPlaced symbol
 named_number symbols name placed = (name, place_of-get symbols (Named name) placed)
 
 -- a number from before that is the name's number afterwards is the name's
-pub old_name : (symbols new : List Symbol) (room : ℕ) (name : List ℕ) (n : SymbolId) → Grows symbols new room → IsNamed symbols n → IsPlaced new (Named name) → n ≡ number_of new (Named name)
+pub old_name : (symbols new : List Symbol) (room : ℕ) (name : List ℕ) (n : SymbolId) → Grows symbols new room → IsNamed symbols n → IsPlaced new (Named name)
+    → n ≡ number_of new (Named name)
     → symbol_eq (symbol_at symbols n) (Named name) ≡ true
 old_name symbols new room name n grows named placed same =
     let at : symbol_at new n ≡ Named name = ap (symbol_at new) same ∙ symbol_at_number new (Named name) placed in
-    let stays : symbol_at new n ≡ symbol_at symbols n = ap (λ ss. symbol_at ss n) grows.is ∙ symbol_at-grow symbols grows.more n (named_within symbols n named) in
+    let stays : symbol_at new n ≡ symbol_at symbols n = ap (λ ss. symbol_at ss n) grows.is ∙ symbol_at-grow symbols grows.more n
+        (named_within symbols n named) in
     (symbol_eq-decides (symbol_at symbols n) (Named name)).1 (sym stays ∙ at)
 
 -- and the other way
-pub name_at : (symbols : List Symbol) (name : List ℕ) (n : SymbolId) → IsNamed symbols n → symbol_eq (symbol_at symbols n) (Named name) ≡ true → slice_get symbols n.0 ≡ Some (Named name)
+pub name_at : (symbols : List Symbol) (name : List ℕ) (n : SymbolId) → IsNamed symbols n → symbol_eq (symbol_at symbols n) (Named name) ≡ true
+    → slice_get symbols n.0 ≡ Some (Named name)
 name_at symbols name n named same =
     let is : symbol_at symbols n ≡ Named name = (symbol_eq-decides (symbol_at symbols n) (Named name)).0 same in
     named.1 ∙ ap Some (sym (symbol_at_get symbols n (Named named.0) named.1) ∙ is)

@@ -1,5 +1,6 @@
 -- What is told of an edit is what it touches.
-use Rattle.std.proofs.Common.{◌≡◌, ◌↔◌, ◌⊎◌, inl, inr, ℕ, ◌+◌, ◌<◌, List, [], ◌∷◌, Bool, false, true, length, Option, Some, None, option_map, IsTrue, refl, sym, ◌∙◌, ap, subst, arith, Contains}
+use Rattle.std.proofs.Common.{◌≡◌, ◌↔◌, ◌⊎◌, inl, inr, ℕ, ◌+◌, ◌<◌, List, [], ◌∷◌, Bool, false, true, length, Option, Some, None, option_map, IsTrue, refl, sym}
+use Rattle.std.proofs.Common.{◌∙◌, ap, subst, arith, Contains}
 use Rattle.std.specs.List.{list_any}
 use Rattle.std.specs.List.Sorted.{IsStrictlySortedBy}
 use Rattle.std.proofs.lemmas.Bool.{cases_lt, cases_eq}
@@ -24,12 +25,13 @@ use Rattle.edit_log.specs.Facts.{IsWellFormed, IsNamed}
 use Rattle.edit_log.specs.Live.{is_literal, IsLive}
 use Rattle.edit_log.specs.Lookups.{ListsDefinitions}
 use Rattle.edit_log.specs.Lists.{Wakes, IsLastUse, occurrences, all_occurrences}
-use Rattle.edit_log.specs.Kept.{AreUses, AreLiterals}
-use Rattle.edit_log.specs.Touches.{IsTouchOf, Ends, ChangesDefinitions, touched_left, ended_rule}
+use Rattle.edit_log.specs.Kept.{AreUses, AreLiteralTables}
+use Rattle.edit_log.specs.Touches.{IsTouchOf, IsEnded, ChangesDefinitions, touched_left, ended_rule}
 use Rattle.edit_log.specs.Replicas.{AreFreshFor, symbols_in, adds, drops}
 use Rattle.edit_log.proofs.After.{symbols_stay_rule, rules_dropped}
 use Rattle.edit_log.proofs.DefinitionOrder.{contains_first, contains_cases, contains_none, each_of}
-use Rattle.edit_log.proofs.LiveFacts.{live_literal, live_named, literal_has, has_is_literal, lists_same, same_length, counted_within, counted_push, counted_there, there_counted, sum_without, found_there}
+use Rattle.edit_log.proofs.LiveByUses.{live_literal, live_named, literal_has, has_is_literal, lists_same, same_length, counted_within, counted_push}
+use Rattle.edit_log.proofs.LiveByUses.{counted_there, there_counted, sum_without, found_there}
 use Rattle.edit_log.proofs.LiveAfter.{symbol_kept, literal_kept, named_same, number_within, live_added, live_dropped}
 use Rattle.edit_log.proofs.NewLiterals.{fresh_literal, is_fresh_literal, place_is, contains_map}
 
@@ -38,7 +40,8 @@ use Rattle.edit_log.proofs.NewLiterals.{fresh_literal, is_fresh_literal, place_i
 module _ (g : Grammar) (r : RuleText) (live : Rule) (well : IsWellFormed g) (live-is : live ≡ numbered (after g (AddRule r)).symbols (g.version + 1) r) where
   more_uses : (s : SymbolId) → all_occurrences s (after g (AddRule r)).rules ≡ all_occurrences s g.rules + occurrences s live.right
   unfolding after
-  more_uses s = counted_push s g.rules (numbered (after g (AddRule r)).symbols (g.version + 1) r) ∙ ap (λ (x : Rule). all_occurrences s g.rules + occurrences s x.right) (sym live-is)
+  more_uses s = counted_push s g.rules (numbered (after g (AddRule r)).symbols (g.version + 1) r) ∙ ap
+      (λ (x : Rule). all_occurrences s g.rules + occurrences s x.right) (sym live-is)
 
   same_named : (n : RuleId) → IsLive (after g (AddRule r)) (named n) ↔ IsLive g (named n)
   unfolding after
@@ -55,23 +58,29 @@ module _ (g : Grammar) (r : RuleText) (live : Rule) (well : IsWellFormed g) (liv
     fresh_starts some =
         let found = fresh_literal g r fresh are_fresh some in
         let right : Contains live.right found.number = subst (λ (x : Rule). Contains x.right found.number) (sym live-is) found.used in
-        let now = (live_literal (after g (AddRule r)) found.number).1 (found.literal_there, omega (arith, more_uses found.number, counted_there found.number live.right right)) in
-        (literal found.number, inr (now, λ before. found.absent (counted_within g.symbols g.rules found.number well.rights ((live_literal g found.number).0 before).1)))
+        let now = (live_literal (after g (AddRule r)) found.number).1 (found.literal_there, omega (arith, more_uses found.number,
+            counted_there found.number live.right right)) in
+        (literal found.number, inr (now, λ before. found.absent (counted_within g.symbols g.rules found.number well.rights
+            ((live_literal g found.number).0 before).1)))
 
-    module _ (uses : List ℕ) (literals : List (Option Table)) (are_uses : AreUses g.symbols g.rules uses) (are_literals : AreLiterals g.symbols literals) where
+    module _ (uses : List ℕ) (literals : List (Option Table)) (are_uses : AreUses g.symbols g.rules uses)
+        (are_literals : AreLiteralTables g.symbols literals) where
       -- and so is one that it wakes
       woken_starts : Wakes literals uses live.right → ChangesDefinitions g (after g (AddRule r))
       woken_starts (part, there, has, none) =
-          let within : part.0 < length g.symbols = omega (arith, slice_get_within literals part.0 (Some has.0) has.1, same_length g.symbols literals are_literals) in
+          let within : part.0 < length g.symbols = omega (arith, slice_get_within literals part.0 (Some has.0) has.1,
+              same_length g.symbols literals are_literals) in
           let here = has_is_literal g.symbols literals are_literals part.0 has in
           let same = symbol_kept g.symbols (after g (AddRule r)).symbols (symbols_in fresh) part are_fresh.symbols within in
-          let now = (live_literal (after g (AddRule r)) part).1 (ap is_literal same ∙ here, omega (arith, more_uses part, counted_there part live.right there)) in
+          let now = (live_literal (after g (AddRule r)) part).1 (ap is_literal same ∙ here, omega (arith, more_uses part,
+              counted_there part live.right there)) in
           let counted = are_uses.counts part.0 within in
           let unused : all_occurrences part g.rules ≡ 0 = cc in
           (literal part, inr (now, λ before. absurd (omega (arith, unused, ((live_literal g part).0 before).1))))
 
       -- and nothing else
-      starts_by : (s : SymbolId) → IsLive (after g (AddRule r)) (literal s) → (IsLive g (literal s) → ⊥) → IsTrue (list_any is_literal (symbols_in fresh)) ⊎ Wakes literals uses live.right
+      starts_by : (s : SymbolId) → IsLive (after g (AddRule r)) (literal s) → (IsLive g (literal s) → ⊥)
+          → IsTrue (list_any is_literal (symbols_in fresh)) ⊎ Wakes literals uses live.right
       starts_by s now before =
           let both = (live_literal (after g (AddRule r)) s).0 now in
           elim (cases_lt s.0 (length g.symbols)) [
@@ -84,7 +93,8 @@ module _ (g : Grammar) (r : RuleText) (live : Rule) (well : IsWellFormed g) (liv
                 ] in
                 let used : 0 < occurrences s live.right = omega (arith, more_uses s, both.1, unused) in
                 inr (s, there_counted s live.right used, literal_has g.symbols literals are_literals s.0 here, are_uses.counts s.0 less ∙ ap Some unused)
-            | inr more ↦ inl (is_fresh_literal g.symbols (symbols_in fresh) s more (ap (λ symbols. is_literal (symbol_at symbols s)) (sym are_fresh.symbols) ∙ both.0))
+            | inr more ↦ inl (is_fresh_literal g.symbols (symbols_in fresh) s more (ap (λ symbols. is_literal (symbol_at symbols s)) (sym are_fresh.symbols)
+                ∙ both.0))
           ]
 
       changes_by : ChangesDefinitions g (after g (AddRule r)) → IsTrue (list_any is_literal (symbols_in fresh)) ⊎ Wakes literals uses live.right
@@ -92,12 +102,12 @@ module _ (g : Grammar) (r : RuleText) (live : Rule) (well : IsWellFormed g) (liv
       changes_by (literal s, inr starts) = starts_by s starts.0 starts.1
       changes_by (named n, inr starts) = absurd (starts.1 ((same_named n).0 starts.0))
 
-none_ends : (old new : Grammar) → ((d : DefId) → IsLive old d → IsLive new d) → ListsDefinitions (Ends old new) []
+none_ends : (old new : Grammar) → ((d : DefId) → IsLive old d → IsLive new d) → ListsDefinitions (IsEnded old new) []
 unfolding IsStrictlySortedBy
 none_ends old new kept = record { order = tt; members = λ d. (λ c. absurd (contains_none d c), λ ends. absurd (ends.1 (kept d ends.0))) }
 
 pub touch_rule_added : (g : Grammar) (r : RuleText) (uses : List ℕ) (literals : List (Option Table)) (fresh : List FreshSymbol) (live : Rule) (touch : Touch)
-    → IsWellFormed g → IsAccepted g (AddRule r) → AreFreshFor g (AddRule r) fresh → AreUses g.symbols g.rules uses → AreLiterals g.symbols literals
+    → IsWellFormed g → IsAccepted g (AddRule r) → AreFreshFor g (AddRule r) fresh → AreUses g.symbols g.rules uses → AreLiteralTables g.symbols literals
     → live ≡ numbered (after g (AddRule r)).symbols (g.version + 1) r → touch.left ≡ Some live.left → touch.gone_rule ≡ None → touch.gone_defs ≡ []
     → (IsTrue touch.scan ↔ (IsTrue (list_any is_literal (symbols_in fresh)) ⊎ Wakes literals uses live.right)) → IsTouchOf g (AddRule r) touch
 touch_rule_added g r uses literals fresh live touch well accepted are_fresh are_uses are_literals live-is left-is rule-is defs-is scan-is = record {
@@ -130,7 +140,8 @@ module _ (g : Grammar) (r : RuleText) (live : Rule) (well : IsWellFormed g) (acc
       ap (λ n. let s : SymbolId = record { 0 = n } in s) (sym place)
 
   less_uses : (s : SymbolId) → all_occurrences s (after g (DropRule r)).rules + occurrences s live.right ≡ all_occurrences s g.rules
-  less_uses s = ap (λ rules. all_occurrences s rules + occurrences s live.right) (rules_dropped g r live well accepted found) ∙ sum_without (λ x. occurrences s x.right) g.rules live well.rule_order there
+  less_uses s = ap (λ rules. all_occurrences s rules + occurrences s live.right) (rules_dropped g r live well accepted found) ∙ sum_without
+      (λ x. occurrences s x.right) g.rules live well.rule_order there
 
   stays_named : (n : RuleId) → IsLive (after g (DropRule r)) (named n) ↔ IsLive g (named n)
   unfolding after
@@ -141,12 +152,14 @@ module _ (g : Grammar) (r : RuleText) (live : Rule) (well : IsWellFormed g) (acc
 
   -- nothing is live that was not
   none_starts : (d : DefId) → IsLive (after g (DropRule r)) d → IsLive g d
-  none_starts (literal s) now = let both = (live_literal (after g (DropRule r)) s).0 now in (live_literal g s).1 (ap is_literal (sym (same_symbol s)) ∙ both.0, omega (arith, less_uses s, both.1))
+  none_starts (literal s) now = let both = (live_literal (after g (DropRule r)) s).0 now in
+      (live_literal g s).1 (ap is_literal (sym (same_symbol s)) ∙ both.0, omega (arith, less_uses s, both.1))
   none_starts (named n) now = (stays_named n).0 now
 
-  module _ (uses : List ℕ) (literals : List (Option Table)) (are_uses : AreUses g.symbols g.rules uses) (are_literals : AreLiterals g.symbols literals) where
+  module _ (uses : List ℕ) (literals : List (Option Table)) (are_uses : AreUses g.symbols g.rules uses)
+      (are_literals : AreLiteralTables g.symbols literals) where
     -- what ends is what is used here alone
-    ends_last : (d : DefId) → IsLastUse literals uses live.right d ↔ Ends g (after g (DropRule r)) d
+    ends_last : (d : DefId) → IsLastUse literals uses live.right d ↔ IsEnded g (after g (DropRule r)) d
     ends_last (named n) = (λ none. absurd none, λ ends. ends.1 ((stays_named n).1 ends.0))
     ends_last (literal s) = (
       λ (c, has, count).
@@ -174,7 +187,8 @@ some_listed [] some = absurd (some refl)
 some_listed (d ∷ gone) some = (d, contains_first d gone)
 
 -- where nothing starts, something changes exactly where something ends
-changes_ends : (old new : Grammar) (gone : List DefId) → ((d : DefId) → IsLive new d → IsLive old d) → ListsDefinitions (Ends old new) gone → ChangesDefinitions old new ↔ (gone ≡ [] → ⊥)
+changes_ends : (old new : Grammar) (gone : List DefId) → ((d : DefId) → IsLive new d → IsLive old d) → ListsDefinitions (IsEnded old new) gone
+    → ChangesDefinitions old new ↔ (gone ≡ [] → ⊥)
 changes_ends old new gone none lists = (by, λ some. let listed = some_listed gone some in (listed.0, inl ((lists.members listed.0).0 listed.1)))
   where
     by : ChangesDefinitions old new → gone ≡ [] → ⊥
@@ -182,14 +196,15 @@ changes_ends old new gone none lists = (by, λ some. let listed = some_listed go
     by (d, inr starts) e = starts.1 (none d starts.0)
 
 pub touch_rule_dropped : (g : Grammar) (r : RuleText) (uses : List ℕ) (literals : List (Option Table)) (live : Rule) (touch : Touch)
-    → IsWellFormed g → IsAccepted g (DropRule r) → rule_found g r ≡ Some live → AreUses g.symbols g.rules uses → AreLiterals g.symbols literals
+    → IsWellFormed g → IsAccepted g (DropRule r) → rule_found g r ≡ Some live → AreUses g.symbols g.rules uses → AreLiteralTables g.symbols literals
     → touch.left ≡ Some live.left → touch.gone_rule ≡ Some live.number → ListsDefinitions (IsLastUse literals uses live.right) touch.gone_defs
     → (IsTrue touch.scan ↔ (touch.gone_defs ≡ [] → ⊥)) → IsTouchOf g (DropRule r) touch
 touch_rule_dropped g r uses literals live touch well accepted found are_uses are_literals left-is rule-is defs-are scan-is =
     let lists = lists_same _ _ touch.gone_defs (ends_last g r live well accepted found uses literals are_uses are_literals) defs-are in
     let changes = changes_ends g (after g (DropRule r)) touch.gone_defs (none_starts g r live well accepted found) lists in
     record {
-      left = left-is ∙ ap Some (left_is g r live well accepted found) ∙ ap (λ symbols. Some (number_of symbols (Named r.left))) (sym (symbols_stay_rule g r well accepted));
+      left = left-is ∙ ap Some (left_is g r live well accepted found) ∙ ap (λ symbols. Some (number_of symbols (Named r.left)))
+          (sym (symbols_stay_rule g r well accepted));
       gone_rule = rule-is ∙ sym (ap (option_map (λ live. live.number)) found);
       scan = (λ e. changes.1 (scan-is.0 e), λ w. scan-is.1 (changes.0 w));
       gone_defs = lists;
@@ -218,7 +233,8 @@ pub touch_definition_added : (g : Grammar) (skip : Bool) (d : DefText) (touch : 
 touch_definition_added g skip d touch well accepted left-is rule-is scan-is defs-is =
     let new : RuleId = record { 0 = g.version + 1 } in
     let now = (live_added g skip d well (named new)).1 (inr refl) in
-    let before : IsLive g (named new) → ⊥ = λ live. absurd (omega (arith, number_within g.version g.definitions new well.definition_numbers ((live_named g new).0 live))) in
+    let before : IsLive g (named new) → ⊥ = λ live. absurd (omega (arith, number_within g.version g.definitions new well.definition_numbers
+        ((live_named g new).0 live))) in
     record {
       left = left-is ∙ sym (added_left g skip d);
       gone_rule = rule-is ∙ sym (added_rule g skip d);
@@ -234,18 +250,21 @@ decide_named (named m) n = elim (cases_eq m.0 n.0) [
 ]
 
 -- the dropped one alone ends
-one_ends : (g : Grammar) (skip : Bool) (name : List ℕ) (gone : Definition) → IsWellFormed g → IsAccepted g (drops skip name) → definition_found g skip name ≡ Some gone
-    → ListsDefinitions (Ends g (after g (drops skip name))) (named gone.number ∷ [])
+one_ends : (g : Grammar) (skip : Bool) (name : List ℕ) (gone : Definition) → IsWellFormed g → IsAccepted g (drops skip name)
+    → definition_found g skip name ≡ Some gone
+    → ListsDefinitions (IsEnded g (after g (drops skip name))) (named gone.number ∷ [])
 unfolding IsStrictlySortedBy
 one_ends g skip name gone well accepted found =
-    let there = contains_map (λ (live : Definition). live.number) g.definitions gone ((found_there (is_named g.symbols skip name) g.definitions gone found).0) in
+    let there = contains_map (λ (live : Definition). live.number) g.definitions gone
+        ((found_there (is_named g.symbols skip name) g.definitions gone found).0) in
     let before = (live_named g gone.number).1 there in
-    let now : IsLive (after g (drops skip name)) (named gone.number) → ⊥ = λ live. ((live_dropped g skip name gone well accepted found (named gone.number)).0 live).1 refl in
+    let now : IsLive (after g (drops skip name)) (named gone.number)
+        → ⊥ = λ live. ((live_dropped g skip name gone well accepted found (named gone.number)).0 live).1 refl in
     record {
       order = (tt, tt);
       members = λ d. (
         λ c. elim (contains_cases (named gone.number) [] d c) [
-          | inl e ↦ subst (Ends g (after g (drops skip name))) e (before, now)
+          | inl e ↦ subst (IsEnded g (after g (drops skip name))) e (before, now)
           | inr none ↦ absurd (contains_none d none)
         ],
         λ ends. elim (decide_named d gone.number) [

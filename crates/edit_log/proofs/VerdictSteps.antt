@@ -1,5 +1,6 @@
 -- The verdict on an edit, step by step.
-use Rattle.std.proofs.Common.{◌≡◌, ◌⊎◌, ℕ, List, [], ◌∷◌, Bool, true, false, not, ◌||◌, cond, codes, inr, Option, Some, None, option_map, find, OnOk, IfErr, Result, Ok, Err, Bor, refl, ap, ◌∙◌}
+use Rattle.std.proofs.Common.{◌≡◌, ◌⊎◌, ℕ, List, [], ◌∷◌, Bool, true, false, not, ◌||◌, cond, codes, inr, Option, Some, None, option_map, find, OnOk, IfErr}
+use Rattle.std.proofs.Common.{Result, Ok, Err, Bor, refl, ap, ◌∙◌}
 use Rattle.std.specs.List.{list_any}
 use Rattle.std.specs.Option.{is_some, option_or}
 use Rattle.std.specs.Bool.{beq}
@@ -34,19 +35,23 @@ pub rule_clash : (g : Grammar) (r : RuleText) → is_some (named_in g r.left) �
 unfolding verdict
 rule_clash g r named = rw (any_find (has_name g.symbols r.left) g.definitions ∙ named) refl
 
-pub rule_twin : (g : Grammar) (r : RuleText) (number : RuleId) → is_some (named_in g r.left) ≡ false → option_map (λ live. live.number) (rule_found g r) ≡ Some number → verdict g (AddRule r) ≡ Some (Exists number.0)
+pub rule_twin : (g : Grammar) (r : RuleText) (number : RuleId) → is_some (named_in g r.left) ≡ false
+    → option_map (λ live. live.number) (rule_found g r) ≡ Some number → verdict g (AddRule r) ≡ Some (Exists number.0)
 unfolding verdict
 rule_twin g r number unnamed told = rw (any_find (has_name g.symbols r.left) g.definitions ∙ unnamed) (by (rule_found g r) told)
   where
-    by : (found : Option Rule) → option_map (λ live. live.number) found ≡ Some number → option_or (option_map (λ live. Exists live.number.0) found) (option_or None (fullness g)) ≡ Some (Exists number.0)
+    by : (found : Option Rule) → option_map (λ live. live.number) found ≡ Some number
+        → option_or (option_map (λ live. Exists live.number.0) found) (option_or None (fullness g)) ≡ Some (Exists number.0)
     by None told = absurd cc
     by (Some live) told = ap (λ (n : RuleId). Some (Exists n.0)) (same_Some live.number number told)
 
-pub rule_free : (g : Grammar) (r : RuleText) → is_some (named_in g r.left) ≡ false → option_map (λ live. live.number) (rule_found g r) ≡ None → verdict g (AddRule r) ≡ fullness g
+pub rule_free : (g : Grammar) (r : RuleText) → is_some (named_in g r.left) ≡ false → option_map (λ live. live.number) (rule_found g r) ≡ None
+    → verdict g (AddRule r) ≡ fullness g
 unfolding verdict
 rule_free g r unnamed told = rw (any_find (has_name g.symbols r.left) g.definitions ∙ unnamed) (by (rule_found g r) told)
   where
-    by : (found : Option Rule) → option_map (λ live. live.number) found ≡ None → option_or (option_map (λ live. Exists live.number.0) found) (option_or None (fullness g)) ≡ fullness g
+    by : (found : Option Rule) → option_map (λ live. live.number) found ≡ None
+        → option_or (option_map (λ live. Exists live.number.0) found) (option_or None (fullness g)) ≡ fullness g
     by None told = refl
     by (Some live) told = absurd cc
 
@@ -90,18 +95,21 @@ pub record IsPlain (g : Grammar) (name : List ℕ) : Type 0 where
   pub start : bytes_eq name (codes "START") ≡ false
   pub left : is_left g name ≡ false
 
-pub define_other : (g : Grammar) (skip : Bool) (d : DefText) (live : Definition) → IsPlain g d.name → definition_found g (not skip) d.name ≡ Some live → verdict g (adds skip d) ≡ Some (NameClash d.name)
+pub define_other : (g : Grammar) (skip : Bool) (d : DefText) (live : Definition) → IsPlain g d.name → definition_found g (not skip) d.name ≡ Some live
+    → verdict g (adds skip d) ≡ Some (NameClash d.name)
 unfolding verdict
 define_other g true d live plain found = rw (plain.start, plain.left, found) refl
 define_other g false d live plain found = rw (plain.start, plain.left, found) refl
 
-pub define_twin : (g : Grammar) (skip : Bool) (d : DefText) (live : Definition) → IsPlain g d.name → definition_found g (not skip) d.name ≡ None → definition_found g skip d.name ≡ Some live
+pub define_twin : (g : Grammar) (skip : Bool) (d : DefText) (live : Definition) → IsPlain g d.name → definition_found g (not skip) d.name ≡ None
+    → definition_found g skip d.name ≡ Some live
     → verdict g (adds skip d) ≡ Some (Exists live.number.0)
 unfolding verdict
 define_twin g true d live plain none found = rw (plain.start, plain.left, none, found) refl
 define_twin g false d live plain none found = rw (plain.start, plain.left, none, found) refl
 
-pub define_free : (g : Grammar) (skip : Bool) (d : DefText) → IsPlain g d.name → definition_found g (not skip) d.name ≡ None → definition_found g skip d.name ≡ None → verdict g (adds skip d) ≡ fullness g
+pub define_free : (g : Grammar) (skip : Bool) (d : DefText) → IsPlain g d.name → definition_found g (not skip) d.name ≡ None
+    → definition_found g skip d.name ≡ None → verdict g (adds skip d) ≡ fullness g
 unfolding verdict
 define_free g true d plain none found = rw (plain.start, plain.left, none, found) refl
 define_free g false d plain none found = rw (plain.start, plain.left, none, found) refl
@@ -111,7 +119,8 @@ unfolding verdict
 end_absent g true name found = rw found refl
 end_absent g false name found = rw found refl
 
-pub end_there : (g : Grammar) (skip : Bool) (name : List ℕ) (live : Definition) → definition_found g skip name ≡ Some live → verdict g (drops skip name) ≡ fullness g
+pub end_there : (g : Grammar) (skip : Bool) (name : List ℕ) (live : Definition) → definition_found g skip name ≡ Some live
+    → verdict g (drops skip name) ≡ fullness g
 unfolding verdict
 end_there g true name live found = rw found refl
 end_there g false name live found = rw found refl
@@ -156,15 +165,18 @@ not_this_kind skip live other = by skip live.is_skip refl other
 
 -- ---- what is left to check is whether there is room
 
-pub taken_by_room : (g : Grammar) (answer : Option Refusal) (checked : Result (Unit {0}) Refusal) → answer ≡ fullness g → OnOk checked (fullness g ≡ None) → OnOk checked (answer ≡ None)
+pub taken_by_room : (g : Grammar) (answer : Option Refusal) (checked : Result (Unit {0}) Refusal) → answer ≡ fullness g → OnOk checked (fullness g ≡ None)
+    → OnOk checked (answer ≡ None)
 taken_by_room g answer (Ok u) is taken = is ∙ taken
 taken_by_room g answer (Err e) is taken = tt
 
-pub refused_by_room : (g : Grammar) (answer : Option Refusal) (checked : Result (Unit {0}) Refusal) → answer ≡ fullness g → IfErr checked (λ e. fullness g ≡ Some e) → IfErr checked (λ e. answer ≡ Some e)
+pub refused_by_room : (g : Grammar) (answer : Option Refusal) (checked : Result (Unit {0}) Refusal) → answer ≡ fullness g
+    → IfErr checked (λ e. fullness g ≡ Some e) → IfErr checked (λ e. answer ≡ Some e)
 refused_by_room g answer (Ok u) is refused = tt
 refused_by_room g answer (Err e) is refused = is ∙ refused
 
-pub or_refused : (answer : Option Refusal) (P : Refusal → Type 0) (checked : Result (Unit {0}) Refusal) → IfErr checked (λ e. answer ≡ Some e) → IfErr checked (λ e. P e ⊎ (answer ≡ Some e))
+pub or_refused : (answer : Option Refusal) (P : Refusal → Type 0) (checked : Result (Unit {0}) Refusal) → IfErr checked (λ e. answer ≡ Some e)
+    → IfErr checked (λ e. P e ⊎ (answer ≡ Some e))
 or_refused answer P (Ok u) refused = tt
 or_refused answer P (Err e) refused = inr refused
 

@@ -45,7 +45,8 @@ rule_there g r none = by (rule_found g r) refl
     by None is = let lacks : lack g (DropRule r) ≡ Some NoSuch = rw is refl in absurd cc
     by (Some live) is = (live, is)
 
-pub definition_there : (g : Grammar) (skip : Bool) (name : List ℕ) → lack g (drops skip name) ≡ None → (live : Definition) × (definition_found g skip name ≡ Some live)
+pub definition_there : (g : Grammar) (skip : Bool) (name : List ℕ) → lack g (drops skip name) ≡ None
+    → (live : Definition) × (definition_found g skip name ≡ Some live)
 definition_there g true name none = by (definition_found g true name) refl
   where
     by : (o : Option Definition) → definition_found g true name ≡ o → (live : Definition) × (definition_found g true name ≡ Some live)

@@ -15,7 +15,8 @@ use Rattle.edit_log.specs.declared.limits.TheConstants.{LOG_LIMIT}
 use Rattle.edit_log.specs.Symbols.{text_of}
 use Rattle.edit_log.specs.History.{Definition, Grammar}
 use Rattle.edit_log.specs.Facts.{IsNamed, IsNumber, IsRight, IsWellFormed, definition_order}
-use Rattle.edit_log.proofs.PlainLists.{each_contained, all_contained, all_also, all_push, all_filter, contains_filter, distinct_filter, distinct_push, sorted_push}
+use Rattle.edit_log.proofs.PlainLists.{each_contained, all_contained, all_also, all_push, all_filter, contains_filter, distinct_filter, distinct_push}
+use Rattle.edit_log.proofs.PlainLists.{sorted_push}
 use Rattle.edit_log.proofs.Places.{Grows}
 use Rattle.edit_log.proofs.Texts.{slice_get-append, named-grow, right-grow, texts-grow}
 
@@ -24,7 +25,8 @@ use Rattle.edit_log.proofs.Texts.{slice_get-append, named-grow, right-grow, text
 abbrev pub next_with : Grammar → List Symbol → Grammar
 next_with g symbols = record { version = g.version + 1; symbols = symbols; rules = g.rules; definitions = g.definitions }
 
-grown : (g : Grammar) (more : List Symbol) → IsWellFormed g → g.version + 1 ≤ LOG_LIMIT → length more ≤ 17 → IsDistinct (g.symbols ++ more) → IsWellFormed (next_with g (g.symbols ++ more))
+grown : (g : Grammar) (more : List Symbol) → IsWellFormed g → g.version + 1 ≤ LOG_LIMIT → length more ≤ 17 → IsDistinct (g.symbols ++ more)
+    → IsWellFormed (next_with g (g.symbols ++ more))
 grown g more well room few apart = record {
   version = room;
   few = omega (arith, well.few, length-append g.symbols more, few);
@@ -42,9 +44,11 @@ grown g more well room few apart = record {
   apart = well.apart;
 }
 
-pub well_grown : (g : Grammar) (symbols : List Symbol) → IsWellFormed g → g.version + 1 ≤ LOG_LIMIT → Grows g.symbols symbols 17 → IsDistinct symbols → IsWellFormed (next_with g symbols)
+pub well_grown : (g : Grammar) (symbols : List Symbol) → IsWellFormed g → g.version + 1 ≤ LOG_LIMIT → Grows g.symbols symbols 17 → IsDistinct symbols
+    → IsWellFormed (next_with g symbols)
 well_grown g symbols well room grows apart =
-    subst (λ (ss : List Symbol). IsWellFormed (next_with g ss)) (sym grows.is) (grown g grows.more well room grows.few (subst (λ (ss : List Symbol). IsDistinct ss) grows.is apart))
+    subst (λ (ss : List Symbol). IsWellFormed (next_with g ss)) (sym grows.is)
+        (grown g grows.more well room grows.few (subst (λ (ss : List Symbol). IsDistinct ss) grows.is apart))
 
 -- ---- other rules
 
@@ -76,12 +80,14 @@ well_with_rule g r well new = record {
   rule_numbers = all_push _ g.rules r well.rule_numbers new.number;
   lefts = all_push _ g.rules r well.lefts new.left;
   rights = all_push _ g.rules r well.rights new.right;
-  rule_texts = subst (λ (texts : List RuleText). IsDistinct texts) (sym (map-append (text_of g.symbols) g.rules (r ∷ []))) (distinct_push (map (text_of g.symbols) g.rules) (text_of g.symbols r) well.rule_texts new.text);
+  rule_texts = subst (λ (texts : List RuleText). IsDistinct texts) (sym (map-append (text_of g.symbols) g.rules (r ∷ [])))
+      (distinct_push (map (text_of g.symbols) g.rules) (text_of g.symbols r) well.rule_texts new.text);
   definition_order = well.definition_order;
   definition_numbers = well.definition_numbers;
   names = well.names;
   one_each = well.one_each;
-  apart = all_contained _ g.definitions (λ live c. apart_push g.rules r live.name (each_contained _ g.definitions live well.apart c) (each_contained _ g.definitions live new.apart c));
+  apart = all_contained _ g.definitions (λ live c. apart_push g.rules r live.name (each_contained _ g.definitions live well.apart c)
+      (each_contained _ g.definitions live new.apart c));
 }
 
 pub well_without_rules : (g : Grammar) (test : Rule → Bool) → IsWellFormed g → IsWellFormed (with_rules g (filter test g.rules))
@@ -99,7 +105,8 @@ well_without_rules g test well = record {
   definition_numbers = well.definition_numbers;
   names = well.names;
   one_each = well.one_each;
-  apart = all_also _ (λ live. IsNonterminal (filter test g.rules) live.name → ⊥) g.definitions (λ live old (other, there, is). old (other, contains_filter test g.rules other there, is)) well.apart;
+  apart = all_also _ (λ live. IsNonterminal (filter test g.rules) live.name → ⊥) g.definitions (λ live old (other, there, is). old (other,
+      contains_filter test g.rules other there, is)) well.apart;
 }
 
 -- ---- other definitions
@@ -129,7 +136,8 @@ well_with_definition g d well new = record {
   definition_order = sorted_push (λ (live : Definition). live.number.0) g.definitions d new.last well.definition_order;
   definition_numbers = all_push _ g.definitions d well.definition_numbers new.number;
   names = all_push _ g.definitions d well.names new.name;
-  one_each = subst (λ (names : List SymbolId). IsDistinct names) (sym (map-append (λ (live : Definition). live.name) g.definitions (d ∷ []))) (distinct_push (map (λ (live : Definition). live.name) g.definitions) d.name well.one_each new.one);
+  one_each = subst (λ (names : List SymbolId). IsDistinct names) (sym (map-append (λ (live : Definition). live.name) g.definitions (d ∷ [])))
+      (distinct_push (map (λ (live : Definition). live.name) g.definitions) d.name well.one_each new.one);
   apart = all_push _ g.definitions d well.apart new.apart;
 }
 

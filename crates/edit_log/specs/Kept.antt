@@ -25,8 +25,8 @@ pub record AreUses (symbols : List Symbol) (rules : List Rule) (uses : List ℕ)
   pub counts : (place : ℕ) → place < length symbols → slice_get uses place ≡ Some (all_occurrences (record { 0 = place }) rules)
 
 -- the positions of each literal
-abbrev pub AreLiterals : List Symbol → List (Option Table) → Type 0
-AreLiterals symbols literals = AllZip ArePositionsOfSymbol symbols literals
+abbrev pub AreLiteralTables : List Symbol → List (Option Table) → Type 0
+AreLiteralTables symbols literals = AllZip ArePositionsOfSymbol symbols literals
 
 -- each rule is found by how it is written
 abbrev pub FindsRules : Grammar → (RuleText → Option RuleId) → Type 0
@@ -34,7 +34,8 @@ FindsRules grammar number_of = (r : RuleText) → number_of r ≡ option_map (λ
 
 -- each token and skip is found by its name
 abbrev pub FindsDefinitions : Grammar → (List ℕ → Option RuleId) → Type 0
-FindsDefinitions grammar number_of = (name : List ℕ) → number_of name ≡ option_map (λ live. live.number) (find (has_name grammar.symbols name) grammar.definitions)
+FindsDefinitions grammar number_of = (name : List ℕ) → number_of name ≡ option_map (λ live. live.number)
+    (find (has_name grammar.symbols name) grammar.definitions)
 
 -- the positions of a literal that is used
 abbrev pub live_literal : List ℕ → List (Option Table) → ℕ → Option Table

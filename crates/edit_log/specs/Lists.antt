@@ -45,5 +45,6 @@ Wakes literals uses right = (part : SymbolId) × Contains right part × HasLiter
 
 -- a literal whose uses all stand on this right side
 abbrev pub IsLastUse : List (Option Table) → List ℕ → List SymbolId → DefId → Type 0
-IsLastUse literals uses right (literal symbol) = Contains right symbol × HasLiteral literals symbol.0 × (slice_get uses symbol.0 ≡ Some (occurrences symbol right))
+IsLastUse literals uses right (literal symbol) = Contains right symbol × HasLiteral literals symbol.0 × (slice_get uses symbol.0
+    ≡ Some (occurrences symbol right))
 IsLastUse literals uses right (named number) = ⊥

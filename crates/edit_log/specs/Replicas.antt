@@ -23,7 +23,7 @@ use Rattle.edit_log.specs.Verdict.{IsAccepted, rule_found, definition_found}
 use Rattle.edit_log.specs.Touches.{IsTouchOf}
 
 -- for how many more there is memory: of each kind of thing, and of rules under each left side
-pub record Room : Type 0 where
+pub record Spare : Type 0 where
   pub symbols : ℕ
   pub rows : ℕ
   pub live : ℕ
@@ -36,14 +36,14 @@ pub record Room : Type 0 where
 -- the grammar that it holds, and the memory that it has
 pub record Replica : Type 0 where
   pub grammar : Grammar
-  pub room : Room
+  pub room : Spare
 
 -- for how many more elements the list has memory
 abbrev pub room_of : {X : Type 0} → Vec X Global → ℕ
 room_of list = vec_capacity list - vec_len list
 
 -- the first room is at most the second
-pub record IsNoMoreThan (old new : Room) : Type 0 where
+pub record IsNoMoreThan (old new : Spare) : Type 0 where
   pub symbols : old.symbols ≤ new.symbols
   pub rows : old.rows ≤ new.rows
   pub live : old.live ≤ new.live
@@ -55,7 +55,7 @@ pub record IsNoMoreThan (old new : Room) : Type 0 where
   pub under : (place count : ℕ) → slice_get old.under place ≡ Some count → (more : ℕ) × (slice_get new.under place ≡ Some more) × (count ≤ more)
 
 -- any edit brings at most 17 symbols, 17 definitions, and one rule or one token or skip
-pub record HasRoom (room : Room) : Type 0 where
+pub record HasRoom (room : Spare) : Type 0 where
   pub symbols : 17 ≤ room.symbols
   pub rows : 17 ≤ room.rows
   pub live : 17 ≤ room.live
@@ -65,7 +65,7 @@ pub record HasRoom (room : Room) : Type 0 where
   pub definition_numbers : 1 ≤ room.definition_numbers
 
 -- one more rule fits under the left side, where that is a symbol already
-abbrev pub HasRoomAt : Room → Option SymbolId → Type 0
+abbrev pub HasRoomAt : Spare → Option SymbolId → Type 0
 HasRoomAt room left = IfSome left (λ symbol. IfSome (slice_get room.under symbol.0) (λ count. 1 ≤ count))
 
 -- a rule that is added fits under its left side, where that is a symbol already
@@ -125,11 +125,15 @@ IsPlanFor grammar (AddRule r) (plan.AddRule p) =
     (p.text ≡ r) × (p.live ≡ numbered (after grammar (AddRule r)).symbols (grammar.version + 1) r) × AreFreshFor grammar (AddRule r) p.fresh.items
 IsPlanFor grammar (DropRule r) (plan.DropRule p) = (p.text ≡ r) × ((live : _) × (rule_found grammar r ≡ Some live) × (p.number ≡ live.number))
 IsPlanFor grammar (AddToken d) (plan.AddDefinition p) =
-    (p.name ≡ d.name) × IsNew grammar (AddToken d) p.live (defined (after grammar (AddToken d)).symbols (grammar.version + 1) false d) × AreFreshFor grammar (AddToken d) p.fresh.items
-IsPlanFor grammar (DropToken name) (plan.DropDefinition p) = (p.name ≡ name) × ((live : _) × (definition_found grammar false name ≡ Some live) × (p.number ≡ live.number))
+    (p.name ≡ d.name) × IsNew grammar (AddToken d) p.live (defined (after grammar (AddToken d)).symbols (grammar.version + 1) false d) × AreFreshFor grammar
+        (AddToken d) p.fresh.items
+IsPlanFor grammar (DropToken name) (plan.DropDefinition p) = (p.name ≡ name) × ((live : _) × (definition_found grammar false name ≡ Some live)
+    × (p.number ≡ live.number))
 IsPlanFor grammar (AddSkip d) (plan.AddDefinition p) =
-    (p.name ≡ d.name) × IsNew grammar (AddSkip d) p.live (defined (after grammar (AddSkip d)).symbols (grammar.version + 1) true d) × AreFreshFor grammar (AddSkip d) p.fresh.items
-IsPlanFor grammar (DropSkip name) (plan.DropDefinition p) = (p.name ≡ name) × ((live : _) × (definition_found grammar true name ≡ Some live) × (p.number ≡ live.number))
+    (p.name ≡ d.name) × IsNew grammar (AddSkip d) p.live (defined (after grammar (AddSkip d)).symbols (grammar.version + 1) true d) × AreFreshFor grammar
+        (AddSkip d) p.fresh.items
+IsPlanFor grammar (DropSkip name) (plan.DropDefinition p) = (p.name ≡ name) × ((live : _) × (definition_found grammar true name ≡ Some live)
+    × (p.number ≡ live.number))
 IsPlanFor grammar edit p = ⊥
 
 -- the replica takes the edit, of which this is the plan, and has the memory for it

@@ -60,11 +60,14 @@ pub data TokenizesFrom (grammar : Grammar) : (offset room : ℕ) → List ℕ �
   end : {offset room : ℕ} → TokenizesFrom grammar offset room [] (tokens [])
   none : {offset room : ℕ} {text : List ℕ} → 0 < length text → ((piece rest : List ℕ) → text ≡ piece ++ rest → IsMatched grammar piece → ⊥)
       → TokenizesFrom grammar offset room text (no_token offset)
-  skipped : {offset room : ℕ} {text piece rest : List ℕ} {winner : DefId} {scan : Scan} → IsLongest grammar text piece rest → IsWinner grammar piece winner → kind_of grammar winner ≡ Some skip
+  skipped : {offset room : ℕ} {text piece rest : List ℕ} {winner : DefId} {scan : Scan} → IsLongest grammar text piece rest → IsWinner grammar piece winner
+      → kind_of grammar winner ≡ Some skip
       → TokenizesFrom grammar (offset + length piece) room rest scan → TokenizesFrom grammar offset room text scan
-  full : {offset : ℕ} {text piece rest : List ℕ} {winner : DefId} {kind : SymbolId} → IsLongest grammar text piece rest → IsWinner grammar piece winner → kind_of grammar winner ≡ Some (token_of kind)
+  full : {offset : ℕ} {text piece rest : List ℕ} {winner : DefId} {kind : SymbolId} → IsLongest grammar text piece rest → IsWinner grammar piece winner
+      → kind_of grammar winner ≡ Some (token_of kind)
       → TokenizesFrom grammar offset 0 text (too_many offset)
-  more : {offset room : ℕ} {text piece rest : List ℕ} {winner : DefId} {kind : SymbolId} {scan : Scan} → IsLongest grammar text piece rest → IsWinner grammar piece winner
+  more : {offset room : ℕ} {text piece rest : List ℕ} {winner : DefId} {kind : SymbolId} {scan : Scan} → IsLongest grammar text piece rest
+      → IsWinner grammar piece winner
       → kind_of grammar winner ≡ Some (token_of kind) → TokenizesFrom grammar (offset + length piece) room rest scan
       → TokenizesFrom grammar offset (room + 1) text (before (token_at kind offset (offset + length piece)) scan)
 

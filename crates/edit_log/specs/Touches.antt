@@ -32,16 +32,16 @@ ended_rule grammar (AddSkip d) = None
 ended_rule grammar (DropSkip name) = None
 
 -- the definition is live in the first grammar, and not in the second
-abbrev pub Ends : Grammar → Grammar → DefId → Type 0
-Ends old new definition = IsLive old definition × (IsLive new definition → ⊥)
+abbrev pub IsEnded : Grammar → Grammar → DefId → Type 0
+IsEnded old new definition = IsLive old definition × (IsLive new definition → ⊥)
 
 -- some definition is live in one of the grammars alone
 abbrev pub ChangesDefinitions : Grammar → Grammar → Type 0
-ChangesDefinitions old new = (definition : DefId) × (Ends old new definition ⊎ Ends new old definition)
+ChangesDefinitions old new = (definition : DefId) × (IsEnded old new definition ⊎ IsEnded new old definition)
 
 -- what the edit touches where this grammar takes it
 pub record IsTouchOf (grammar : Grammar) (edit : Edit) (touch : Touch) : Type 0 where
   pub left : touch.left ≡ touched_left grammar edit
   pub gone_rule : touch.gone_rule ≡ ended_rule grammar edit
   pub scan : IsTrue touch.scan ↔ ChangesDefinitions grammar (after grammar edit)
-  pub gone_defs : ListsDefinitions (Ends grammar (after grammar edit)) touch.gone_defs
+  pub gone_defs : ListsDefinitions (IsEnded grammar (after grammar edit)) touch.gone_defs

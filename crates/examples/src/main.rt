@@ -1,15 +1,19 @@
 //! Runs each example in the folder that it is run in, and tells whether it gives what is written beside it.
 //!
-//! An example is a script `NAME.script` with its output `NAME.out`.
+//! An example is a script `NAME.script` with its output `NAME.out`. So is each block of the page `LANGUAGE.md` that
+//! is said to give the next one.
 #![tactic(auto)]
 
+mod language;
+
 use bench_io::{PlainSink, PlainSource};
+use language::count_blocks;
 use std::alloc::{AllocError, Global};
 use std::{fs, io};
 use workbench::run;
 
 /// What a run over the script writes.
-fn output_of(alloc: Global, script: Vec<u8>) -> Result<Vec<u8>, AllocError> {
+pub(crate) fn output_of(alloc: Global, script: Vec<u8>) -> Result<Vec<u8>, AllocError> {
     let mut source = PlainSource::new(script);
     let mut sink = PlainSink::new(alloc)?;
     run(alloc, &["workbench"], &mut source, &mut sink);
@@ -44,5 +48,7 @@ fn main(rt: HostRuntime) -> io::Result<()> {
         };
         println!(rt; "{name}: {answer}")?;
     }
-    Ok(())
+    let page = fs::read_to_string(&rt, "LANGUAGE.md")?;
+    let (right, wrong) = count_blocks(rt.alloc(), page.as_str())?;
+    println!(rt; "LANGUAGE.md: {right} as written, {wrong} DIFFER")
 }

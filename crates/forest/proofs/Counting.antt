@@ -30,5 +30,6 @@ pub at_most : {X : Type 0} (xs ys : List X) → IsDistinct xs → ((x : X) → C
 at_most [] ys d f = omega arith
 at_most (x ∷ xs) ys d f =
     let c = f x (contains_here x xs) in
-    let rest : length xs ≤ length (without ys c.0) = at_most xs (without ys c.0) d.1 (λ z m. still_there ys x z c (f z (contains_there x xs z m)) (λ e. d.0 (subst (λ w. Contains xs w) e m))) in
+    let rest : length xs ≤ length (without ys c.0) = at_most xs (without ys c.0) d.1 (λ z m. still_there ys x z c (f z (contains_there x xs z m))
+    (λ e. d.0 (subst (λ w. Contains xs w) e m))) in
     omega (arith, length-without ys c.0 c.1)

@@ -11,7 +11,8 @@ mutual
   Derives-le (token e) = omega arith
   Derives-le (by_rule c a) = Along-le a
 
-  pub Along-le : {rules : List Rule} {tokens : List SymbolId} {xs : List SymbolId} {i : ℕ} {cuts : List ℕ} {j : ℕ} → DerivesAlong rules tokens xs i cuts j → i ≤ j
+  pub Along-le : {rules : List Rule} {tokens : List SymbolId} {xs : List SymbolId} {i : ℕ} {cuts : List ℕ} {j : ℕ} → DerivesAlong rules tokens xs i cuts j
+      → i ≤ j
   Along-le done = omega arith
   Along-le (part d a) = omega (arith, Derives-le d, Along-le a)
 
@@ -37,7 +38,8 @@ module _ (rules : List Rule) (tokens : List SymbolId) (S : SymbolId → ℕ → 
     least_along (part d a) = more (least d) (least_along a)
 
 -- the derived spans are such a set
-mutual_along : {rules : List Rule} {tokens : List SymbolId} {xs : List SymbolId} {i : ℕ} {cuts : List ℕ} {j : ℕ} → Along (Derives rules tokens) xs i cuts j → DerivesAlong rules tokens xs i cuts j
+mutual_along : {rules : List Rule} {tokens : List SymbolId} {xs : List SymbolId} {i : ℕ} {cuts : List ℕ} {j : ℕ} → Along (Derives rules tokens) xs i cuts j
+    → DerivesAlong rules tokens xs i cuts j
 mutual_along end = done
 mutual_along (more d a) = part d (mutual_along a)
 
@@ -46,10 +48,12 @@ Derives-closed rules tokens = record { tokens_in = λ i x e. token e; rules_in =
 
 -- a derivation that begins within the text ends within it
 mutual
-  pub Derives-within : {rules : List Rule} {tokens : List SymbolId} {x : SymbolId} {i j : ℕ} → Derives rules tokens x i j → i ≤ length tokens → j ≤ length tokens
+  pub Derives-within : {rules : List Rule} {tokens : List SymbolId} {x : SymbolId} {i j : ℕ} → Derives rules tokens x i j → i ≤ length tokens
+      → j ≤ length tokens
   Derives-within {tokens} (token {x = x} {i = i} e) h = slice_get_within tokens i x e
   Derives-within (by_rule c a) h = Along-within a h
 
-  pub Along-within : {rules : List Rule} {tokens : List SymbolId} {xs : List SymbolId} {i : ℕ} {cuts : List ℕ} {j : ℕ} → DerivesAlong rules tokens xs i cuts j → i ≤ length tokens → j ≤ length tokens
+  pub Along-within : {rules : List Rule} {tokens : List SymbolId} {xs : List SymbolId} {i : ℕ} {cuts : List ℕ} {j : ℕ} → DerivesAlong rules tokens xs i cuts j
+      → i ≤ length tokens → j ≤ length tokens
   Along-within done h = h
   Along-within (part d a) h = Along-within a (Derives-within d h)

@@ -16,7 +16,8 @@ node_at x i j splits = record { symbol = x; from = i; to = j; splits = splits }
 
 module _ (rules : List Rule) (tokens : List SymbolId) where
   -- a split of one node is a split of another at its span
-  moved : (n m : Node) → IsNodeOf rules tokens n → IsNodeOf rules tokens m → IsAt m n.symbol n.from n.to → (s : Split) → Contains n.splits s → Contains m.splits s
+  moved : (n m : Node) → IsNodeOf rules tokens n → IsNodeOf rules tokens m → IsAt m n.symbol n.from n.to → (s : Split) → Contains n.splits s
+      → Contains m.splits s
   moved n m a b at s c =
       let here : IsSplit rules tokens n.symbol n.from n.to s = a.splits s c in
       let by_symbol : IsSplit rules tokens m.symbol n.from n.to s = subst (λ x. IsSplit rules tokens x n.from n.to s) (sym at.0) here in
@@ -25,8 +26,10 @@ module _ (rules : List Rule) (tokens : List SymbolId) where
 
   one_node : (n m : Node) → IsNodeOf rules tokens n → IsNodeOf rules tokens m → IsAt m n.symbol n.from n.to → m ≡ n
   one_node n m a b at =
-      let splits : m.splits ≡ n.splits = same_list split_cmp split_cmp_total m.splits n.splits b.order a.order (moved m n b a (sym at.0, sym at.1, sym at.2)) (moved n m a b at) in
-      ap (λ x. node_at x m.from m.to m.splits) at.0 ∙ ap (λ i. node_at n.symbol i m.to m.splits) at.1 ∙ ap (λ j. node_at n.symbol n.from j m.splits) at.2 ∙ ap (λ s. node_at n.symbol n.from n.to s) splits
+      let splits : m.splits ≡ n.splits = same_list split_cmp split_cmp_total m.splits n.splits b.order a.order (moved m n b a (sym at.0, sym at.1, sym at.2))
+      (moved n m a b at) in
+      ap (λ x. node_at x m.from m.to m.splits) at.0 ∙ ap (λ i. node_at n.symbol i m.to m.splits) at.1 ∙ ap (λ j. node_at n.symbol n.from j m.splits) at.2 ∙ ap
+      (λ s. node_at n.symbol n.from n.to s) splits
 
   -- each node of a forest of the text is in any other
   in_other : (f g : Forest) → IsForestOf rules tokens f → IsForestOf rules tokens g → (n : Node) → Contains f.nodes n → Contains g.nodes n

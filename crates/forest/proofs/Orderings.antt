@@ -19,11 +19,13 @@ rule_cmp_total = on_total (λ (r : Rule). r.number.0) nat_cmp_total
 
 pub node_cmp_total : IsTotalOrder node_cmp
 node_cmp_total =
-    let ends = then_total {R = on (λ (n : Node). n.to) nat_cmp} {S = on (λ (n : Node). n.symbol.0) nat_cmp} (on_total (λ (n : Node). n.to) nat_cmp_total) (on_total (λ (n : Node). n.symbol.0) nat_cmp_total) in
+    let ends = then_total {R = on (λ (n : Node). n.to) nat_cmp} {S = on (λ (n : Node). n.symbol.0) nat_cmp} (on_total (λ (n : Node). n.to) nat_cmp_total)
+    (on_total (λ (n : Node). n.symbol.0) nat_cmp_total) in
     then_total {R = on (λ (n : Node). n.from) nat_cmp} (on_total (λ (n : Node). n.from) nat_cmp_total) ends
 
 pub split_cmp_total : IsTotalOrder split_cmp
-split_cmp_total = then_total {R = on (λ (s : Split). s.rule.0) nat_cmp} {S = on (λ (s : Split). s.cuts) (slice_cmp nat_cmp)} (on_total (λ (s : Split). s.rule.0) nat_cmp_total) (on_total (λ (s : Split). s.cuts) nat_list_cmp_total)
+split_cmp_total = then_total {R = on (λ (s : Split). s.rule.0) nat_cmp} {S = on (λ (s : Split). s.cuts) (slice_cmp nat_cmp)}
+    (on_total (λ (s : Split). s.rule.0) nat_cmp_total) (on_total (λ (s : Split). s.cuts) nat_list_cmp_total)
 
 -- neither part tells them apart
 pub then_equal : (a b : Ordering) → ordering_then a b ≡ Equal → (a ≡ Equal) × (b ≡ Equal)
@@ -32,12 +34,14 @@ then_equal Equal b e = (refl, e)
 then_equal Greater b e = absurd cc
 
 -- rules ascend where each is above the one before it
-pub all_ascend : (rules : List Rule) (n : ℕ) → length rules ≤ n → ((k : ℕ) (d : Rule) → k + 1 < n → rule_cmp (get_or rules k d) (get_or rules (k + 1) d) ≡ Less) → IsStrictlySortedBy rule_cmp rules
+pub all_ascend : (rules : List Rule) (n : ℕ) → length rules ≤ n → ((k : ℕ) (d : Rule) → k + 1 < n → rule_cmp (get_or rules k d) (get_or rules (k + 1) d) ≡ Less)
+    → IsStrictlySortedBy rule_cmp rules
 all_ascend rules n whole each =
     let none : Rule = record { number = record { 0 = 0 }; left = record { 0 = 0 }; right = [] } in
     sorted_from_all_adjacent rule_cmp_total rules none (λ k l. each k none (omega arith))
 
-pub not_ascending : (rules : List Rule) (at : ℕ) (a b : Rule) → a ≡ get_or rules (at - 1) a → b ≡ get_or rules at b → 1 ≤ at → at < length rules → b.number.0 ≤ a.number.0 → IsStrictlySortedBy rule_cmp rules → ⊥
+pub not_ascending : (rules : List Rule) (at : ℕ) (a b : Rule) → a ≡ get_or rules (at - 1) a → b ≡ get_or rules at b → 1 ≤ at → at < length rules
+    → b.number.0 ≤ a.number.0 → IsStrictlySortedBy rule_cmp rules → ⊥
 not_ascending rules at a b is_a is_b one within above sorted =
     let same : get_or rules at a ≡ b = get_or_default rules at a b within ∙ sym is_b in
     let less : rule_cmp a b ≡ Less = rw (sym is_a, same) at (Less-from_sorted rule_cmp rules (at - 1) at a sorted (omega arith) within) in

@@ -61,11 +61,13 @@ module _ (nodes : List Node) (sorted : IsStrictlySortedBy node_cmp nodes) (x : S
       same : (a b c : ℕ) → ordering_then (nat_cmp a a) (ordering_then (nat_cmp b b) (nat_cmp c c)) ≡ Equal
       same a b c = rw (equal a, equal b, equal c) refl
 
-  pub found : (r : Result ℕ ℕ) → IsSearchInRange r (length nodes) → IsBinarySearchResult (λ node. span_cmp node x i j) nodes r → IfSome (result_ok r) (λ at. IsPosition nodes x i j at)
+  pub found : (r : Result ℕ ℕ) → IsSearchInRange r (length nodes) → IsBinarySearchResult (λ node. span_cmp node x i j) nodes r
+      → IfSome (result_ok r) (λ at. IsPosition nodes x i j at)
   found (Ok at) range h = record { within = range; here = λ d. equal_is_at (get_or nodes at d) (h d) }
   found (Err at) range h = tt
 
-  pub absent : (r : Result ℕ ℕ) → IsBinarySearchResult (λ node. span_cmp node x i j) nodes r → IfNone (result_ok r) ((node : Node) → Contains nodes node → IsAt node x i j → ⊥)
+  pub absent : (r : Result ℕ ℕ) → IsBinarySearchResult (λ node. span_cmp node x i j) nodes r
+      → IfNone (result_ok r) ((node : Node) → Contains nodes node → IsAt node x i j → ⊥)
   absent (Ok at) h = tt
   absent (Err at) h = λ node (k, within, is) here.
       let equal : span_cmp (get_or nodes k node) x i j ≡ Equal = rw is (at_is_equal node here) in

@@ -15,7 +15,8 @@ mutual
   -- of them is j, and no symbols derive only what lies from i to i.
   pub data DerivesAlong (rules : List Rule) (tokens : List SymbolId) : List SymbolId → ℕ → List ℕ → ℕ → Type 0 where
     done : {i : ℕ} → DerivesAlong rules tokens [] i [] i
-    part : {x : SymbolId} {xs : List SymbolId} {i k j : ℕ} {cuts : List ℕ} → Derives rules tokens x i k → DerivesAlong rules tokens xs k cuts j → DerivesAlong rules tokens (x ∷ xs) i (k ∷ cuts) j
+    part : {x : SymbolId} {xs : List SymbolId} {i k j : ℕ} {cuts : List ℕ} → Derives rules tokens x i k → DerivesAlong rules tokens xs k cuts j
+        → DerivesAlong rules tokens (x ∷ xs) i (k ∷ cuts) j
 
 -- START derives the whole text
 abbrev pub IsSentence : List Rule → List SymbolId → Type 0

@@ -29,7 +29,8 @@ pub data IsPart : List SymbolId → ℕ → List ℕ → SymbolId → ℕ → �
 -- the least set of spans that has START over the whole text, and each nonterminal part of each split of a span in it
 pub data InForest (rules : List Rule) (tokens : List SymbolId) : SymbolId → ℕ → ℕ → Type 0 where
   root : InForest rules tokens START 0 (length tokens)
-  part_of : {r : Rule} {i j : ℕ} {cuts : List ℕ} {y : SymbolId} {a b : ℕ} → InForest rules tokens r.left i j → Contains rules r → DerivesAlong rules tokens r.right i cuts j → IsPart r.right i cuts y a b → IsNonterminal rules y → InForest rules tokens y a b
+  part_of : {r : Rule} {i j : ℕ} {cuts : List ℕ} {y : SymbolId} {a b : ℕ} → InForest rules tokens r.left i j → Contains rules r
+      → DerivesAlong rules tokens r.right i cuts j → IsPart r.right i cuts y a b → IsNonterminal rules y → InForest rules tokens y a b
 
 -- the node has all splits of its span, each once, in order
 pub record IsNodeOf (rules : List Rule) (tokens : List SymbolId) (node : Node) : Type 0 where

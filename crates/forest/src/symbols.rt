@@ -1,6 +1,7 @@
 //! Symbols by number, right sides, and tokens.
 
 ghost use Rattle.std.specs.Prelude.{◌≡◌};
+ghost use Rattle.forest.specs.declared.symbols.TheConstants.{START};
 
 use std::marker::Model;
 
@@ -10,6 +11,11 @@ pub struct SymbolId(pub u32);
 
 /// The symbol that a whole text is derived from.
 pub const START: SymbolId = SymbolId(0);
+
+/// START has the lowest number.
+pub fn number_of_start()
+    ensures { START.0 ≡ 0 }
+{}
 
 /// A piece of a text, with its kind and the offsets of its first byte and of the byte after its last.
 #[derive(Clone, Copy, PartialEq, Eq, PartialOrd, Ord, Hash, Debug)]

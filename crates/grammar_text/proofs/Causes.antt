@@ -1,5 +1,6 @@
--- Reading a line is never refused for want of memory.
-use Rattle.std.proofs.Common.{◌≡◌, ℕ, zero, suc, Bool, true, false, cond, ltb, List, length, drop, Option, Some, None, Result, Ok, Err, subst}
+-- A line is never refused because memory ran out, and only for its length where all its parts are read.
+use Rattle.std.proofs.Common.{◌≡◌, ℕ, zero, suc, Bool, true, false, cond, if◌then◌else◌, nat_lt, ◌<◌, ◌↔◌, List, length, drop, Option, Some, None, Result, Ok, Err, refl, sym, subst}
+use Rattle.std.proofs.lemmas.Bool.{ltb-true, lt-ltb}
 use Rattle.std.specs.Prelude.{codes}
 use Rattle.std.specs.Str.{bytes_eq}
 use Rattle.grammar_text.specs.declared.limits.TheConstants.{EDIT_LIMIT}
@@ -8,22 +9,29 @@ use Rattle.grammar_text.specs.declared.bad_edit.BadEdit.TheVariants.{Shape, BadN
 use Rattle.grammar_text.specs.declared.edit.Edit.{Edit}
 use Rattle.grammar_text.specs.Names.{is_name}
 use Rattle.grammar_text.specs.Pieces.{Place, start_of, trimmed, piece_of, blank_led, is_empty}
+use Rattle.grammar_text.specs.Spelling.{Spells}
 use Rattle.grammar_text.specs.Canonical.{canonical}
-use Rattle.grammar_text.specs.Limits.{Room, the_limits}
+use Rattle.grammar_text.specs.Limits.{Room, the_limits, PartsFit, IsTooLong}
 use Rattle.grammar_text.specs.Reading.{◌>>=◌, piece_at, piece_end, word_at, name_at, literal_at, literal_from, is_quoted, symbol_at, symbols_at, rule_at, expression_at, definition_at, last_name_at, dropped_at, edit_at, edit_of}
+use Rattle.grammar_text.proofs.EditLaws.{edit_takes}
+use Rattle.grammar_text.proofs.EditReads.{edit_again}
 
+-- a piece is wrong
 abbrev IsOther : BadEdit → Type 0
 IsOther (Shape offset) = Unit {0}
 IsOther (BadName offset) = Unit {0}
 IsOther (BadLiteral offset) = Unit {0}
 IsOther (TooManySymbols offset) = Unit {0}
-IsOther (TooLong offset) = Unit {0}
+IsOther (TooLong offset) = ⊥
 IsOther NoMemory = ⊥
 
--- what was read, or a refusal for something in the line
+-- what was read, or a refusal for a piece
 abbrev Tells : {A : Type 0} → Result A BadEdit → Type 0
 Tells (Ok x) = Unit {0}
 Tells (Err e) = IsOther e
+
+err_is : (a b : BadEdit) → ◌≡◌ {A = Result Edit BadEdit} (Err a) (Err b) → a ≡ b
+err_is a b e = cc
 
 bind_tells : {A B : Type 0} (r : Result A BadEdit) (f : A → Result B BadEdit) → Tells r → ((x : A) → Tells (f x)) → Tells (r >>= f)
 bind_tells (Ok x) f first later = later x
@@ -100,10 +108,52 @@ edit_tells room place =
     (choice_tells (bytes_eq (piece_of next.left) (codes "skip")) _ _ (bind_tells (definition_at behind) _ (definition_tells behind) (λ definition. tt))
     (choice_tells (bytes_eq (piece_of next.left) (codes "drop")) _ _ (dropped_tells room behind) tt)))
 
-line_tells : (line : List ℕ) → Tells (edit_of line)
-unfolding edit_of
-line_tells line =
-    bind_tells (edit_at the_limits (start_of line)) _ (edit_tells the_limits (start_of line)) (λ edit. choice_tells (ltb EDIT_LIMIT (length (canonical edit))) _ _ tt tt)
+-- the edit, if it is short enough
+abbrev short_edit : Edit → Result Edit BadEdit
+short_edit edit = if nat_lt EDIT_LIMIT (length (canonical edit)) then Err (TooLong 0) else Ok edit
+
+not_memory : (long : Bool) (edit : Edit) → ¬ ((if long then Err (TooLong 0) else Ok edit) ≡ Err NoMemory)
+not_memory true edit is = cc
+not_memory false edit is = cc
+
+short_or_not : (read : Result Edit BadEdit) → Tells read → ¬ ((read >>= short_edit) ≡ Err NoMemory)
+short_or_not (Ok edit) told is = not_memory (nat_lt EDIT_LIMIT (length (canonical edit))) edit is
+short_or_not (Err e) told is = subst (λ (why : BadEdit). IsOther why) (err_is e NoMemory is) told
 
 pub never_memory : (line : List ℕ) → ¬ (edit_of line ≡ Err NoMemory)
-never_memory line is = subst (λ (read : Result Edit BadEdit). Tells read) is (line_tells line)
+unfolding edit_of
+never_memory line is = short_or_not (edit_at the_limits (start_of line)) (edit_tells the_limits (start_of line)) is
+
+-- the test says that the text is too long
+is_long : (long : Bool) (at : ℕ) (edit : Edit) → (if long then Err (TooLong 0) else Ok edit) ≡ Err (TooLong at) → (long ≡ true) × (at ≡ 0)
+is_long true at edit is = let same : 0 ≡ at = cc in (refl, sym same)
+is_long false at edit is = absurd cc
+
+long_edit : (at : ℕ) (read : Result Edit BadEdit) → Tells read → (read >>= short_edit) ≡ Err (TooLong at) → (edit : Edit) × (read ≡ Ok edit) × (EDIT_LIMIT < length (canonical edit)) × (at ≡ 0)
+long_edit at (Ok edit) told is =
+    let long = is_long (nat_lt EDIT_LIMIT (length (canonical edit))) at edit is in
+    (edit, refl, ltb-true EDIT_LIMIT (length (canonical edit)) long.0, long.1)
+long_edit at (Err e) told is = absurd (subst (λ (why : BadEdit). IsOther why) (err_is e (TooLong at) is) told)
+
+-- a line is too long where its edit is
+pub too_long : (line : List ℕ) (at : ℕ) → (edit_of line ≡ Err (TooLong at)) ↔ ((at ≡ 0) × IsTooLong line)
+unfolding edit_of
+too_long line at = (
+  (λ is.
+      let long = long_edit at (edit_at the_limits (start_of line)) (edit_tells the_limits (start_of line)) is in
+      let read = edit_takes the_limits (start_of line) long.0 long.1 in
+      (long.3, (long.0, read.0, read.1, long.2))),
+  λ is.
+      let edit = is.1.0 in
+      rw (edit_again the_limits (length line) line edit is.1.1 is.1.2, lt-ltb EDIT_LIMIT (length (canonical edit)) is.1.3, is.0) refl,
+)
+
+long_why : (long : Bool) (edit : Edit) (why : BadEdit) → (if long then Err (TooLong 0) else Ok edit) ≡ Err why → why ≡ TooLong 0
+long_why true edit why is = sym (err_is (TooLong 0) why is)
+long_why false edit why is = absurd cc
+
+-- where all parts are read, only the length can be wrong
+pub only_too_long : (line : List ℕ) (edit : Edit) (why : BadEdit) → edit_of line ≡ Err why → Spells line edit → PartsFit the_limits edit → why ≡ TooLong 0
+unfolding edit_of
+only_too_long line edit why is spelled fits =
+    long_why (nat_lt EDIT_LIMIT (length (canonical edit))) edit why (rw (edit_again the_limits (length line) line edit spelled fits) at is)

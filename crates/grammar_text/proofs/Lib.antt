@@ -8,4 +8,5 @@ pub mod EditLaws
 pub mod EditReads
 pub mod Causes
 pub mod ByteTexts
+pub mod Outputs
 pub mod Soundness

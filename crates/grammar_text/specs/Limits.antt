@@ -1,5 +1,5 @@
 -- Which edits are within the limits.
-use Rattle.std.specs.Prelude.{ℕ, ◌≤◌, List, length}
+use Rattle.std.specs.Prelude.{ℕ, ◌<◌, ◌≤◌, List, length}
 use Rattle.std.specs.List.{AllByRecursion}
 use Rattle.grammar_text.specs.declared.limits.TheConstants.{LITERAL_LIMIT, SYMBOL_LIMIT, EDIT_LIMIT}
 use Rattle.grammar_text.specs.declared.symbol.Symbol.{Symbol}
@@ -37,6 +37,10 @@ PartsFit room (DropSkip name) = Unit {0}
 pub record IsWithinLimits (edit : Edit) : Type 0 where
   pub parts : PartsFit the_limits edit
   pub text : length (canonical edit) ≤ EDIT_LIMIT
+
+-- the line spells an edit whose parts fit, and whose canonical text has too many bytes
+abbrev pub IsTooLong : List ℕ → Type 0
+IsTooLong line = (edit : Edit) × Spells line edit × PartsFit the_limits edit × (EDIT_LIMIT < length (canonical edit))
 
 -- the canonical text is a line of bytes that spells the edit, within the limits
 pub record IsSound (edit : Edit) : Type 0 where

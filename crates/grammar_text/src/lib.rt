@@ -4,13 +4,13 @@
 use std::alloc::AllocError;
 
 mod bad_edit;
-mod canonical;
 mod cursor;
 mod edit;
 mod laws;
 mod limits;
 mod literal;
 mod name;
+mod output;
 mod pieces;
 mod reading;
 mod sameness;
@@ -19,18 +19,20 @@ mod text;
 mod writing;
 
 pub use bad_edit::BadEdit;
-pub use canonical::written_len;
 pub use edit::{DefText, Edit, RuleText};
-pub use laws::{canonical_is_spelled, never_memory, one_edit, reads_back};
+pub use laws::{
+    canonical_is_spelled, never_memory, one_edit, read_as_spelled, reads_back, too_long,
+};
 pub use limits::{
     EDIT_LIMIT, LINE_LIMIT, LITERAL_LIMIT, NAME_LIMIT, SYMBOL_LIMIT, limits_of_edits,
 };
 pub use name::Name;
+pub use output::Output;
 pub use pieces::{split_piece, trimmed};
 pub use reading::read_edit;
 pub use symbol::{Symbol, Symbols};
 pub use text::Text;
-pub use writing::write_edit;
+pub use writing::{put_edit, write_edit, written_len};
 
 /// Memory ran out.
 pub type NoMemory = AllocError;

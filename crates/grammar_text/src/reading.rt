@@ -9,7 +9,6 @@ ghost use Rattle.grammar_text.specs.Limits.{IsWithinLimits, IsSound, the_limits}
 ghost use Rattle.grammar_text.specs.Reading.{Gives, word_at, name_at, literal_from, literal_at, symbol_at, symbols_at, rule_at, expression_at, definition_at, last_name_at, dropped_at, edit_at, edit_of};
 
 use crate::bad_edit::BadEdit;
-use crate::canonical::written_len;
 use crate::cursor::Cursor;
 use crate::edit::{DefText, Edit, RuleText};
 use crate::limits::{EDIT_LIMIT, SYMBOL_LIMIT};
@@ -18,6 +17,7 @@ use crate::name::{Name, is_name};
 use crate::pieces::is_blank_led;
 use crate::symbol::{Symbol, Symbols};
 use crate::text::Text;
+use crate::writing::written_len;
 use std::alloc::Global;
 
 /// The place behind a word that must come next.

@@ -9,7 +9,7 @@ ghost use Rattle.grammar_text.specs.Sameness.{symbol_eq, symbol_eq-decides, symb
 
 use crate::edit::{DefText, RuleText};
 use crate::name::Name;
-use crate::symbol::{Symbol, Symbols};
+use crate::symbol::Symbol;
 use crate::text::Text;
 use std::hash::{Hash, Hasher};
 
@@ -95,30 +95,6 @@ impl Hash for Symbol {
                 text.hash(state);
             }
         }
-    }
-}
-
-impl PartialEq for Symbols {
-    ghost eq = { symbols_eq };
-
-    ghost laws = { partial_equiv_from_equiv (decided symbols_eq symbols_eq-decides) };
-
-    fn eq(&self, other: &Symbols) -> bool {
-        self.as_slice() == other.as_slice()
-    }
-}
-
-impl Eq for Symbols {
-    ghost laws = { decided symbols_eq symbols_eq-decides };
-}
-
-impl Hash for Symbols {
-    ghost hash_input = { fed.slice symbol_fed };
-
-    ghost respects_eq = { (fed.same_Alike (fed.slice symbol_fed) symbols_eq-decides).fed };
-
-    fn hash<H: Hasher>(&self, state: &mut H) {
-        self.as_slice().hash(state);
     }
 }
 

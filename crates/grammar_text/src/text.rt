@@ -1,6 +1,6 @@
 //! Bytes of any kind: what a literal stands for, or the text of an expression.
 
-ghost use Rattle.std.specs.Prelude.{◌≡◌, ◌↔◌, IsTrue};
+ghost use Rattle.std.specs.Prelude.{◌≡◌, ◌↔◌, ◌++◌, ◌∷◌, [], IsTrue, OnOk};
 
 use std::alloc::AllocError;
 use std::marker::Model;
@@ -25,6 +25,21 @@ impl Text {
         ensures { result ≡ bytes.items }
     {
         Text { bytes }
+    }
+
+    /// The bytes of the text.
+    pub fn into_vec(self) -> Vec<u8>
+        ensures { result.items ≡ self }
+    {
+        self.bytes
+    }
+
+    /// Adds the byte at the end.
+    pub(crate) fn push(&mut self, byte: u8) -> Result<(), AllocError>
+        ensures { OnOk result (self.new ≡ self.old ++ byte ∷ []) }
+    {
+        self.bytes.push(byte)?;
+        Ok(())
     }
 
     pub fn bytes(&self) -> &[u8]

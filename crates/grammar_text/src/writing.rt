@@ -1,123 +1,142 @@
-//! Writing an edit.
+//! Writing an edit: one walk over it, whatever takes its bytes.
 
-ghost use Rattle.std.specs.Prelude.{◌≡◌, ◌++◌, List, OnOk, IfOk};
-ghost use Rattle.std.specs.List.{flat_map};
+ghost use Rattle.std.specs.Prelude.{◌≡◌, ◌<◌, ◌^◌, length, OnOk, IfOk};
+ghost use Rattle.std.specs.List.{fold, flat_map};
 ghost use Rattle.grammar_text.specs.Canonical.{escaped, symbol_text, spaced, symbols_text, rule_text, definition_text, canonical};
 
 use crate::NoMemory;
 use crate::edit::{DefText, Edit, RuleText};
+use crate::output::{Length, Output};
 use crate::symbol::Symbol;
+use crate::text::Text;
 use std::alloc::Global;
 
-fn push_escaped(out: &mut Vec<u8>, byte: u8) -> Result<(), NoMemory>
-    ensures { OnOk result (out.new.items ≡ out.old.items ++ escaped byte) }
+fn put_all<O: Output>(out: &mut O, bytes: &[u8]) -> Result<(), O::Error>
+    ensures { OnOk result (out.new ≡ fold O.after out.old bytes.now) }
 {
-    match byte {
-        b'"' => out.extend_from_slice(b"\\\"")?,
-        b'\\' => out.extend_from_slice(b"\\\\")?,
-        b'\n' => out.extend_from_slice(b"\\n")?,
-        b'\t' => out.extend_from_slice(b"\\t")?,
-        _ => out.push(byte)?,
+    for byte in bytes {
+        out.put(*byte)?;
     }
     Ok(())
 }
 
-fn push_all_escaped(out: &mut Vec<u8>, bytes: &[u8]) -> Result<(), NoMemory>
-    ensures { OnOk result (out.new.items ≡ out.old.items ++ flat_map escaped bytes.now) }
+fn put_escaped<O: Output>(out: &mut O, byte: u8) -> Result<(), O::Error>
+    ensures { OnOk result (out.new ≡ fold O.after out.old (escaped byte)) }
+{
+    match byte {
+        b'"' => put_all(out, b"\\\""),
+        b'\\' => put_all(out, b"\\\\"),
+        b'\n' => put_all(out, b"\\n"),
+        b'\t' => put_all(out, b"\\t"),
+        _ => out.put(byte),
+    }
+}
+
+fn put_all_escaped<O: Output>(out: &mut O, bytes: &[u8]) -> Result<(), O::Error>
+    ensures { OnOk result (out.new ≡ fold O.after out.old (flat_map escaped bytes.now)) }
 {
     for byte in bytes {
-        push_escaped(out, *byte)?;
+        put_escaped(out, *byte)?;
     }
     Ok(())
 }
 
 /// Writes a space and the piece.
-fn push_spaced(out: &mut Vec<u8>, piece: &[u8]) -> Result<(), NoMemory>
-    ensures { OnOk result (out.new.items ≡ out.old.items ++ spaced piece.now) }
+fn put_spaced<O: Output>(out: &mut O, piece: &[u8]) -> Result<(), O::Error>
+    ensures { OnOk result (out.new ≡ fold O.after out.old (spaced piece.now)) }
 {
-    out.push(b' ')?;
-    out.extend_from_slice(piece)?;
-    Ok(())
+    out.put(b' ')?;
+    put_all(out, piece)
 }
 
 /// Writes a space and the symbol.
-fn push_symbol(out: &mut Vec<u8>, symbol: &Symbol) -> Result<(), NoMemory>
-    ensures { OnOk result (out.new.items ≡ out.old.items ++ spaced (symbol_text symbol.now)) }
+fn put_symbol<O: Output>(out: &mut O, symbol: &Symbol) -> Result<(), O::Error>
+    ensures { OnOk result (out.new ≡ fold O.after out.old (spaced (symbol_text symbol.now))) }
 {
     match symbol {
-        Symbol::Named(name) => push_spaced(out, name.bytes())?,
+        Symbol::Named(name) => put_spaced(out, name.bytes()),
         Symbol::Literal(text) => {
-            out.extend_from_slice(b" \"")?;
-            push_all_escaped(out, text.bytes())?;
-            out.push(b'"')?;
+            put_all(out, b" \"")?;
+            put_all_escaped(out, text.bytes())?;
+            out.put(b'"')
         }
     }
-    Ok(())
 }
 
-fn push_symbols(out: &mut Vec<u8>, symbols: &[Symbol]) -> Result<(), NoMemory>
-    ensures { OnOk result (out.new.items ≡ out.old.items ++ symbols_text symbols.now) }
+fn put_symbols<O: Output>(out: &mut O, symbols: &[Symbol]) -> Result<(), O::Error>
+    ensures { OnOk result (out.new ≡ fold O.after out.old (symbols_text symbols.now)) }
 {
     for symbol in symbols {
-        push_symbol(out, symbol)?;
+        put_symbol(out, symbol)?;
     }
     Ok(())
 }
 
-fn push_rule(out: &mut Vec<u8>, rule: &RuleText) -> Result<(), NoMemory>
-    ensures { OnOk result (out.new.items ≡ out.old.items ++ rule_text rule.now) }
+fn put_rule<O: Output>(out: &mut O, rule: &RuleText) -> Result<(), O::Error>
+    ensures { OnOk result (out.new ≡ fold O.after out.old (rule_text rule.now)) }
 {
-    push_spaced(out, rule.left.bytes())?;
-    push_spaced(out, b"::=")?;
-    push_symbols(out, rule.right.as_slice())
+    put_spaced(out, rule.left.bytes())?;
+    put_spaced(out, b"::=")?;
+    put_symbols(out, rule.right.as_slice())
 }
 
-fn push_definition(out: &mut Vec<u8>, definition: &DefText) -> Result<(), NoMemory>
-    ensures { OnOk result (out.new.items ≡ out.old.items ++ definition_text definition.now) }
+fn put_definition<O: Output>(out: &mut O, definition: &DefText) -> Result<(), O::Error>
+    ensures { OnOk result (out.new ≡ fold O.after out.old (definition_text definition.now)) }
 {
-    push_spaced(out, definition.name.bytes())?;
-    push_spaced(out, b"=")?;
-    push_spaced(out, definition.expression.bytes())
+    put_spaced(out, definition.name.bytes())?;
+    put_spaced(out, b"=")?;
+    put_spaced(out, definition.expression.bytes())
 }
 
+/// Writes the edit's canonical text: one space between its pieces and none at its ends, and in literals a
+/// quote, a backslash, a line's end and a tab by their escapes. An expression stands as it is.
 #[tactic(auto, unfolding(crate::specs::Canonical::canonical))]
-fn push_edit(out: &mut Vec<u8>, edit: &Edit) -> Result<(), NoMemory>
-    ensures { OnOk result (out.new.items ≡ out.old.items ++ canonical edit.now) }
+pub fn put_edit<O: Output>(out: &mut O, edit: &Edit) -> Result<(), O::Error>
+    ensures { OnOk result (out.new ≡ fold O.after out.old (canonical edit.now)) }
 {
     match edit {
         Edit::AddRule(rule) => {
-            out.extend_from_slice(b"rule")?;
-            push_rule(out, rule)
+            put_all(out, b"rule")?;
+            put_rule(out, rule)
         }
         Edit::DropRule(rule) => {
-            out.extend_from_slice(b"drop rule")?;
-            push_rule(out, rule)
+            put_all(out, b"drop rule")?;
+            put_rule(out, rule)
         }
         Edit::AddToken(definition) => {
-            out.extend_from_slice(b"token")?;
-            push_definition(out, definition)
+            put_all(out, b"token")?;
+            put_definition(out, definition)
         }
         Edit::DropToken(name) => {
-            out.extend_from_slice(b"drop token")?;
-            push_spaced(out, name.bytes())
+            put_all(out, b"drop token")?;
+            put_spaced(out, name.bytes())
         }
         Edit::AddSkip(definition) => {
-            out.extend_from_slice(b"skip")?;
-            push_definition(out, definition)
+            put_all(out, b"skip")?;
+            put_definition(out, definition)
         }
         Edit::DropSkip(name) => {
-            out.extend_from_slice(b"drop skip")?;
-            push_spaced(out, name.bytes())
+            put_all(out, b"drop skip")?;
+            put_spaced(out, name.bytes())
         }
     }
 }
 
-/// The canonical text of the edit: one space between its pieces and none at its ends, and in literals a
-/// quote, a backslash, a line's end and a tab by their escapes. An expression stands as it is.
+/// The canonical text of the edit, as [`put_edit`] writes it.
 pub fn write_edit(alloc: Global, edit: &Edit) -> Result<Vec<u8>, NoMemory>
     ensures { IfOk result (λ text. text.items ≡ canonical edit.now) }
 {
-    let mut text = Vec::new(alloc);
-    push_edit(&mut text, edit)?;
-    Ok(text)
+    let mut text = Text::from_vec(Vec::new(alloc));
+    put_edit(&mut text, edit)?;
+    Ok(text.into_vec())
+}
+
+/// The length of the edit's canonical text. Takes no memory.
+pub fn written_len(edit: &Edit) -> usize
+    requires { length (canonical edit.now) < 2 ^ 32 }
+    ensures { result ≡ length (canonical edit.now) }
+{
+    let mut length = Length { bytes: 0 };
+    let Ok(()) = put_edit(&mut length, edit);
+    length.bytes
 }

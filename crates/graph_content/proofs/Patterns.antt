@@ -23,7 +23,7 @@ use Rattle.edit_log.specs.Lists.{all_occurrences}
 use Rattle.edit_log.specs.Replicas.{adds, drops}
 use Rattle.edit_log.proofs.PlainLists.{all_contained, each_contained, find_kept, find_push-first}
 use Rattle.edit_log.proofs.NewSymbols.{with_symbols-grown}
-use Rattle.edit_log.proofs.LiveFacts.{live_literal, live_named, counted_within, numbers_in}
+use Rattle.edit_log.proofs.LiveByUses.{live_literal, live_named, counted_within, numbers_in}
 use Rattle.edit_log.proofs.LiveAfter.{symbol_kept, number_within, live_dropped}
 use Rattle.edit_log.proofs.After.{definitions_dropped}
 use Rattle.edit_log.proofs.Verdicts.{free, definition_there}

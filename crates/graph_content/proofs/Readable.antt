@@ -19,7 +19,7 @@ use Rattle.edit_log.specs.Verdict.{AreAccepted, IsAccepted, IsHistory}
 use Rattle.edit_log.specs.Live.{IsLive, is_literal, kind_of_definition, definition_of}
 use Rattle.edit_log.proofs.PlainLists.{all_contained, each_contained, all_push, all_filter}
 use Rattle.edit_log.proofs.NewSymbols.{with_symbols-grown}
-use Rattle.edit_log.proofs.LiveFacts.{found_there, live_literal}
+use Rattle.edit_log.proofs.LiveByUses.{found_there, live_literal}
 use Rattle.isg_states.specs.declared.mark.Mark.{Mark}
 use Rattle.isg_states.specs.declared.scan_key.ScanKey.TheVariants.{Start}
 use Rattle.isg_states.specs.Patterns.{Pattern, bytes, expression, HasPattern, MarkedWord, classes_in}

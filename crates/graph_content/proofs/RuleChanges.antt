@@ -22,7 +22,7 @@ use Rattle.edit_log.specs.Touches.{IsTouchOf}
 use Rattle.edit_log.specs.Replicas.{adds, drops}
 use Rattle.edit_log.proofs.PlainLists.{each_contained, contains_filter, filter_passes, distinct_map, sorted_keys}
 use Rattle.edit_log.proofs.DefinitionOrder.{contains_first, contains_later, contains_cases, contains_none}
-use Rattle.edit_log.proofs.LiveFacts.{found_there}
+use Rattle.edit_log.proofs.LiveByUses.{found_there}
 use Rattle.edit_log.proofs.NewLiterals.{place_is}
 use Rattle.edit_log.proofs.After.{symbols_stay_rule, rules_dropped, well_formed_after}
 use Rattle.edit_log.proofs.Verdicts.{free, rule_there}

@@ -7,7 +7,7 @@ use Rattle.edit_log.specs.History.{Grammar, after}
 use Rattle.edit_log.specs.Facts.{IsWellFormed}
 use Rattle.edit_log.specs.Verdict.{IsAccepted}
 use Rattle.edit_log.specs.Live.{IsLive, is_live}
-use Rattle.edit_log.specs.Touches.{IsTouchOf, Ends, ChangesDefinitions}
+use Rattle.edit_log.specs.Touches.{IsTouchOf, IsEnded, ChangesDefinitions}
 use Rattle.isg_states.specs.declared.mark.Mark.{Mark}
 use Rattle.isg_states.specs.declared.scan_key.ScanKey.{ScanKey}
 use Rattle.isg_states.specs.declared.scan_key.ScanKey.TheVariants.{Start, Set}

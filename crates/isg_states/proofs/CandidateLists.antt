@@ -1,5 +1,6 @@
 -- Candidates, and those of them whose class has a byte.
-use Rattle.std.proofs.Common.{◌≡◌, ℕ, true, false, Bool, ◌+◌, ◌<◌, inl, inr, IsTrue, if◌then◌else◌, List, [], ◌∷◌, ◌++◌, length, get_or, take, refl, sym, ap, ◌∙◌, subst, append-nil, append_assoc, slice_index_or, Contains}
+use Rattle.std.proofs.Common.{◌≡◌, ℕ, true, false, Bool, ◌+◌, ◌<◌, inl, inr, IsTrue, if◌then◌else◌, List, [], ◌∷◌, ◌++◌, length, get_or, take, refl, sym, ap}
+use Rattle.std.proofs.Common.{◌∙◌, subst, append-nil, append_assoc, slice_index_or, Contains}
 use Rattle.std.proofs.lemmas.List.{take_more}
 use Rattle.std.proofs.lemmas.List.Elements.{Contains-push_cases}
 use Rattle.std.specs.declared.cmp.Ordering.TheVariants.{Less}
@@ -39,7 +40,8 @@ with_push (x ∷ cs) c byte =
 one_more : (cs : List Candidate) (i : ℕ) (c : Candidate) (byte : ℕ) → i < length cs → c ≡ get_or cs i c
     → marks_with (take (i + 1) cs) byte ≡ marks_with (take i cs) byte ++ chosen c byte
 one_more cs i c byte within is =
-    ap (λ t. marks_with t byte) (take_more cs i c within) ∙ with_push (take i cs) (get_or cs i c) byte ∙ ap (λ x. marks_with (take i cs) byte ++ chosen x byte) (sym is)
+    ap (λ t. marks_with t byte) (take_more cs i c within) ∙ with_push (take i cs) (get_or cs i c) byte ∙ ap (λ x. marks_with (take i cs) byte ++ chosen x byte)
+        (sym is)
 
 pub with_more : (cs : List Candidate) (i : ℕ) (c : Candidate) (byte : ℕ) → i < length cs → c ≡ get_or cs i c → has c.class.now byte ≡ true
     → marks_with (take (i + 1) cs) byte ≡ marks_with (take i cs) byte ++ c.mark ∷ []
@@ -95,12 +97,14 @@ keep_later c cs byte mark k = by (has c.class.now byte) where
   by false = k
 
 keep_here : (c : Candidate) (cs : List Candidate) (byte : ℕ) → has c.class.now byte ≡ true → Contains (marks_with (c ∷ cs) byte) c.mark
-keep_here c cs byte e = subst (λ b. Contains (if b then c.mark ∷ marks_with cs byte else marks_with cs byte) c.mark) (sym e) (contains_here c.mark (marks_with cs byte))
+keep_here c cs byte e = subst (λ b. Contains (if b then c.mark ∷ marks_with cs byte else marks_with cs byte) c.mark) (sym e)
+    (contains_here c.mark (marks_with cs byte))
 
 to_with : (cs : List Candidate) (byte : ℕ) (c : Candidate) → Contains cs c → has c.class.now byte ≡ true → Contains (marks_with cs byte) c.mark
 to_with [] byte c k e = absurd (contains_none c k)
 to_with (x ∷ cs) byte c k e = elim (contains_cases x cs c k) [
-  | inl same ↦ subst (λ (y : Candidate). Contains (marks_with (x ∷ cs) byte) y.mark) same (keep_here x cs byte (subst (λ (y : Candidate). has y.class.now byte ≡ true) (sym same) e))
+  | inl same ↦ subst (λ (y : Candidate). Contains (marks_with (x ∷ cs) byte) y.mark) same (keep_here x cs byte (subst (λ (y : Candidate). has y.class.now byte
+      ≡ true) (sym same) e))
   | inr d ↦ keep_later x cs byte c.mark (to_with cs byte c d e)
 ]
 

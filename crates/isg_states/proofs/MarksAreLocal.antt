@@ -77,7 +77,8 @@ exchange n (sequence a b) u q v w z h k =
           h.0,
           c.front ++ q ∷ z,
           h.2,
-          exchange (n + class_count a) b c.front q v d.front z (subst (MarksFrom (n + class_count a) b) (sym c.word) h.3) (subst (MarksFrom (n + class_count a) b) (sym d.word) k.3),
+          exchange (n + class_count a) b c.front q v d.front z (subst (MarksFrom (n + class_count a) b) (sym c.word) h.3)
+              (subst (MarksFrom (n + class_count a) b) (sym d.word) k.3),
           ap (λ t. t ++ q ∷ z) c.before ∙ append_assoc h.0 c.front (q ∷ z),
         )
       ]

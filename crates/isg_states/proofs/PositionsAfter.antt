@@ -1,5 +1,6 @@
 -- The positions after a piece, byte by byte, and which of them are last.
-use Rattle.std.proofs.Common.{◌≡◌, ℕ, suc, true, ◌<◌, ◌==◌, IsTrue, List, [], ◌∷◌, ◌++◌, length, map, refl, sym, ap, ◌∙◌, subst, arith, append_assoc, append-nil, slice_index_or}
+use Rattle.std.proofs.Common.{◌≡◌, ℕ, suc, true, ◌<◌, ◌==◌, IsTrue, List, [], ◌∷◌, ◌++◌, length, map, refl, sym, ap, ◌∙◌, subst, arith, append_assoc}
+use Rattle.std.proofs.Common.{append-nil, slice_index_or}
 use Rattle.std.proofs.lemmas.Bool.{and_parts, eqb-true, eq-eqb}
 use Rattle.grammar_text.specs.declared.symbol.Symbol.TheVariants.{Literal}
 use Rattle.regex_ast.specs.Bytes.{has, only, numbers_from}
@@ -17,10 +18,11 @@ use Rattle.edit_log.specs.Tokens.{MatchesPiece, IsWinner}
 use Rattle.isg_states.specs.declared.mark.Mark.{Mark}
 use Rattle.isg_states.specs.declared.scan_key.ScanKey.TheVariants.{Start, Set}
 use Rattle.isg_states.specs.Marks.{ListsMarks}
-use Rattle.isg_states.specs.Patterns.{Pattern, bytes, expression, IsPatternOf, MarkedWord, classes_in, HasPattern, IsLast}
-use Rattle.isg_states.specs.After.{IsAfter, AreBytes}
+use Rattle.isg_states.specs.Patterns.{Pattern, bytes, expression, IsPatternOf, MarkedWord, classes_in, HasPattern, IsLastMark}
+use Rattle.isg_states.specs.After.{IsAfter}
+use Rattle.grammar_text.specs.Pieces.{AreBytes}
 use Rattle.isg_states.specs.Expansion.{LeadsTo}
-use Rattle.isg_states.specs.Winners.{Accepts, Ends as EndsIn}
+use Rattle.isg_states.specs.Winners.{Accepts, HasLast as EndsIn}
 use Rattle.isg_states.proofs.Patterns.{same_pattern, pattern_exchange}
 
 -- ---- the bytes of classes
@@ -89,14 +91,16 @@ from_longer grammar piece marks lists byte mark l =
     let held : IsTrue (has (slice_index_or (classes_in a.pattern) mark.index []) byte) =
     subst (λ p. IsTrue (has (slice_index_or (classes_in p) mark.index []) byte)) (same_pattern has_byte.1 here) has_byte.2 in
     let whole : MarkedWord a.pattern (a.front ++ member.index ∷ mark.index ∷ succeeds.1) =
-    pattern_exchange a.pattern a.front member.index a.rest succeeds.0 (mark.index ∷ succeeds.1) (subst (MarkedWord a.pattern) (append_assoc a.front (member.index ∷ []) a.rest) a.marked) succeeds.2 in
+    pattern_exchange a.pattern a.front member.index a.rest succeeds.0 (mark.index ∷ succeeds.1)
+        (subst (MarkedWord a.pattern) (append_assoc a.front (member.index ∷ []) a.rest) a.marked) succeeds.2 in
     record {
       pattern = a.pattern;
       has_pattern = here;
       front = a.front ++ member.index ∷ [];
       rest = succeeds.1;
       marked = subst (MarkedWord a.pattern)
-          (sym (append_assoc a.front (member.index ∷ []) (mark.index ∷ succeeds.1)) ∙ sym (append_assoc (a.front ++ member.index ∷ []) (mark.index ∷ []) succeeds.1)) whole;
+          (sym (append_assoc a.front (member.index ∷ []) (mark.index ∷ succeeds.1))
+              ∙ sym (append_assoc (a.front ++ member.index ∷ []) (mark.index ∷ []) succeeds.1)) whole;
       bytes = AllZip-join (classes_in a.pattern) (a.front ++ member.index ∷ []) (mark.index ∷ []) piece (byte ∷ []) a.bytes (held, tt);
     }
 
@@ -139,7 +143,8 @@ literal_held front (x ∷ piece) small =
     let one : has (only x) x ≡ (x == x) = has-only x x small.0 in (
       subst (λ c. IsTrue (has c x)) (sym (class_at front x piece)) (one ∙ eq-eqb x x refl),
       subst (λ n. HoldBytes (map only (front ++ x ∷ piece)) (numbers_from n (length piece)) piece) (length_snoc front x)
-          (subst (λ t. HoldBytes (map only t) (numbers_from (length (front ++ x ∷ [])) (length piece)) piece) (append_assoc front (x ∷ []) piece) (literal_held (front ++ x ∷ []) piece small.1)),
+          (subst (λ t. HoldBytes (map only t) (numbers_from (length (front ++ x ∷ [])) (length piece)) piece) (append_assoc front (x ∷ []) piece)
+              (literal_held (front ++ x ∷ []) piece small.1)),
     )
 
 -- and no others
@@ -173,7 +178,7 @@ match_of grammar (named number) (expression e) word piece is m h = (is.0, is.1, 
 
 pub from_match : (grammar : Grammar) (piece : List ℕ) (definition : DefId) → 0 < length piece → AreBytes piece → IsLive grammar definition
     → MatchesPiece grammar definition piece
-    → (mark : Mark) × (mark.def ≡ definition) × IsAfter grammar piece mark × IsLast grammar mark
+    → (mark : Mark) × (mark.def ≡ definition) × IsAfter grammar piece mark × IsLastMark grammar mark
 from_match grammar piece definition some small live h =
     let m = marked_match grammar definition piece small h in
     let p : Pattern = m.0 in
@@ -191,16 +196,18 @@ from_match grammar piece definition some small live h =
     } in
     (mark, refl, after, (p, has_pattern, (s.0, whole)))
 
-pub to_match : (grammar : Grammar) (piece : List ℕ) (mark : Mark) → IsAfter grammar piece mark → IsLast grammar mark → MatchesPiece grammar mark.def piece
+pub to_match : (grammar : Grammar) (piece : List ℕ) (mark : Mark) → IsAfter grammar piece mark → IsLastMark grammar mark → MatchesPiece grammar mark.def piece
 to_match grammar piece mark a last =
     let ends : Ends (MarkedWord a.pattern) mark.index = subst (λ p. Ends (MarkedWord p) mark.index) (same_pattern last.1 a.has_pattern) last.2 in
     let whole : MarkedWord a.pattern (a.front ++ mark.index ∷ []) =
-    pattern_exchange a.pattern a.front mark.index a.rest ends.0 [] (subst (MarkedWord a.pattern) (append_assoc a.front (mark.index ∷ []) a.rest) a.marked) ends.1 in
+    pattern_exchange a.pattern a.front mark.index a.rest ends.0 []
+        (subst (MarkedWord a.pattern) (append_assoc a.front (mark.index ∷ []) a.rest) a.marked) ends.1 in
     match_of grammar mark.def a.pattern (a.front ++ mark.index ∷ []) piece a.has_pattern.is whole a.bytes
 
 -- ---- winners
 
-module _ (grammar : Grammar) (piece : List ℕ) (marks : List Mark) (some : 0 < length piece) (small : AreBytes piece) (lists : ListsMarks (IsAfter grammar piece) marks) where
+module _ (grammar : Grammar) (piece : List ℕ) (marks : List Mark) (some : 0 < length piece) (small : AreBytes piece)
+    (lists : ListsMarks (IsAfter grammar piece) marks) where
   from_ends : (definition : DefId) → EndsIn grammar (Set marks) definition → IsLive grammar definition × MatchesPiece grammar definition piece
   from_ends definition ends =
       let mark : Mark = ends.0 in

@@ -1,5 +1,6 @@
 -- Ranges as bytes come to them one by one.
-use Rattle.std.proofs.Common.{◌≡◌, ℕ, suc, ◌+◌, ◌-◌, ◌<◌, ◌≤◌, ◌⊎◌, inl, inr, List, [], ◌∷◌, ◌++◌, length, get_or, slice_get, slice_set, Option, Some, None, refl, sym, ap, ◌∙◌, subst, arith, append_assoc, length-append, Contains}
+use Rattle.std.proofs.Common.{◌≡◌, ℕ, suc, ◌+◌, ◌-◌, ◌<◌, ◌≤◌, ◌⊎◌, inl, inr, List, [], ◌∷◌, ◌++◌, length, get_or, slice_get, slice_set, Option, Some, None}
+use Rattle.std.proofs.Common.{refl, sym, ap, ◌∙◌, subst, arith, append_assoc, length-append, Contains}
 use Rattle.std.proofs.lemmas.Bool.{cases_lt}
 use Rattle.std.proofs.lemmas.List.Elements.{Contains-append_left, Contains-append_right, Contains-append_cases}
 use Rattle.std.proofs.lemmas.Option.{slice_get-get_or}
@@ -35,7 +36,8 @@ apart_push [] next apart below = (tt, tt)
 apart_push (r ∷ ranges) next apart below = (
   all_of _ (ranges ++ next ∷ []) (λ x c. elim (Contains-append_cases ranges (next ∷ []) x c) [
     | inl d ↦ each_of _ ranges apart.0 x d
-    | inr d ↦ elim (contains_cases next [] x d) [ inl e ↦ subst (λ (y : Range). r.1 < y.0) e (below r (contains_here r ranges)) | inr none ↦ absurd (contains_none x none) ]
+    | inr d ↦ elim (contains_cases next [] x d) [ inl e ↦ subst (λ (y : Range). r.1 < y.0) e (below r (contains_here r ranges)) | inr none ↦
+        absurd (contains_none x none) ]
   ]),
   apart_push ranges next apart.1 (λ x c. below x (contains_there r ranges x c)),
 )
@@ -116,13 +118,15 @@ pub goes_on_none : (ranges : List Range) (byte : ℕ) (marks : List Mark) → No
 goes_on_none ranges byte marks none g =
     let len : length ranges ≡ length g.0 + 1 = ap length g.3 ∙ length-append g.0 ((g.1, g.2, Set marks) ∷ []) in
     let within : length ranges - 1 < length ranges = omega arith in
-    no_some (slice_get ranges (length ranges - 1)) (get_or ranges (length ranges - 1) (g.1, g.2, Set marks)) (sym none) (slice_get-get_or ranges (length ranges - 1) (g.1, g.2, Set marks) within) where
+    no_some (slice_get ranges (length ranges - 1)) (get_or ranges (length ranges - 1) (g.1, g.2, Set marks)) (sym none)
+        (slice_get-get_or ranges (length ranges - 1) (g.1, g.2, Set marks) within) where
       no_some : (o : Option Range) (x : Range) → o ≡ None → o ≡ Some x → ⊥
       no_some o x e f = absurd cc
 
 set_last : (before : List Range) (last next : Range) (k : ℕ) → k ≡ length before → slice_set (before ++ last ∷ []) k next ≡ before ++ next ∷ []
 set_last [] last next k e = subst (λ n. slice_set (last ∷ []) n next ≡ next ∷ []) (sym e) refl
-set_last (b ∷ before) last next k e = subst (λ n. slice_set (b ∷ (before ++ last ∷ [])) n next ≡ b ∷ (before ++ next ∷ [])) (sym e) (ap (λ t. b ∷ t) (set_last before last next (length before) refl))
+set_last (b ∷ before) last next k e = subst (λ n. slice_set (b ∷ (before ++ last ∷ [])) n next ≡ b ∷ (before ++ next ∷ [])) (sym e)
+    (ap (λ t. b ∷ t) (set_last before last next (length before) refl))
 
 get_last : (before : List Range) (last d : Range) (k : ℕ) → k ≡ length before → get_or (before ++ last ∷ []) k d ≡ last
 get_last [] last d k e = subst (λ n. get_or (last ∷ []) n d ≡ last) (sym e) refl
@@ -143,7 +147,8 @@ set_goes_on ranges byte marks k last g place is =
       g.2,
       g.3,
       g.4,
-      ap (λ rs. slice_set rs k (last.0, byte, last.2)) g.3 ∙ set_last g.0 here (last.0, byte, last.2) k at ∙ ap (λ (r : Range). g.0 ++ (r.0, byte, r.2) ∷ []) same,
+      ap (λ rs. slice_set rs k (last.0, byte, last.2)) g.3 ∙ set_last g.0 here (last.0, byte, last.2) k at ∙ ap
+          (λ (r : Range). g.0 ++ (r.0, byte, r.2) ∷ []) same,
     )
 
 module _ (led : ℕ → List Mark) where
@@ -191,7 +196,8 @@ module _ (led : ℕ → List Mark) where
   push n ranges marks t is some apart_from = record {
     each = λ range c. elim (Contains-append_cases ranges (last ∷ []) range c) [
       | inl d ↦ range_upto n (n + 1) range (omega arith) (t.each range d)
-      | inr d ↦ elim (contains_cases last [] range d) [ inl e ↦ subst (TellsRange led (n + 1)) e (one_range n marks is some) | inr none ↦ absurd (contains_none range none) ]
+      | inr d ↦ elim (contains_cases last [] range d) [ inl e ↦ subst (TellsRange led (n + 1)) e (one_range n marks is some) | inr none ↦
+          absurd (contains_none range none) ]
     ];
     whole = λ byte small here. elim (cases_lt byte n) [
       | inl below ↦ (let w = t.whole byte below here in (w.0, Contains-append_left ranges (last ∷ []) w.0 w.1, w.2, w.3))
@@ -236,7 +242,8 @@ module _ (led : ℕ → List Mark) where
     apart = apart_push before new (apart_before before old t.apart).0 (apart_before before old t.apart).1;
     joined = λ front after one next e reach keys. elim (neighbours before new front after one next e) [
       | inl k ↦ t.joined front (k.0 ++ old ∷ []) one next (ap (λ l. l ++ old ∷ []) k.1 ∙ append_assoc front (one ∷ next ∷ k.0) (old ∷ [])) reach keys
-      | inr k ↦ t.joined front [] one old (ap (λ l. l ++ old ∷ []) k.same ∙ append_assoc front (one ∷ []) (old ∷ [])) (reach ∙ ap (λ (r : Range). r.0) k.end) (keys ∙ ap (λ (r : Range). r.2) k.end)
+      | inr k ↦ t.joined front [] one old (ap (λ l. l ++ old ∷ []) k.same ∙ append_assoc front (one ∷ []) (old ∷ [])) (reach ∙ ap (λ (r : Range). r.0) k.end)
+          (keys ∙ ap (λ (r : Range). r.2) k.end)
     ];
   } where
     old : Range

@@ -1,5 +1,6 @@
 -- What the look-ups of a grammar tell of the patterns of its definitions.
-use Rattle.std.proofs.Common.{◌≡◌, ℕ, zero, suc, true, false, Bool, ◌||◌, ◌==◌, ◌+◌, ◌<◌, ◌≤◌, ◌⊎◌, refl, inl, inr, ◌↔◌, IsTrue, List, [], ◌∷◌, ◌++◌, length, get_or, take, slice_get, Option, Some, sym, ap, ◌∙◌, subst, arith, append_assoc, Contains}
+use Rattle.std.proofs.Common.{◌≡◌, ℕ, zero, suc, true, false, Bool, ◌||◌, ◌==◌, ◌+◌, ◌<◌, ◌≤◌, ◌⊎◌, refl, inl, inr, ◌↔◌, IsTrue, List, [], ◌∷◌, ◌++◌, length}
+use Rattle.std.proofs.Common.{get_or, take, slice_get, Option, Some, sym, ap, ◌∙◌, subst, arith, append_assoc, Contains}
 use Rattle.std.proofs.lemmas.Bool.{eqb-true, eq-eqb, or_cases, false≢true}
 use Rattle.std.proofs.lemmas.List.{take_more, take_all}
 use Rattle.std.proofs.lemmas.List.Elements.{Contains-append_left, Contains-push, Contains-push_cases}
@@ -13,7 +14,7 @@ use Rattle.edit_log.specs.Live.{IsLive}
 use Rattle.edit_log.specs.Lookups.{ArePositionsFor}
 use Rattle.isg_states.specs.declared.mark.Mark.{Mark}
 use Rattle.isg_states.specs.Marks.{ListsMarks}
-use Rattle.isg_states.specs.Patterns.{bytes, expression, HasPattern, MarkedWord, classes_in, IsMark, IsFirst, IsLast, Follows}
+use Rattle.isg_states.specs.Patterns.{bytes, expression, HasPattern, MarkedWord, classes_in, IsMark, IsFirstMark, IsLastMark, FollowsMark}
 use Rattle.isg_states.specs.Expansion.{Range, IsRange, AreMarks, CanFollow}
 use Rattle.isg_states.specs.declared.scan_key.ScanKey.{ScanKey}
 use Rattle.isg_states.specs.declared.scan_key.ScanKey.TheVariants.{Start, Set}
@@ -51,17 +52,19 @@ module _ {grammar : Grammar} {table : Table} (mark : Mark) (a : ArePositions gra
       let here : mark.index < length (classes_in a.pattern) = subst (λ p. mark.index < length (classes_in p)) (same_pattern is.1 a.has_pattern) is.2 in
       subst (λ sets. mark.index < length sets) (sym a.positions.classes) here
 
-  pub from_first : IsTrue (has table.first mark.index) → IsFirst grammar mark
+  pub from_first : IsTrue (has table.first mark.index) → IsFirstMark grammar mark
   from_first h = (a.pattern, a.has_pattern, (a.positions.first.members mark.index).0 h)
 
-  pub to_first : IsFirst grammar mark → IsTrue (has table.first mark.index)
-  to_first is = (a.positions.first.members mark.index).1 (subst (λ p. (rest : List ℕ) × MarkedWord p (mark.index ∷ rest)) (same_pattern is.1 a.has_pattern) is.2)
+  pub to_first : IsFirstMark grammar mark → IsTrue (has table.first mark.index)
+  to_first is = (a.positions.first.members mark.index).1 (subst (λ p. (rest : List ℕ) × MarkedWord p (mark.index ∷ rest))
+      (same_pattern is.1 a.has_pattern) is.2)
 
-  pub from_last : IsTrue (has table.last mark.index) → IsLast grammar mark
+  pub from_last : IsTrue (has table.last mark.index) → IsLastMark grammar mark
   from_last h = (a.pattern, a.has_pattern, (a.positions.last.members mark.index).0 h)
 
-  pub to_last : IsLast grammar mark → IsTrue (has table.last mark.index)
-  to_last is = (a.positions.last.members mark.index).1 (subst (λ p. (front : List ℕ) × MarkedWord p (front ++ mark.index ∷ [])) (same_pattern is.1 a.has_pattern) is.2)
+  pub to_last : IsLastMark grammar mark → IsTrue (has table.last mark.index)
+  to_last is = (a.positions.last.members mark.index).1 (subst (λ p. (front : List ℕ) × MarkedWord p (front ++ mark.index ∷ []))
+      (same_pattern is.1 a.has_pattern) is.2)
 
   pub class_is : IsMark grammar mark → (set : List ℕ) → slice_get table.classes mark.index ≡ Some set → IsClass grammar mark set
   class_is is set e =
@@ -106,19 +109,21 @@ row_small a q row within e index h =
 
 pub from_row : {grammar : Grammar} {table : Table} (member mark : Mark) → ArePositions grammar member.def table → (row : List ℕ)
     → member.index < length table.classes → slice_get table.follow member.index ≡ Some row
-    → OneOf member.def row mark → Follows grammar member mark
+    → OneOf member.def row mark → FollowsMark grammar member mark
 from_row {grammar} member mark a row within e one =
-    (sym one.0, (a.pattern, subst (λ d. HasPattern grammar d a.pattern) (sym one.0) a.has_pattern, (row_members a member.index row within e mark.index).0 one.1))
+    (sym one.0, (a.pattern, subst (λ d. HasPattern grammar d a.pattern) (sym one.0) a.has_pattern,
+        (row_members a member.index row within e mark.index).0 one.1))
 
 pub to_row : {grammar : Grammar} {table : Table} (member mark : Mark) → ArePositions grammar member.def table → (row : List ℕ)
     → member.index < length table.classes → slice_get table.follow member.index ≡ Some row
-    → Follows grammar member mark → OneOf member.def row mark
+    → FollowsMark grammar member mark → OneOf member.def row mark
 to_row {grammar} member mark a row within e f =
     let here : HasPattern grammar member.def f.1.0 = subst (λ d. HasPattern grammar d f.1.0) (sym f.0) f.1.1 in
-    (sym f.0, (row_members a member.index row within e mark.index).1 (subst (λ p. Succeeds (MarkedWord p) member.index mark.index) (same_pattern here a.has_pattern) f.1.2))
+    (sym f.0, (row_members a member.index row within e mark.index).1 (subst (λ p. Succeeds (MarkedWord p) member.index mark.index)
+        (same_pattern here a.has_pattern) f.1.2))
 
 -- what can come next is a mark of the grammar
-first_mark : (grammar : Grammar) (mark : Mark) → IsFirst grammar mark → IsMark grammar mark
+first_mark : (grammar : Grammar) (mark : Mark) → IsFirstMark grammar mark → IsMark grammar mark
 first_mark grammar mark f = (f.0, f.1, in_pattern f.0 [] mark.index f.2.0 f.2.1)
 
 pub next_mark : (grammar : Grammar) (key : ScanKey) (mark : Mark) → CanFollow grammar key mark → IsMark grammar mark
@@ -180,7 +185,8 @@ index_more old mid new definition indices i d within lists added =
         | inl k ↦ inl k
         | inr k ↦ inr (k.0, subst (λ t. IsTrue (has t m.index)) (sym more) (has_before (take i indices) x m.index k.1))
       ]
-      | inr e ↦ inr (ap (λ (y : Mark). y.def) e, subst (λ t. IsTrue (has t m.index)) (sym more) (has_new (take i indices) x m.index (ap (λ (y : Mark). y.index) (sym e))))
+      | inr e ↦ inr (ap (λ (y : Mark). y.def) e, subst (λ t. IsTrue (has t m.index)) (sym more) (has_new (take i indices) x m.index (ap (λ (y : Mark). y.index)
+          (sym e))))
     ])
     (λ m w. elim w [
       | inl k ↦ inl ((lists.members m).1 (inl k))
@@ -199,18 +205,20 @@ index_all old new definition indices i whole lists = subst (λ t. ListsMarks (λ
 -- the first positions of one more definition
 pub first_more : (grammar : Grammar) (definitions : List DefId) (i : ℕ) (d : DefId) (table : Table) (old new : List Mark) → i < length definitions
     → ArePositions grammar (get_or definitions i d) table
-    → ListsMarks (λ m. IsFirst grammar m × Contains (take i definitions) m.def) old
+    → ListsMarks (λ m. IsFirstMark grammar m × Contains (take i definitions) m.def) old
     → ListsMarks (λ m. Contains old m ⊎ OneOf (get_or definitions i d) table.first m) new
-    → ListsMarks (λ m. IsFirst grammar m × Contains (take (i + 1) definitions) m.def) new
+    → ListsMarks (λ m. IsFirstMark grammar m × Contains (take (i + 1) definitions) m.def) new
 first_more grammar definitions i d table old new within a lists added =
     let definition : DefId = get_or definitions i d in
     let more : take (i + 1) definitions ≡ take i definitions ++ definition ∷ [] = take_more definitions i d within in
     relist added
     (λ m w. elim w [
-      | inl c ↦ (let was = (lists.members m).0 c in (was.0, subst (λ ds. Contains ds m.def) (sym more) (Contains-append_left (take i definitions) (definition ∷ []) m.def was.1)))
+      | inl c ↦ (let was = (lists.members m).0 c in (was.0, subst (λ ds. Contains ds m.def) (sym more) (Contains-append_left (take i definitions)
+          (definition ∷ []) m.def was.1)))
       | inr one ↦ (
         from_first m (subst (λ k. ArePositions grammar k table) (sym one.0) a) one.1,
-        subst (λ ds. Contains ds m.def) (sym more) (subst (λ k. Contains (take i definitions ++ definition ∷ []) k) (sym one.0) (Contains-push (take i definitions) definition)),
+        subst (λ ds. Contains ds m.def) (sym more) (subst (λ k. Contains (take i definitions ++ definition ∷ []) k) (sym one.0)
+            (Contains-push (take i definitions) definition)),
       )
     ])
     (λ m w. elim (Contains-push_cases (take i definitions) definition m.def (subst (λ ds. Contains ds m.def) more w.1)) [
@@ -221,7 +229,7 @@ first_more grammar definitions i d table old new within a lists added =
 -- those of all live definitions
 pub first_all : (grammar : Grammar) (definitions : List DefId) (i : ℕ) (found : List Mark) → length definitions ≤ i → ((k : DefId)
     → Contains definitions k ↔ IsLive grammar k)
-    → ListsMarks (λ m. IsFirst grammar m × Contains (take i definitions) m.def) found → ListsMarks (IsFirst grammar) found
+    → ListsMarks (λ m. IsFirstMark grammar m × Contains (take i definitions) m.def) found → ListsMarks (IsFirstMark grammar) found
 first_all grammar definitions i found whole live lists =
     relist lists (λ m w. w.0) (λ m f. (f, subst (λ ds. Contains ds m.def) (sym (take_all i definitions whole)) ((live m.def).1 f.1.live)))
 
@@ -229,24 +237,26 @@ first_all grammar definitions i found whole live lists =
 pub following_more : (grammar : Grammar) (members : List Mark) (i : ℕ) (d : Mark) (table : Table) (row : List ℕ) (old new : List Mark) → i < length members
     → ArePositions grammar (get_or members i d).def table → (get_or members i d).index < length table.classes
     → slice_get table.follow (get_or members i d).index ≡ Some row
-    → ListsMarks (λ m. (x : Mark) × Contains (take i members) x × Follows grammar x m) old
+    → ListsMarks (λ m. (x : Mark) × Contains (take i members) x × FollowsMark grammar x m) old
     → ListsMarks (λ m. Contains old m ⊎ OneOf (get_or members i d).def row m) new
-    → ListsMarks (λ m. (x : Mark) × Contains (take (i + 1) members) x × Follows grammar x m) new
+    → ListsMarks (λ m. (x : Mark) × Contains (take (i + 1) members) x × FollowsMark grammar x m) new
 following_more grammar members i d table row old new within a here e lists added =
     let member : Mark = get_or members i d in
     let more : take (i + 1) members ≡ take i members ++ member ∷ [] = take_more members i d within in
     relist added
     (λ m w. elim w [
-      | inl c ↦ (let was = (lists.members m).0 c in (was.0, subst (λ ds. Contains ds was.0) (sym more) (Contains-append_left (take i members) (member ∷ []) was.0 was.1), was.2))
+      | inl c ↦ (let was = (lists.members m).0 c in (was.0, subst (λ ds. Contains ds was.0) (sym more) (Contains-append_left (take i members)
+          (member ∷ []) was.0 was.1), was.2))
       | inr one ↦ (member, subst (λ ds. Contains ds member) (sym more) (Contains-push (take i members) member), from_row member m a row here e one)
     ])
     (λ m w. elim (Contains-push_cases (take i members) member w.0 (subst (λ ds. Contains ds w.0) more w.1)) [
       | inl c ↦ inl ((lists.members m).1 (w.0, c, w.2))
-      | inr same ↦ inr (to_row member m a row here e (subst (λ x. Follows grammar x m) (sym same) w.2))
+      | inr same ↦ inr (to_row member m a row here e (subst (λ x. FollowsMark grammar x m) (sym same) w.2))
     ])
 
 -- those of all members
 pub following_all : (grammar : Grammar) (members : List Mark) (i : ℕ) (found : List Mark) → length members ≤ i
-    → ListsMarks (λ m. (x : Mark) × Contains (take i members) x × Follows grammar x m) found
-    → ListsMarks (λ m. (x : Mark) × Contains members x × Follows grammar x m) found
-following_all grammar members i found whole lists = subst (λ t. ListsMarks (λ m. (x : Mark) × Contains t x × Follows grammar x m) found) (take_all i members whole) lists
+    → ListsMarks (λ m. (x : Mark) × Contains (take i members) x × FollowsMark grammar x m) found
+    → ListsMarks (λ m. (x : Mark) × Contains members x × FollowsMark grammar x m) found
+following_all grammar members i found whole lists = subst (λ t. ListsMarks (λ m. (x : Mark) × Contains t x × FollowsMark grammar x m) found)
+    (take_all i members whole) lists

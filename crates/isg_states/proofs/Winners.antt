@@ -1,5 +1,6 @@
 -- The winner of a set, mark by mark.
-use Rattle.std.proofs.Common.{◌≡◌, ℕ, ◌+◌, ◌<◌, ◌≤◌, ◌⊎◌, inl, inr, ◌||◌, if◌then◌else◌, List, [], ◌∷◌, ◌++◌, length, get_or, take, Option, Some, None, refl, sym, ap, ◌∙◌, subst, nat_eq}
+use Rattle.std.proofs.Common.{◌≡◌, ℕ, ◌+◌, ◌<◌, ◌≤◌, ◌⊎◌, inl, inr, ◌||◌, if◌then◌else◌, List, [], ◌∷◌, ◌++◌, length, get_or, take, Option, Some, None, refl}
+use Rattle.std.proofs.Common.{sym, ap, ◌∙◌, subst, nat_eq}
 use Rattle.std.proofs.lemmas.List.{take_more, take_all}
 use Rattle.std.proofs.lemmas.List.Elements.{Contains-append_left, Contains-push, Contains-push_cases}
 use Rattle.std.proofs.lemmas.Map.Lookups.{exact_unsigned}
@@ -17,8 +18,8 @@ use Rattle.edit_log.specs.History.{Grammar}
 use Rattle.edit_log.specs.Live.{definition_cmp}
 use Rattle.isg_states.specs.declared.mark.Mark.{Mark}
 use Rattle.isg_states.specs.declared.scan_key.ScanKey.TheVariants.{Set}
-use Rattle.isg_states.specs.Patterns.{IsLast}
-use Rattle.isg_states.specs.Winners.{Ends, Accepts, IsFirstEnded, first_of}
+use Rattle.isg_states.specs.Patterns.{IsLastMark}
+use Rattle.isg_states.specs.Winners.{HasLast, Accepts, IsFirstEnded, first_definition}
 
 -- ---- the order of definitions
 
@@ -49,26 +50,26 @@ same (named a) (named b) e = ap (λ n. named (let r : RuleId = record { 0 = n } 
 -- ---- one mark more
 
 module _ (grammar : Grammar) (marks : List Mark) (m : Mark) where
-  ends_push : (d : DefId) → Ends grammar (Set (marks ++ m ∷ [])) d → Ends grammar (Set marks) d ⊎ ((m.def ≡ d) × IsLast grammar m)
+  ends_push : (d : DefId) → HasLast grammar (Set (marks ++ m ∷ [])) d → HasLast grammar (Set marks) d ⊎ ((m.def ≡ d) × IsLastMark grammar m)
   ends_push d e = elim (Contains-push_cases marks m e.0 e.1) [
     | inl c ↦ inl (e.0, c, e.2, e.3)
-    | inr k ↦ inr (ap (λ (x : Mark). x.def) k ∙ e.2, subst (IsLast grammar) (sym k) e.3)
+    | inr k ↦ inr (ap (λ (x : Mark). x.def) k ∙ e.2, subst (IsLastMark grammar) (sym k) e.3)
   ]
 
-  ends_left : (d : DefId) → Ends grammar (Set marks) d → Ends grammar (Set (marks ++ m ∷ [])) d
+  ends_left : (d : DefId) → HasLast grammar (Set marks) d → HasLast grammar (Set (marks ++ m ∷ [])) d
   ends_left d e = (e.0, Contains-append_left marks (m ∷ []) e.0 e.1, e.2, e.3)
 
-  ends_here : IsLast grammar m → Ends grammar (Set (marks ++ m ∷ [])) m.def
+  ends_here : IsLastMark grammar m → HasLast grammar (Set (marks ++ m ∷ [])) m.def
   ends_here last = (m, Contains-push marks m, refl, last)
 
-  same_push : (w : Option DefId) → IsFirstEnded grammar marks w → (IsLast grammar m → ⊥) → IsFirstEnded grammar (marks ++ m ∷ []) w
+  same_push : (w : Option DefId) → IsFirstEnded grammar marks w → (IsLastMark grammar m → ⊥) → IsFirstEnded grammar (marks ++ m ∷ []) w
   same_push None none apart = λ d e. elim (ends_push d e) [ inl k ↦ none d k | inr k ↦ apart k.1 ]
   same_push (Some w) a apart = record {
     ends = ends_left w a.ends;
     first = λ other e. elim (ends_push other e) [ inl k ↦ a.first other k | inr k ↦ absurd (apart k.1) ];
   }
 
-  more_push : (w : Option DefId) → IsFirstEnded grammar marks w → IsLast grammar m → Accepts grammar (Set (marks ++ m ∷ [])) (first_of w m.def)
+  more_push : (w : Option DefId) → IsFirstEnded grammar marks w → IsLastMark grammar m → Accepts grammar (Set (marks ++ m ∷ [])) (first_definition w m.def)
   more_push None none last = record {
     ends = ends_here last;
     first = λ other e. elim (ends_push other e) [ inl k ↦ absurd (none other k) | inr k ↦ inl (sym k.0) ];
@@ -98,15 +99,17 @@ module _ (grammar : Grammar) (marks : List Mark) (m : Mark) where
     }
 
 pub ended_same : (grammar : Grammar) (marks : List Mark) (i : ℕ) (d : Mark) (w : Option DefId) → i < length marks → IsFirstEnded grammar (take i marks) w
-    → (IsLast grammar (get_or marks i d) → ⊥)
+    → (IsLastMark grammar (get_or marks i d) → ⊥)
     → IsFirstEnded grammar (take (i + 1) marks) w
-ended_same grammar marks i d w within a apart = subst (λ ms. IsFirstEnded grammar ms w) (sym (take_more marks i d within)) (same_push grammar (take i marks) (get_or marks i d) w a apart)
+ended_same grammar marks i d w within a apart = subst (λ ms. IsFirstEnded grammar ms w) (sym (take_more marks i d within))
+    (same_push grammar (take i marks) (get_or marks i d) w a apart)
 
 pub ended_more : (grammar : Grammar) (marks : List Mark) (i : ℕ) (d : Mark) (w : Option DefId) → i < length marks → IsFirstEnded grammar (take i marks) w
-    → IsLast grammar (get_or marks i d)
-    → IsFirstEnded grammar (take (i + 1) marks) (Some (first_of w (get_or marks i d).def))
+    → IsLastMark grammar (get_or marks i d)
+    → IsFirstEnded grammar (take (i + 1) marks) (Some (first_definition w (get_or marks i d).def))
 ended_more grammar marks i d w within a last =
-    subst (λ ms. Accepts grammar (Set ms) (first_of w (get_or marks i d).def)) (sym (take_more marks i d within)) (more_push grammar (take i marks) (get_or marks i d) w a last)
+    subst (λ ms. Accepts grammar (Set ms) (first_definition w (get_or marks i d).def)) (sym (take_more marks i d within))
+        (more_push grammar (take i marks) (get_or marks i d) w a last)
 
 pub ended_all : (grammar : Grammar) (marks : List Mark) (i : ℕ) (w : Option DefId) → length marks ≤ i → IsFirstEnded grammar (take i marks) w
     → IsFirstEnded grammar marks w

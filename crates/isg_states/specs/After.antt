@@ -1,6 +1,5 @@
 -- The positions after a piece of a text, by marked words of live definitions alone.
-use Rattle.std.specs.Prelude.{ℕ, ◌<◌, List, [], ◌∷◌, ◌++◌}
-use Rattle.std.specs.List.{AllByRecursion}
+use Rattle.std.specs.Prelude.{ℕ, List, [], ◌∷◌, ◌++◌}
 use Rattle.regex_ast.specs.Matching.{HoldBytes}
 use Rattle.edit_log.specs.History.{Grammar}
 use Rattle.isg_states.specs.declared.mark.Mark.{Mark}
@@ -14,7 +13,3 @@ pub record IsAfter (grammar : Grammar) (piece : List ℕ) (mark : Mark) : Type 0
   pub rest : List ℕ
   pub marked : MarkedWord pattern ((front ++ mark.index ∷ []) ++ rest)
   pub bytes : HoldBytes (classes_in pattern) (front ++ mark.index ∷ []) piece
-
--- each number is that of a byte
-abbrev pub AreBytes : List ℕ → Type 0
-AreBytes piece = AllByRecursion (λ byte. byte < 256) piece

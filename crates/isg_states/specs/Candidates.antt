@@ -48,7 +48,8 @@ GoesOn ranges byte marks = (before : List Range) × (low : ℕ) × (high : ℕ) 
 -- the byte goes to the last range, where that goes on, and otherwise to one of its own
 abbrev pub IsWithByte : List Range → ℕ → List Mark → List Range → Type 0
 IsWithByte old byte marks new =
-    ((before : List Range) × (low : ℕ) × (high : ℕ) × (old ≡ before ++ (low, high, Set marks) ∷ []) × (high + 1 ≡ byte) × (new ≡ before ++ (low, byte, Set marks) ∷ []))
+    ((before : List Range) × (low : ℕ) × (high : ℕ) × (old ≡ before ++ (low, high, Set marks) ∷ []) × (high + 1 ≡ byte)
+        × (new ≡ before ++ (low, byte, Set marks) ∷ []))
     ⊎ ((GoesOn old byte marks → ⊥) × (new ≡ old ++ (byte, byte, Set marks) ∷ []))
 
 -- each byte of the range leads to the marks of its key

@@ -6,7 +6,7 @@ use Rattle.isg_states.specs.declared.mark.Mark.{Mark}
 use Rattle.isg_states.specs.declared.scan_key.ScanKey.{ScanKey}
 use Rattle.isg_states.specs.declared.scan_key.ScanKey.TheVariants.{Start, Set}
 use Rattle.isg_states.specs.Marks.{ListsMarks}
-use Rattle.isg_states.specs.Patterns.{IsMark, IsFirst, Follows, HasByte}
+use Rattle.isg_states.specs.Patterns.{IsMark, IsFirstMark, FollowsMark, HasByte}
 
 -- each mark of the key is one of the grammar
 abbrev pub AreMarks : Grammar → ScanKey → Type 0
@@ -15,8 +15,8 @@ AreMarks grammar (Set marks) = (mark : Mark) → Contains marks mark → IsMark 
 
 -- the positions that can come next, whatever the byte: the first ones from the start, and from a set those that follow a member
 abbrev pub CanFollow : Grammar → ScanKey → Mark → Type 0
-CanFollow grammar Start mark = IsFirst grammar mark
-CanFollow grammar (Set marks) mark = (member : Mark) × Contains marks member × Follows grammar member mark
+CanFollow grammar Start mark = IsFirstMark grammar mark
+CanFollow grammar (Set marks) mark = (member : Mark) × Contains marks member × FollowsMark grammar member mark
 
 -- and those of them whose class has the byte
 abbrev pub LeadsTo : Grammar → ScanKey → ℕ → Mark → Type 0

@@ -44,16 +44,16 @@ abbrev pub IsMark : Grammar → Mark → Type 0
 IsMark grammar mark = (pattern : Pattern) × HasPattern grammar mark.def pattern × (mark.index < length (classes_in pattern))
 
 -- a marked word of its definition begins with it
-abbrev pub IsFirst : Grammar → Mark → Type 0
-IsFirst grammar mark = (pattern : Pattern) × HasPattern grammar mark.def pattern × Begins (MarkedWord pattern) mark.index
+abbrev pub IsFirstMark : Grammar → Mark → Type 0
+IsFirstMark grammar mark = (pattern : Pattern) × HasPattern grammar mark.def pattern × Begins (MarkedWord pattern) mark.index
 
 -- a marked word of its definition ends with it
-abbrev pub IsLast : Grammar → Mark → Type 0
-IsLast grammar mark = (pattern : Pattern) × HasPattern grammar mark.def pattern × Ends (MarkedWord pattern) mark.index
+abbrev pub IsLastMark : Grammar → Mark → Type 0
+IsLastMark grammar mark = (pattern : Pattern) × HasPattern grammar mark.def pattern × Ends (MarkedWord pattern) mark.index
 
 -- both are marks of one definition, and a marked word of it has the second directly after the first
-abbrev pub Follows : Grammar → Mark → Mark → Type 0
-Follows grammar before mark =
+abbrev pub FollowsMark : Grammar → Mark → Mark → Type 0
+FollowsMark grammar before mark =
     (before.def ≡ mark.def) × ((pattern : Pattern) × HasPattern grammar mark.def pattern × Succeeds (MarkedWord pattern) before.index mark.index)
 
 -- its class has the byte

@@ -42,8 +42,10 @@ pub mark_eq-decides : (a b : Mark) → Decides (mark_eq a b) (a ≡ b)
 mark_eq-decides a b =
     let definitions = definition_eq-decides a.def b.def in
     let indices = unsigned_Decides a.index b.index in (
-      λ e. let both = and_parts (definition_eq a.def b.def) (nat_eq a.index b.index) e in ap (λ d. mark d a.index) (definitions.0 both.0) ∙ ap (λ n. mark b.def n) (indices.0 both.1),
-      λ e. and_from (definition_eq a.def b.def) (nat_eq a.index b.index) (definitions.1 (ap (λ (m : Mark). m.def) e)) (indices.1 (ap (λ (m : Mark). m.index) e)),
+      λ e. let both = and_parts (definition_eq a.def b.def) (nat_eq a.index b.index) e in
+          ap (λ d. mark d a.index) (definitions.0 both.0) ∙ ap (λ n. mark b.def n) (indices.0 both.1),
+      λ e. and_from (definition_eq a.def b.def) (nat_eq a.index b.index) (definitions.1 (ap (λ (m : Mark). m.def) e))
+          (indices.1 (ap (λ (m : Mark). m.index) e)),
     )
 
 abbrev pub marks_eq : List Mark → List Mark → Bool

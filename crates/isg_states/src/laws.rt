@@ -9,8 +9,9 @@ ghost use Rattle.isg_states.specs.declared.mark.Mark.{Mark};
 ghost use Rattle.isg_states.specs.declared.scan_key.ScanKey.{ScanKey};
 ghost use Rattle.isg_states.specs.declared.scan_key.ScanKey.TheVariants.{Start, Set};
 ghost use Rattle.isg_states.specs.Marks.{ListsMarks};
-ghost use Rattle.isg_states.specs.Patterns.{IsLast};
-ghost use Rattle.isg_states.specs.After.{IsAfter, AreBytes};
+ghost use Rattle.isg_states.specs.Patterns.{IsLastMark};
+ghost use Rattle.isg_states.specs.After.{IsAfter};
+ghost use Rattle.grammar_text.specs.Pieces.{AreBytes};
 ghost use Rattle.isg_states.specs.Expansion.{Range, AreMarks, LeadsTo, IsScanExpansionOf, IsScanCost};
 ghost use Rattle.isg_states.specs.Winners.{Accepts};
 
@@ -28,7 +29,7 @@ pub fn after_longer()
 /// A live definition matches a piece exactly where one of its positions after the piece is a last one.
 pub fn last_is_match()
     ensures { (grammar : Grammar) (piece : List ℕ) (definition : DefId) → 0 < length piece → AreBytes piece → IsLive grammar definition
-        → MatchesPiece grammar definition piece ↔ ((mark : Mark) × (mark.def ≡ definition) × IsAfter grammar piece mark × IsLast grammar mark) }
+        → MatchesPiece grammar definition piece ↔ ((mark : Mark) × (mark.def ≡ definition) × IsAfter grammar piece mark × IsLastMark grammar mark) }
 {}
 
 /// The positions after a piece accept exactly the definition that wins it.

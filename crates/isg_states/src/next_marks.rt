@@ -7,7 +7,7 @@ ghost use Rattle.edit_log.specs.Live.{IsLive};
 ghost use Rattle.edit_log.specs.declared.definitions.DefId.{DefId};
 ghost use Rattle.isg_states.specs.declared.mark.Mark.{Mark};
 ghost use Rattle.isg_states.specs.Marks.{mark_cmp, ListsMarks};
-ghost use Rattle.isg_states.specs.Patterns.{IsFirst, Follows, IsMark};
+ghost use Rattle.isg_states.specs.Patterns.{IsFirstMark, FollowsMark, IsMark};
 ghost use Rattle.isg_states.specs.Expansion.{AreMarks, CanFollow};
 ghost use Rattle.isg_states.specs.Candidates.{AreSmall, OneOf, ArePositions};
 
@@ -89,7 +89,7 @@ fn first_marks<L: Ledger>(
     grammar: &Grammar,
     steps: &mut Steps<L>,
 ) -> Result<Vec<Mark>, NoMemory>
-    ensures marks { IfOk result (λ marks. ListsMarks (IsFirst grammar.now.grammar) marks.items) }
+    ensures marks { IfOk result (λ marks. ListsMarks (IsFirstMark grammar.now.grammar) marks.items) }
     ensures steps { IfOk result (λ marks. steps.new ≡ steps.old + length marks.items) }
     ensures counted { steps.old ≤ steps.new }
 {
@@ -109,7 +109,7 @@ fn following_marks<L: Ledger>(
     steps: &mut Steps<L>,
 ) -> Result<Vec<Mark>, NoMemory>
     requires { (mark : Mark) → Contains members.now mark → IsMark grammar.now.grammar mark }
-    ensures marks { IfOk result (λ marks. ListsMarks (λ m. (member : Mark) × Contains members.now member × Follows grammar.now.grammar member m) marks.items) }
+    ensures marks { IfOk result (λ marks. ListsMarks (λ m. (member : Mark) × Contains members.now member × FollowsMark grammar.now.grammar member m) marks.items) }
     ensures steps { IfOk result (λ marks. steps.new ≡ steps.old + length marks.items) }
     ensures counted { steps.old ≤ steps.new }
 {

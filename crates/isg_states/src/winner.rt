@@ -5,9 +5,9 @@ ghost use Rattle.std.specs.Ordering.{is_lt};
 ghost use Rattle.edit_log.specs.declared.definitions.DefId.{DefId};
 ghost use Rattle.edit_log.specs.Live.{definition_cmp};
 ghost use Rattle.isg_states.specs.declared.mark.Mark.{Mark};
-ghost use Rattle.isg_states.specs.Patterns.{IsMark, IsLast};
+ghost use Rattle.isg_states.specs.Patterns.{IsMark, IsLastMark};
 ghost use Rattle.isg_states.specs.Expansion.{AreMarks};
-ghost use Rattle.isg_states.specs.Winners.{Ends, Accepts, IsFirstEnded, first_of};
+ghost use Rattle.isg_states.specs.Winners.{HasLast, Accepts, IsFirstEnded, first_definition};
 
 use crate::mark::Mark;
 use crate::next_marks::live_positions;
@@ -17,7 +17,7 @@ use edit_log::{DefId, Grammar};
 /// Whether the mark is a last position of its definition.
 fn is_last(grammar: &Grammar, mark: Mark) -> bool
     requires { IsMark grammar.now.grammar mark }
-    ensures { IsTrue result ↔ IsLast grammar.now.grammar mark }
+    ensures { IsTrue result ↔ IsLastMark grammar.now.grammar mark }
 {
     live_positions(grammar, mark.def)
         .last()
@@ -37,8 +37,8 @@ fn is_before(a: DefId, b: DefId) -> bool
 }
 
 /// The first of the two.
-fn first_of(before: Option<DefId>, definition: DefId) -> DefId
-    ensures { result ≡ first_of before definition }
+fn first_definition(before: Option<DefId>, definition: DefId) -> DefId
+    ensures { result ≡ first_definition before definition }
 {
     match before {
         Some(other) if is_before(other, definition) => other,
@@ -54,7 +54,7 @@ fn first_ended(grammar: &Grammar, marks: &[Mark]) -> Option<DefId>
     let mut winner = None;
     for mark in marks {
         if is_last(grammar, *mark) {
-            winner = Some(first_of(winner, mark.def));
+            winner = Some(first_definition(winner, mark.def));
         }
     }
     winner
@@ -64,7 +64,7 @@ fn first_ended(grammar: &Grammar, marks: &[Mark]) -> Option<DefId>
 /// then the lower number. There is none for the start.
 pub fn accepts(grammar: &Grammar, key: &ScanKey) -> Option<DefId>
     requires { AreMarks grammar.now.grammar key.now }
-    ensures { MatchOption result ((definition : DefId) → Ends grammar.now.grammar key.now definition → ⊥)
+    ensures { MatchOption result ((definition : DefId) → HasLast grammar.now.grammar key.now definition → ⊥)
         (λ winner. Accepts grammar.now.grammar key.now winner) }
 {
     match key {

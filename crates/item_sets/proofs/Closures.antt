@@ -20,7 +20,6 @@ use Rattle.edit_log.specs.Lookups.{numbers_of_left}
 use Rattle.edit_log.proofs.PlainLists.{each_contained, contains_at, distinct_places}
 use Rattle.edit_log.proofs.Texts.{slice_get-append}
 use Rattle.item_sets.specs.declared.item.Item.{Item}
-use Rattle.item_sets.specs.declared.walk.Shift.{Shift}
 use Rattle.item_sets.specs.Orders.{item_cmp}
 use Rattle.item_sets.specs.Prefixes.{item_at, HasRight, whole, live, IsItem, AreItems, IsNext}
 use Rattle.item_sets.specs.Expansions.{InClosure, own, added}
@@ -81,7 +80,7 @@ pub record IsMetBefore (rules : List Rule) (met : List SymbolId) (done : ℕ) (i
   pub at : slice_get met place ≡ Some rule.left
 
 -- the items that were met, once so many of the symbols had their turn
-pub record IsOnTheWay (rules : List Rule) (kernel : List Item) (met : List SymbolId) (past : List Shift) (ended : List RuleId) (done taken : ℕ) : Type 0 where
+pub record IsOnTheWay (rules : List Rule) (kernel : List Item) (met : List SymbolId) (past : List (SymbolId × List Item)) (ended : List RuleId) (done taken : ℕ) : Type 0 where
   pub items : List Item
   pub walk : IsWalk rules items met past ended
   pub distinct : IsDistinct items
@@ -96,7 +95,7 @@ pub closure_item : (rules : List Rule) (kernel : List Item) → AreItems rules k
 closure_item rules kernel are (own k) = are _ k
 closure_item rules kernel are (added {r = r} c n d) = record { right = r.right; has = live d; within = omega arith }
 
-pub begun : (rules : List Rule) (kernel : List Item) (met : List SymbolId) (past : List Shift) (ended : List RuleId) → IsStrictlySortedBy item_cmp kernel → IsWalk rules kernel met past ended → IsOnTheWay rules kernel met past ended 0 (length kernel)
+pub begun : (rules : List Rule) (kernel : List Item) (met : List SymbolId) (past : List (SymbolId × List Item)) (ended : List RuleId) → IsStrictlySortedBy item_cmp kernel → IsWalk rules kernel met past ended → IsOnTheWay rules kernel met past ended 0 (length kernel)
 begun rules kernel met past ended ascend walk = record {
   items = kernel;
   walk = walk;
@@ -109,7 +108,7 @@ begun rules kernel met past ended ascend walk = record {
 }
 
 module _ (rules : List Rule) (numbers : IsNumbered rules) (kernel : List Item) (are : AreItems rules kernel) where
-  module _ (met : List SymbolId) (past : List Shift) (ended : List RuleId) (done taken : ℕ) (way : IsOnTheWay rules kernel met past ended done taken) where
+  module _ (met : List SymbolId) (past : List (SymbolId × List Item)) (ended : List RuleId) (done taken : ℕ) (way : IsOnTheWay rules kernel met past ended done taken) where
     is_next : (item : Item) (x : SymbolId) → Contains way.items item → next_of rules item ≡ Some x → IsNext rules item x
     is_next item x c e = next_to rules numbers item x (closure_item rules kernel are (way.sound item c)) e
 
@@ -165,7 +164,7 @@ module _ (rules : List Rule) (numbers : IsNumbered rules) (kernel : List Item) (
           let here : InClosure rules (Contains kernel) (item_at by.from.rule.number 0) = added (way.sound before there) next by.from.live in
           subst (InClosure rules (Contains kernel)) (is_item item by) here
 
-      pub turned : (past' : List Shift) (ended' : List RuleId) → IsWalk rules all new past' ended' → IsOnTheWay rules kernel new past' ended' (done + 1) (taken + length (adds rules numbers kernel x))
+      pub turned : (past' : List (SymbolId × List Item)) (ended' : List RuleId) → IsWalk rules all new past' ended' → IsOnTheWay rules kernel new past' ended' (done + 1) (taken + length (adds rules numbers kernel x))
       turned past' ended' walk = record {
         items = all;
         walk = walk;
@@ -195,7 +194,7 @@ module _ (rules : List Rule) (numbers : IsNumbered rules) (kernel : List Item) (
       }
 
     -- the same, as the loop does it
-    pub turn : (ascend : IsStrictlySortedBy rule_cmp rules) (early : List RuleId) (shown new : List SymbolId) (past' : List Shift) (ended' : List RuleId) → early ≡ early_rules kernel → shown ≡ met → done < length met → Extends met new
+    pub turn : (ascend : IsStrictlySortedBy rule_cmp rules) (early : List RuleId) (shown new : List SymbolId) (past' : List (SymbolId × List Item)) (ended' : List RuleId) → early ≡ early_rules kernel → shown ≡ met → done < length met → Extends met new
         → ((items : List Item) → IsWalk rules items met past ended → IsWalk rules (items ++ added_items early (numbers_of_left rules (symbol_at shown done))) new past' ended')
         → IsOnTheWay rules kernel new past' ended' (done + 1) (taken + length (added_items early (numbers_of_left rules (symbol_at shown done))))
     turn ascend early shown new past' ended' e f l more walk =

@@ -4,10 +4,10 @@ pub mod Kernels
 pub mod ExpansionLaws
 pub mod MoveSearches
 pub mod DistinctLists
-pub mod Groups
+pub mod Insertions
+pub mod MoveLists
 pub mod Walks
 pub mod Positions
 pub mod Added
 pub mod Closures
 pub mod Expanded
-pub mod GroupFacts

@@ -1,7 +1,7 @@
 -- One more item of a walk.
-use Rattle.std.proofs.Common.{◌≡◌, ℕ, ◌+◌, ◌⊎◌, inl, inr, Bool, true, false, cond, List, [], ◌∷◌, ◌++◌, refl, sym, ◌∙◌, ap, subst, arith, Contains, Option, Some, None}
-use Rattle.std.specs.List.{filter_map, cons_option, list_any}
-use Rattle.std.specs.Cmp.{unsigned_Decides}
+use Rattle.std.proofs.Common.{◌≡◌, ◌+◌, ◌⊎◌, ◌↔◌, inl, inr, Bool, true, false, cond, List, [], ◌∷◌, ◌++◌, refl, sym, ◌∙◌, ap, subst, arith, Contains, Option, Some, None}
+use Rattle.std.specs.List.{filter_map, cons_option, list_any, position_or_len}
+use Rattle.std.specs.List.Sorted.{IsStrictlySortedBy}
 use Rattle.std.proofs.lemmas.List.{append-nil}
 use Rattle.std.proofs.lemmas.List.Elements.{filter_map-append, Contains-append_left, Contains-append_right, Contains-append_cases}
 use Rattle.std.proofs.lemmas.Map.Views.{list_any-from_Contains, Contains-from_any}
@@ -14,12 +14,11 @@ use Rattle.forest.specs.Equality.{symbol_eq, symbol_equiv}
 use Rattle.forest.proofs.Ascending.{contains_here, contains_cases}
 use Rattle.edit_log.proofs.PlainLists.{distinct_push}
 use Rattle.item_sets.specs.declared.item.Item.{Item}
-use Rattle.item_sets.specs.declared.walk.Shift.{Shift}
 use Rattle.item_sets.specs.Prefixes.{item_at}
-use Rattle.item_sets.specs.Walks.{next_of, shift_of, reduction_of, IsWalk, Extends}
-
-pub symbol_exact : (a b : SymbolId) → symbol_eq a b ≡ true → a ≡ b
-symbol_exact a b e = let f : ℕ → SymbolId = λ n. record { 0 = n } in ap f ((unsigned_Decides a.0 b.0).0 e)
+use Rattle.item_sets.specs.Orders.{with_item}
+use Rattle.item_sets.specs.Walks.{next_of, reduction_of, MovesTo, IsMove, IsWalk, Extends, put_at}
+use Rattle.item_sets.proofs.Insertions.{with_item_members, with_item_ascends}
+use Rattle.item_sets.proofs.MoveLists.{symbol_exact, symbols_of, joined, put_is, joined_symbols, joined_each}
 
 -- ---- a symbol joins those that are there
 
@@ -66,21 +65,74 @@ pub nothing_met : (rules : List Rule) → IsWalk rules [] [] [] []
 nothing_met rules = record {
   distinct = tt;
   symbols = λ x. (λ (k, l, e). absurd (omega arith), λ (item, (k, l, e), n). absurd (omega arith));
-  shifts = refl;
+  places = refl;
+  moves = λ m (k, l, e). absurd (omega arith);
   reductions = refl;
 }
 
-module _ (rules : List Rule) (items : List Item) (met : List SymbolId) (past : List Shift) (ended : List RuleId) (walk : IsWalk rules items met past ended) (item : Item) where
+module _ (rules : List Rule) (items : List Item) (item : Item) where
+  abbrev all : List Item
+  all = items ++ item ∷ []
+
+  grown : (x : SymbolId) (to : Item) → MovesTo rules items x to → MovesTo rules all x to
+  grown x to m = record { from = m.from; met = Contains-append_left items (item ∷ []) m.from m.met; next = m.next; is = m.is }
+
+  shrunk : (x : SymbolId) (to : Item) → MovesTo rules all x to → MovesTo rules items x to ⊎ ((next_of rules item ≡ Some x) × (item_at item.rule (item.dot + 1) ≡ to))
+  shrunk x to m = elim (Contains-append_cases items (item ∷ []) m.from m.met) [
+    | inl old ↦ inl (record { from = m.from; met = old; next = m.next; is = m.is })
+    | inr new ↦ let same : item ≡ m.from = one_of item m.from new in
+        inr (ap (next_of rules) same ∙ m.next, ap (λ (it : Item). item_at it.rule (it.dot + 1)) same ∙ m.is)
+  ]
+
+  newest : (x : SymbolId) → next_of rules item ≡ Some x → MovesTo rules all x (item_at item.rule (item.dot + 1))
+  newest x e = record { from = item; met = Contains-append_right items (item ∷ []) item (contains_here item []); next = e; is = refl }
+
+  -- a move on another symbol
+  kept_move : (m : SymbolId × List Item) → (next_of rules item ≡ Some m.0 → ⊥) → IsMove rules items m → IsMove rules all m
+  kept_move m other is = record {
+    ascends = is.ascends;
+    members = λ to. (
+      λ c. grown m.0 to ((is.members to).0 c),
+      λ b. elim (shrunk m.0 to b) [ inl old ↦ (is.members to).1 old | inr new ↦ absurd (other new.0) ],
+    );
+  }
+
+  joined_move : (m : SymbolId × List Item) → next_of rules item ≡ Some m.0 → IsMove rules items m → IsMove rules all (m.0, with_item (item_at item.rule (item.dot + 1)) m.1)
+  joined_move m e is =
+      let moved = item_at item.rule (item.dot + 1) in
+      record {
+        ascends = with_item_ascends moved m.1 is.ascends;
+        members = λ to. (
+          λ c. elim ((with_item_members moved m.1 to).0 c) [
+            | inl d ↦ grown m.0 to ((is.members to).0 d)
+            | inr f ↦ subst (MovesTo rules all m.0) f (newest m.0 e)
+          ],
+          λ b. (with_item_members moved m.1 to).1 (elim (shrunk m.0 to b) [ inl old ↦ inl ((is.members to).1 old) | inr new ↦ inr new.1 ]),
+        );
+      }
+
+  begun_move : (x : SymbolId) → next_of rules item ≡ Some x → ((to : Item) → MovesTo rules items x to → ⊥) → IsMove rules all (x, item_at item.rule (item.dot + 1) ∷ [])
+  unfolding IsStrictlySortedBy
+  begun_move x e none =
+      let moved = item_at item.rule (item.dot + 1) in
+      record {
+        ascends = (tt, tt);
+        members = λ to. (
+          λ c. subst (MovesTo rules all x) (one_of moved to c) (newest x e),
+          λ b. elim (shrunk x to b) [ inl old ↦ absurd (none to old) | inr new ↦ subst (Contains (moved ∷ [])) new.1 (contains_here moved []) ],
+        );
+      }
+
+module _ (rules : List Rule) (items : List Item) (met : List SymbolId) (moves : List (SymbolId × List Item)) (ended : List RuleId) (walk : IsWalk rules items met moves ended) (item : Item) where
   more : {Y : Type 0} (f : Item → Option Y) (ys : List Y) → ys ≡ filter_map f items → ys ++ cons_option (f item) [] ≡ filter_map f (items ++ item ∷ [])
   more f ys e = ap (λ zs. zs ++ cons_option (f item) []) e ∙ sym (filter_map-append f items (item ∷ []))
 
-  abbrev pub moved : SymbolId → Shift
-  moved x = record { symbol = x; item = item_at item.rule (item.dot + 1) }
+  module _ (x : SymbolId) (e : next_of rules item ≡ Some x) where
+    abbrev moved : Item
+    moved = item_at item.rule (item.dot + 1)
 
-  pub met_some : (x : SymbolId) → next_of rules item ≡ Some x → IsWalk rules (items ++ item ∷ []) (insert_key symbol_eq met x) (past ++ moved x ∷ []) ended
-  met_some x e = record {
-    distinct = distinct_insert met x walk.distinct;
-    symbols = λ y. (
+    symbols_then : (y : SymbolId) → Contains (insert_key symbol_eq met x) y ↔ ((it : Item) × Contains (items ++ item ∷ []) it × (next_of rules it ≡ Some y))
+    symbols_then y = (
       λ c. elim (insert_cases met x y c) [
         | inl d ↦ let (it, there, is) = (walk.symbols y).0 d in (it, Contains-append_left items (item ∷ []) it there, is)
         | inr same ↦ (item, Contains-append_right items (item ∷ []) item (contains_here item []), e ∙ ap Some same)
@@ -91,15 +143,32 @@ module _ (rules : List Rule) (items : List Item) (met : List SymbolId) (past : L
             let both : Some x ≡ Some y = sym e ∙ ap (next_of rules) (one_of item it new) ∙ is in
             let same : x ≡ y = cc in subst (λ z. Contains (insert_key symbol_eq met x) z) same (inserted met x)
       ],
-    );
-    shifts = let is : shift_of rules item ≡ Some (moved x) = rw e refl in rw is at (more (shift_of rules) past walk.shifts);
-    reductions = let is : reduction_of rules item ≡ None = rw e refl in append-nil-of ended (rw is at (more (reduction_of rules) ended walk.reductions));
-  }
-    where
-      append-nil-of : {X : Type 0} (xs : List X) {ys : List X} → xs ++ [] ≡ ys → xs ≡ ys
-      append-nil-of xs f = sym (append-nil xs) ∙ f
+    )
 
-  pub met_none : next_of rules item ≡ None → IsWalk rules (items ++ item ∷ []) met past (ended ++ item.rule ∷ [])
+    moves_then : (m : SymbolId × List Item) → Contains (joined x moved moves) m → IsMove rules (items ++ item ∷ []) m
+    moves_then = joined_each (IsMove rules items) (IsMove rules (items ++ item ∷ [])) x moved
+        (λ m other is. kept_move rules items item m (λ f. let both : Some x ≡ Some m.0 = sym e ∙ f in other (let same : m.0 ≡ x = cc in same)) is)
+        (λ m same is. joined_move rules items item m (e ∙ ap Some (sym same)) is)
+        moves (subst (λ (ks : List SymbolId). IsDistinct ks) (sym walk.places) walk.distinct)
+        (λ new. begun_move rules items item x e (λ to m. new (subst (λ ks. Contains ks x) (sym walk.places) ((walk.symbols x).1 (m.from, m.met, m.next)))))
+        walk.moves
+
+    put_joins : put_at (position_or_len (symbol_eq x) met) x moved moves ≡ joined x moved moves
+    put_joins = ap (λ ks. put_at (position_or_len (symbol_eq x) ks) x moved moves) (sym walk.places) ∙ put_is x moved moves
+
+    pub met_some : IsWalk rules (items ++ item ∷ []) (insert_key symbol_eq met x) (put_at (position_or_len (symbol_eq x) met) x moved moves) ended
+    met_some = record {
+      distinct = distinct_insert met x walk.distinct;
+      symbols = symbols_then;
+      places = ap symbols_of put_joins ∙ joined_symbols x moved moves ∙ ap (λ ks. insert_key symbol_eq ks x) walk.places;
+      moves = λ m c. moves_then m (subst (λ ms. Contains ms m) put_joins c);
+      reductions = let is : reduction_of rules item ≡ None = rw e refl in append-nil-of ended (rw is at (more (reduction_of rules) ended walk.reductions));
+    }
+      where
+        append-nil-of : {X : Type 0} (xs : List X) {ys : List X} → xs ++ [] ≡ ys → xs ≡ ys
+        append-nil-of xs f = sym (append-nil xs) ∙ f
+
+  pub met_none : next_of rules item ≡ None → IsWalk rules (items ++ item ∷ []) met moves (ended ++ item.rule ∷ [])
   met_none e = record {
     distinct = walk.distinct;
     symbols = λ y. (
@@ -109,6 +178,7 @@ module _ (rules : List Rule) (items : List Item) (met : List SymbolId) (past : L
         | inr new ↦ let no : None ≡ Some y = sym e ∙ ap (next_of rules) (one_of item it new) ∙ is in absurd cc
       ],
     );
-    shifts = let is : shift_of rules item ≡ None = rw e refl in sym (append-nil past) ∙ (rw is at (more (shift_of rules) past walk.shifts));
+    places = walk.places;
+    moves = λ m c. kept_move rules items item m (λ f. let no : None ≡ Some m.0 = sym e ∙ f in absurd cc) (walk.moves m c);
     reductions = let is : reduction_of rules item ≡ Some item.rule = rw e refl in rw is at (more (reduction_of rules) ended walk.reductions);
   }

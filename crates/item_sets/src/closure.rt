@@ -39,8 +39,8 @@ fn visit_kernel<L: Ledger>(
     requires formed { IsWellFormed grammar.now.grammar }
     requires items { AreItems grammar.now.grammar.rules kernel.now }
     ensures walk { OnOk result ((items : List Item)
-        → IsWalk grammar.now.grammar.rules items walk.old.symbols.keys walk.old.shifts.items walk.old.reductions.items
-        → IsWalk grammar.now.grammar.rules (items ++ kernel.now) walk.new.symbols.keys walk.new.shifts.items walk.new.reductions.items) }
+        → IsWalk grammar.now.grammar.rules items walk.old.symbols.keys walk.old.moves.items walk.old.reductions.items
+        → IsWalk grammar.now.grammar.rules (items ++ kernel.now) walk.new.symbols.keys walk.new.moves.items walk.new.reductions.items) }
     ensures steps { OnOk result (steps.new ≡ steps.old + length kernel.now) }
     ensures never_back { steps.old ≤ steps.new }
 {
@@ -60,9 +60,9 @@ fn visit_rules<L: Ledger>(
 ) -> Result<(), NoMemory>
     requires { IsWellFormed grammar.now.grammar }
     ensures walk { OnOk result ((items : List Item)
-        → IsWalk grammar.now.grammar.rules items walk.old.symbols.keys walk.old.shifts.items walk.old.reductions.items
+        → IsWalk grammar.now.grammar.rules items walk.old.symbols.keys walk.old.moves.items walk.old.reductions.items
         → IsWalk grammar.now.grammar.rules (items ++ added_items early.now (numbers_of_left grammar.now.grammar.rules symbol))
-        walk.new.symbols.keys walk.new.shifts.items walk.new.reductions.items) }
+        walk.new.symbols.keys walk.new.moves.items walk.new.reductions.items) }
     ensures extends { OnOk result (Extends walk.old.symbols.keys walk.new.symbols.keys) }
     ensures steps { OnOk result (steps.new ≡ steps.old + length (added_items early.now (numbers_of_left grammar.now.grammar.rules symbol))) }
     ensures never_back { steps.old ≤ steps.new }
@@ -92,7 +92,7 @@ pub(crate) fn closure_of<L: Ledger>(
     requires items { AreItems grammar.now.grammar.rules kernel.now }
     requires ascends { IsStrictlySortedBy item_cmp kernel.now }
     ensures closure { IfOk result (λ walk. (items : List Item) × IsClosureOf grammar.now.grammar.rules kernel.now items
-        × IsWalk grammar.now.grammar.rules items walk.symbols.keys walk.shifts.items walk.reductions.items
+        × IsWalk grammar.now.grammar.rules items walk.symbols.keys walk.moves.items walk.reductions.items
         × (steps.new ≡ steps.old + length items)) }
     ensures never_back { steps.old ≤ steps.new }
 {

@@ -8,7 +8,6 @@ ghost use Rattle.item_sets.specs.Expansions.{IsExpansionOf, IsCost};
 use crate::NoMemory;
 use crate::closure::closure_of;
 use crate::expansion::{Expansion, Moves, Reductions};
-use crate::grouping::moves_of;
 use crate::kernel::Kernel;
 use crate::walk::Walk;
 use edit_log::Grammar;
@@ -36,11 +35,14 @@ pub fn expand<L: Ledger>(
     ensures never_back { steps.old ≤ steps.new }
 {
     is_formed(grammar);
-    let mut walk = closure_of(alloc, grammar, kernel.items(), steps)?;
-    walk.shifts.sort_unstable();
-    walk.reductions.sort_unstable();
-    let moves = moves_of(alloc, &walk.shifts)?;
-    let Walk { reductions, .. } = walk;
+    let walk = closure_of(alloc, grammar, kernel.items(), steps)?;
+    let Walk {
+        mut moves,
+        mut reductions,
+        ..
+    } = walk;
+    moves.sort_unstable_by_key(|entry| entry.0.0);
+    reductions.sort_unstable();
     Ok(Expansion {
         moves: Moves::from_vec(moves),
         reductions: Reductions::from_vec(reductions),

@@ -1,8 +1,8 @@
 //! Kernels: the items that tell one state of a parser from another.
 
-ghost use Rattle.std.specs.Prelude.{◌≡◌, IfOk};
+ghost use Rattle.std.specs.Prelude.{◌≡◌, [], ◌∷◌, IfOk, OnOk};
 ghost use Rattle.std.specs.List.Sorted.{IsStrictlySortedBy};
-ghost use Rattle.item_sets.specs.Orders.{item_cmp};
+ghost use Rattle.item_sets.specs.Orders.{item_cmp, with_item};
 ghost use Rattle.item_sets.specs.Prefixes.{start_kernel};
 
 use crate::NoMemory;
@@ -37,8 +37,15 @@ impl Kernel {
     pub fn start(alloc: Global) -> Kernel
         ensures { result ≡ start_kernel }
     {
+        Kernel::of_one(alloc, Item::default())
+    }
+
+    /// The kernel of one item.
+    pub(crate) fn of_one(alloc: Global, item: Item) -> Kernel
+        ensures { result ≡ item ∷ [] }
+    {
         let mut items = SmallVec::new(alloc);
-        items.push_reserved(Item::default());
+        items.push_reserved(item);
         Kernel { items }
     }
 
@@ -52,12 +59,15 @@ impl Kernel {
         })
     }
 
-    /// The kernel of these items, in the memory that they have.
-    pub(crate) fn from_items(items: SmallVec<Item, 4>) -> Kernel
-        requires { IsStrictlySortedBy item_cmp items.items }
-        ensures { result ≡ items.items }
+    /// Puts one more item at its place. One that is there already stays as it is.
+    pub(crate) fn insert(&mut self, item: Item) -> Result<(), NoMemory>
+        ensures { OnOk result (self.new ≡ with_item item self.old) }
     {
-        Kernel { items }
+        let Err(place) = self.items.as_slice().binary_search(&item) else {
+            return Ok(());
+        };
+        self.items.insert(place, item)?;
+        Ok(())
     }
 
     pub fn items(&self) -> &[Item]

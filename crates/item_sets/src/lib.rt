@@ -10,7 +10,6 @@ use std::alloc::AllocError;
 mod closure;
 mod expanding;
 mod expansion;
-mod grouping;
 mod item;
 mod kernel;
 mod laws;
@@ -27,6 +26,3 @@ pub use laws::{
 
 /// Memory ran out.
 pub type NoMemory = AllocError;
-
-#[cfg(test)]
-mod tests;

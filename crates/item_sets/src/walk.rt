@@ -1,34 +1,44 @@
 //! A walk over the items of a closure: each is met once.
 
-ghost use Rattle.std.specs.Prelude.{◌≡◌, ◌+◌, [], ◌∷◌, ◌++◌, List, OnOk, IfOk, Contains};
+ghost use Rattle.std.specs.Prelude.{◌≡◌, ◌+◌, [], ◌∷◌, ◌++◌, List, OnOk, IfOk, Contains, option_map};
 ghost use Rattle.edit_log.specs.Facts.{IsWellFormed};
+ghost use Rattle.edit_log.specs.Lookups.{rule_of};
 ghost use Rattle.item_sets.specs.declared.item.Item.{Item};
 ghost use Rattle.item_sets.specs.Prefixes.{IsItem, item_at};
-ghost use Rattle.item_sets.specs.Walks.{next_of, IsWalk, Extends};
+ghost use Rattle.item_sets.specs.Walks.{next_of, IsWalk, Extends, put_at};
 
 use crate::NoMemory;
 use crate::item::Item;
+use crate::kernel::Kernel;
 use edit_log::Grammar;
-use forest::{RuleId, START, SymbolId};
+use forest::{Rule, RuleId, START, SymbolId};
 use indexmap::IndexSet;
 use std::alloc::Global;
 use std::sync::ledger::Ledger;
 use steps::Steps;
 
-/// An item whose dot has moved past a symbol.
-#[derive(Clone, Copy, PartialEq, Eq, PartialOrd, Ord)]
-pub(crate) struct Shift {
-    pub(crate) symbol: SymbolId,
-    pub(crate) item: Item,
-}
-
 /// What the items that were met have after their dots.
 #[derive(Drop)]
 pub(crate) struct Walk {
-    /// Each symbol once. Its place tells whether its rules were met too.
+    /// Each symbol once. Its place tells whether its rules were met too, and where its move stands.
     pub(crate) symbols: IndexSet<SymbolId>,
-    pub(crate) shifts: Vec<Shift>,
+    /// For each symbol, in the same order, the items whose dots moved past it.
+    pub(crate) moves: Vec<(SymbolId, Kernel)>,
     pub(crate) reductions: Vec<RuleId>,
+}
+
+/// The live rule with this number. Before the first rule is dropped its place tells it, and nothing is searched.
+fn rule_of(grammar: &Grammar, number: RuleId) -> Option<&Rule>
+    ensures { option_map (λ r. r.now) result ≡ rule_of grammar.now.grammar.rules number }
+{
+    let rules = grammar.rules().rules.as_slice();
+    let Some(rule) = rules.get((number.0 as usize).wrapping_sub(1)) else {
+        return grammar.rule(number);
+    };
+    if rule.number.0 == number.0 {
+        return Some(rule);
+    }
+    grammar.rule(number)
 }
 
 /// The symbol after the item's dot.
@@ -38,19 +48,37 @@ fn next_of(grammar: &Grammar, item: Item) -> Option<SymbolId>
     if item.rule.0 == 0 {
         return if item.dot == 0 { Some(START) } else { None };
     }
-    let rule = grammar.rule(item.rule)?;
+    let rule = rule_of(grammar, item.rule)?;
     rule.right.as_slice().get(item.dot as usize).copied()
+}
+
+/// Puts the item into the move at this place. A place behind the others is that of a new move, on the symbol.
+fn put_at(
+    moves: &mut Vec<(SymbolId, Kernel)>,
+    place: usize,
+    symbol: SymbolId,
+    item: Item,
+) -> Result<(), NoMemory>
+    ensures { OnOk result (moves.new.items ≡ put_at place symbol item moves.old.items) }
+{
+    if place < moves.len() {
+        moves[place].1.insert(item)?;
+        return Ok(());
+    }
+    let kernel = Kernel::of_one(*moves.allocator(), item);
+    moves.push((symbol, kernel))?;
+    Ok(())
 }
 
 impl Walk {
     pub(crate) fn new(alloc: Global) -> Walk
         ensures symbols { result.symbols.keys ≡ [] }
-        ensures shifts { result.shifts.items ≡ [] }
+        ensures moves { result.moves.items ≡ [] }
         ensures reductions { result.reductions.items ≡ [] }
     {
         Walk {
             symbols: IndexSet::new(alloc),
-            shifts: Vec::new(alloc),
+            moves: Vec::new(alloc),
             reductions: Vec::new(alloc),
         }
     }
@@ -65,8 +93,8 @@ impl Walk {
         requires formed { IsWellFormed grammar.now.grammar }
         requires item { IsItem grammar.now.grammar.rules item }
         ensures walk { OnOk result ((items : List Item)
-            → IsWalk grammar.now.grammar.rules items self.old.symbols.keys self.old.shifts.items self.old.reductions.items
-            → IsWalk grammar.now.grammar.rules (items ++ item ∷ []) self.new.symbols.keys self.new.shifts.items self.new.reductions.items) }
+            → IsWalk grammar.now.grammar.rules items self.old.symbols.keys self.old.moves.items self.old.reductions.items
+            → IsWalk grammar.now.grammar.rules (items ++ item ∷ []) self.new.symbols.keys self.new.moves.items self.new.reductions.items) }
         ensures extends { OnOk result (Extends self.old.symbols.keys self.new.symbols.keys) }
         ensures steps { steps.new ≡ steps.old + 1 }
     {
@@ -75,12 +103,12 @@ impl Walk {
             self.reductions.push(item.rule)?;
             return Ok(());
         };
-        self.symbols.insert(symbol)?;
+        let (place, _) = self.symbols.insert_full(symbol)?;
         let item = Item {
             rule: item.rule,
             dot: item.dot + 1,
         };
-        self.shifts.push(Shift { symbol, item })?;
+        put_at(&mut self.moves, place, symbol, item)?;
         Ok(())
     }
 }

@@ -36,12 +36,17 @@ module _ {M : Type 1} {𝓤 : Ura M} (𝓛 : Logic 𝓤) (R : RattleType) where
   abbrev pub Mine : Hold.Denot → Fml
   Mine n = hold_owns R n.at n.value n.age n.parts
 
-  pub cuts : (L : Laws R) (p : Ptr) (x : R.Denot) (ν n m k : ℕ) → m + k ≡ n → ent 𝓤 (sem 𝓛 (hold_owns R p x ν n)) (sep 𝓤 (sem 𝓛 (hold_owns R p x ν m)) (sem 𝓛 (hold_owns R p x ν k)))
-  cuts L p x ν n m k e = qed 𝓛 (‵ (hold_owns R p x ν n) ∷ []) ∵ fsplit ! $ use1 𝓛 (‵ (frac ν m) ⊛ ‵ (frac ν k)) (cut_frac 𝓛 ν n m k e) $ split ! $ move ! (2 ∷ []) $
-      use1 𝓛 (‵ (lent_at R p x (ν ∷ [])) ⊛ ‵ (lent_at R p x (ν ∷ []))) ((lent_at_shr_laws R L.shr_laws p x).contraction M 𝓤 𝓛 (ν ∷ [])) $ split ! $ move ! (2 ∷ 0 ∷ []) $ fjoin ! $ move ! (2 ∷ 1 ∷ []) $ fjoin ! $ move ! (1 ∷ 0 ∷ []) $ done !
+  pub cuts : (L : Laws R) (p : Ptr) (x : R.Denot) (ν n m k : ℕ) → m + k ≡ n
+      → ent 𝓤 (sem 𝓛 (hold_owns R p x ν n)) (sep 𝓤 (sem 𝓛 (hold_owns R p x ν m)) (sem 𝓛 (hold_owns R p x ν k)))
+  cuts L p x ν n m k e = qed 𝓛 (‵ (hold_owns R p x ν n) ∷ []) ∵ fsplit ! $ use1 𝓛 (‵ (frac ν m) ⊛ ‵ (frac ν k)) (cut_frac 𝓛 ν n m k e) $ split ! $
+      move ! (2 ∷ []) $
+      use1 𝓛 (‵ (lent_at R p x (ν ∷ [])) ⊛ ‵ (lent_at R p x (ν ∷ []))) ((lent_at_shr_laws R L.shr_laws p x).contraction M 𝓤 𝓛 (ν ∷ [])) $ split ! $
+          move ! (2 ∷ 0 ∷ []) $ fjoin ! $ move ! (2 ∷ 1 ∷ []) $ fjoin ! $ move ! (1 ∷ 0 ∷ []) $ done !
 
-  pub glues : (p q : Ptr) (x y : R.Denot) (ν n m k : ℕ) → m + k ≡ n → ent 𝓤 (sep 𝓤 (sem 𝓛 (hold_owns R p x ν m)) (sem 𝓛 (hold_owns R q y ν k))) (𝓛.H.⇛ (sem 𝓛 (hold_owns R p x ν n)))
-  glues p q x y ν n m k e = qed 𝓛 (‵ (hold_owns R p x ν m) ∷ ‵ (hold_owns R q y ν k) ∷ []) ∵ updating ! $ fsplit ! $ move ! (2 ∷ []) $ fsplit ! $ move ! (2 ∷ 0 ∷ []) $
+  pub glues : (p q : Ptr) (x y : R.Denot) (ν n m k : ℕ) → m + k ≡ n → ent 𝓤 (sep 𝓤 (sem 𝓛 (hold_owns R p x ν m)) (sem 𝓛 (hold_owns R q y ν k)))
+      (𝓛.H.⇛ (sem 𝓛 (hold_owns R p x ν n)))
+  glues p q x y ν n m k e = qed 𝓛 (‵ (hold_owns R p x ν m) ∷ ‵ (hold_owns R q y ν k) ∷ []) ∵ updating ! $ fsplit ! $ move ! (2 ∷ []) $ fsplit ! $
+      move ! (2 ∷ 0 ∷ []) $
       use2 𝓛 (later (‵ (frac ν n))) (glue_frac 𝓛 ν m k n e) $ await ! tt $ move ! (0 ∷ 2 ∷ []) $ fjoin ! $ now ! $ keep ! (0 ∷ []) $ done !
 
   module _ (κ : Lft) (q : Share) (b o ν : ℕ) where
@@ -52,5 +57,7 @@ module _ {M : Type 1} {𝓤 : Ura M} (𝓛 : Logic 𝓤) (R : RattleType) where
     Shuts n = wand 𝓤 (sem 𝓛 (Mine n)) (𝓛.H.⇛ (sep 𝓤 (sem 𝓛 (lent n)) (𝓛.A.lft κ q)))
 
     pub hold_opens : (n : Hold.Denot) → ent 𝓤 (sep 𝓤 (sem 𝓛 (lent n)) (𝓛.A.lft κ q)) (𝓛.H.⇛ (sep 𝓤 (sem 𝓛 (Mine n)) (all 𝓤 Shuts)))
-    hold_opens n = qed 𝓛 (‵ (lent n) ∷ ‵ (flft κ q) ∷ []) ∵ updating ! $ fsplit ! $ opens ! tt Hold b o (λ vs. move ! (1 ∷ []) $ fsplit ! $ now ! $ move ! (1 ∷ []) $ frame ! $
-        each ! Shuts (λ m. assume ! (‵ (Mine m)) $ updating ! $ move ! (1 ∷ 0 ∷ []) $ fjoin ! $ move ! (1 ∷ 0 ∷ []) $ closes ! tt Hold m vs b o $ fjoin ! $ now ! $ done !))
+    hold_opens n = qed 𝓛 (‵ (lent n) ∷ ‵ (flft κ q) ∷ []) ∵ updating ! $ fsplit ! $ opens ! tt Hold b o (λ vs. move ! (1 ∷ []) $ fsplit ! $ now ! $
+        move ! (1 ∷ []) $ frame ! $
+        each ! Shuts (λ m. assume ! (‵ (Mine m)) $ updating ! $ move ! (1 ∷ 0 ∷ []) $ fjoin ! $ move ! (1 ∷ 0 ∷ []) $ closes ! tt Hold m vs b o $ fjoin ! $
+            now ! $ done !))

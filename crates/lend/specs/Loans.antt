@@ -1,10 +1,11 @@
 -- What a loan means: the value that it lends, the lifetime that names it, and its parts of the right to it.
 use Rattle.std.specs.Prelude.{ℕ}
 use Rattle.lend.specs.declared.loan.Loan.{Loan}
+use Rattle.lend.specs.declared.limits.TheConstants.{WHOLE}
 
 -- all parts of the right to one value
 abbrev pub whole : ℕ
-whole = 4294967296
+whole = WHOLE
 
 module _ {T : Type 0} where
   abbrev pub value_of : Loan T → T

@@ -9,13 +9,14 @@ use mir.Syntax.{Ty}
 use Rattle.std_alloc.specs.Box.Ownership.{box_owns}
 use denote.Struct.Lending.{lent_at}
 use base.Stored.{Coded}
+use Rattle.lend.specs.declared.limits.TheConstants.{WHOLE}
 
 abbrev pub ptr_coded : Coded Ptr
 ptr_coded = coded_ptr
 
 abbrev pub frac : ℕ → ℕ → Fml
 frac ν zero = ftrue
-frac ν (suc n) = fex Share (λ s. fex (Counts 32 s (suc n) × (suc n ≤ 4294967296)) (λ _. flft (ν ∷ []) s))
+frac ν (suc n) = fex Share (λ s. fex (Counts 32 s (suc n) × (suc n ≤ WHOLE)) (λ _. flft (ν ∷ []) s))
 
 abbrev pub hold_owns : (R : RattleType) → Ptr → R.Denot → ℕ → ℕ → Fml
 hold_owns R p x ν n = fsep (frac ν n) (lent_at R p x (ν ∷ []))
@@ -23,7 +24,7 @@ hold_owns R p x ν n = fsep (frac ν n) (lent_at R p x (ν ∷ []))
 -- what a `&` to a hold holds of those
 abbrev pub frac_shares : ℕ → ℕ → Lft → Fml
 frac_shares ν zero = said ftrue
-frac_shares ν (suc n) = some Share (λ s. some (Counts 32 s (suc n) × (suc n ≤ 4294967296)) (λ _. one (λ q. flft (ν ∷ []) q)))
+frac_shares ν (suc n) = some Share (λ s. some (Counts 32 s (suc n) × (suc n ≤ WHOLE)) (λ _. one (λ q. flft (ν ∷ []) q)))
 
 abbrev pub hold_shares : (R : RattleType) → Ptr → R.Denot → ℕ → ℕ → Lft → Fml
 hold_shares R p x ν n = beside (frac_shares ν n) (held (ν ∷ []) (lent_at R p x))

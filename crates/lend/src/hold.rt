@@ -3,6 +3,7 @@
 ghost use Rattle.std.specs.Prelude.{◌≡◌, ℕ, ◌+◌, ◌-◌, ◌/◌, ◌<◌};
 ghost use denote.RawPtr.{Ptr};
 ghost use Rattle.lend.specs.Parts.{hold_owns, hold_shares, ptr_coded};
+ghost use Rattle.lend.specs.declared.limits.TheConstants.{WHOLE};
 
 use crate::lent::Lent;
 use crate::loose::Loose;
@@ -57,7 +58,7 @@ impl<T> Hold<T> {
 impl<T: Drop> Hold<T> {
     /// A hold that has all parts ends the lending, and the box is there again.
     pub(crate) fn end<A: Allocator>(self, lent: Lent<T, A>) -> Loose<T, A>
-        requires { (lent.age ≡ self.age) × (self.parts ≡ 4294967296) }
+        requires { (lent.age ≡ self.age) × (self.parts ≡ WHOLE) }
         ensures { result.value ≡ lent.value }
     {
         let Hold { marker: _ } = self;

@@ -9,6 +9,7 @@
 mod hold;
 mod lending;
 mod lent;
+pub mod limits;
 pub mod loan;
 mod loose;
 #[cfg(test)]

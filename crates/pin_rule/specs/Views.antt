@@ -3,13 +3,14 @@ use Rattle.std.specs.Prelude.{◌≡◌, ℕ, List, Some, None, Option, cond}
 use mathlib.Core.Option as maybe
 use lib.Dec.{eqb}
 use lib.ListN.{get_elem?}
+use Rattle.lend.specs.declared.limits.TheConstants.{WHOLE}
 use Rattle.pin_rule.specs.declared.view.View.{View}
 use Rattle.pin_rule.specs.declared.view.OwnRow.{OwnRow}
 use Rattle.pin_rule.specs.declared.view.Pin.{Pin}
 
--- all shares together
+-- all shares together, which are the parts of the right to the table
 abbrev pub whole : ℕ
-whole = 4294967296
+whole = WHOLE
 
 abbrev pub Owns : View → OwnRow → Type 0
 Owns v o = v.own ≡ Some o

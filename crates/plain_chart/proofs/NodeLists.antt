@@ -32,7 +32,8 @@ module _ (rules : List Rule) (tokens : List SymbolId) (spans : List Span) where
   pub nodes_none : AreNodes rules tokens (take 0 spans) []
   nodes_none = record { at = refl; each = λ node c. absurd (omega (arith, c.1)) }
 
-  pub nodes_more : (k : ℕ) (s : Span) (nodes : List Node) (node : Node) → slice_get spans k ≡ Some s → AreNodes rules tokens (take k spans) nodes → IsNodeAt rules tokens s node → AreNodes rules tokens (take (k + 1) spans) (nodes ++ node ∷ [])
+  pub nodes_more : (k : ℕ) (s : Span) (nodes : List Node) (node : Node) → slice_get spans k ≡ Some s → AreNodes rules tokens (take k spans) nodes
+      → IsNodeAt rules tokens s node → AreNodes rules tokens (take (k + 1) spans) (nodes ++ node ∷ [])
   nodes_more k s nodes node e a n = record {
     at = map_push nodes node ∙ ap (λ q. q ++ span_of node ∷ []) a.at ∙ ap (λ q. take k spans ++ q ∷ []) n.at ∙ sym (take_push spans k s e);
     each = λ m c. elim (contains_push nodes node m c) [
@@ -41,7 +42,8 @@ module _ (rules : List Rule) (tokens : List SymbolId) (spans : List Span) where
     ];
   }
 
-each_node : (a : Node) (nodes : List Node) → AllByRecursion (λ s. span_cmp (span_of a) s ≡ Less) (map span_of nodes) → AllByRecursion (λ b. node_cmp a b ≡ Less) nodes
+each_node : (a : Node) (nodes : List Node) → AllByRecursion (λ s. span_cmp (span_of a) s ≡ Less) (map span_of nodes)
+    → AllByRecursion (λ b. node_cmp a b ≡ Less) nodes
 each_node a [] e = tt
 each_node a (b ∷ nodes) e = (e.0, each_node a nodes e.1)
 
@@ -50,10 +52,12 @@ unfolding IsStrictlySortedBy
 sorted_nodes [] s = tt
 sorted_nodes (a ∷ nodes) s = (each_node a nodes s.0, sorted_nodes nodes s.1)
 
-pub nodes_ascend : (rules : List Rule) (tokens : List SymbolId) (spans : List Span) (nodes : List Node) → AreNodes rules tokens spans nodes → IsStrictlySortedBy span_cmp spans → IsStrictlySortedBy node_cmp nodes
+pub nodes_ascend : (rules : List Rule) (tokens : List SymbolId) (spans : List Span) (nodes : List Node) → AreNodes rules tokens spans nodes
+    → IsStrictlySortedBy span_cmp spans → IsStrictlySortedBy node_cmp nodes
 nodes_ascend rules tokens spans nodes a s = sorted_nodes nodes (subst (λ q. IsStrictlySortedBy span_cmp q) (sym a.at) s)
 
-pub forest_is : (rules : List Rule) (tokens : List SymbolId) (spans : List Span) (forest : Forest) → IsSentence rules tokens → AreNodes rules tokens spans forest.nodes → AreReached rules tokens spans → IsForestOf rules tokens forest
+pub forest_is : (rules : List Rule) (tokens : List SymbolId) (spans : List Span) (forest : Forest) → IsSentence rules tokens
+    → AreNodes rules tokens spans forest.nodes → AreReached rules tokens spans → IsForestOf rules tokens forest
 forest_is rules tokens spans forest sentence a reached = record {
   derived = sentence;
   order = forest.ascending;

@@ -1,5 +1,6 @@
 -- The parts of splits, and the spans that the forest reaches.
-use Rattle.std.proofs.Common.{◌≡◌, ℕ, zero, suc, ◌+◌, ◌<◌, ◌≤◌, ◌↔◌, ◌⊎◌, inl, inr, List, [], ◌∷◌, ◌++◌, length, length-append, refl, sym, ◌∙◌, ap, subst, append_assoc, arith, Contains, slice_get, Some}
+use Rattle.std.proofs.Common.{◌≡◌, ℕ, zero, suc, ◌+◌, ◌<◌, ◌≤◌, ◌↔◌, ◌⊎◌, inl, inr, List, [], ◌∷◌, ◌++◌, length, length-append, refl, sym, ◌∙◌, ap, subst}
+use Rattle.std.proofs.Common.{append_assoc, arith, Contains, slice_get, Some}
 use Rattle.std.proofs.lemmas.Bool.{cases_lt}
 use Rattle.std.proofs.lemmas.List.{append-nil}
 use Rattle.std.proofs.lemmas.Option.{slice_get_within}
@@ -26,7 +27,8 @@ module _ (known : List Span) where
   pub adds_none : (P : Span → Type 0) (old : List Span) → ((s : Span) → Contains known s → P s → Contains old s) → Adds known P old old
   adds_none P old f = record { more = []; grown = sym (append-nil old); distinct = λ d. d; within = λ s c. inl c; all = f }
 
-  pub adds_one : (P : Span → Type 0) (old : List Span) (s : Span) → (Contains old s → ⊥) → Contains known s → P s → ((t : Span) → P t → s ≡ t) → Adds known P old (old ++ s ∷ [])
+  pub adds_one : (P : Span → Type 0) (old : List Span) (s : Span) → (Contains old s → ⊥) → Contains known s → P s → ((t : Span) → P t → s ≡ t)
+      → Adds known P old (old ++ s ∷ [])
   adds_one P old s new k p f = record {
     more = s ∷ [];
     grown = refl;
@@ -62,14 +64,17 @@ module _ (known : List Span) where
 
 -- the parts along cuts whose second is below middle
 pub IsFrontSpan : List SymbolId → List Span → SymbolId → List SymbolId → ℕ → ℕ → ℕ → Span → Type 0
-IsFrontSpan tokens known x xs i j middle s = (k : ℕ) × (i ≤ k) × (k ≤ j) × (k < middle) × IsKnown tokens known x i k × AreKnown tokens known xs k j × ((span x i k ≡ s) ⊎ IsPartSpan tokens known xs k j s)
+IsFrontSpan tokens known x xs i j middle s = (k : ℕ) × (i ≤ k) × (k ≤ j) × (k < middle) × IsKnown tokens known x i k × AreKnown tokens known xs k j ×
+    ((span x i k ≡ s) ⊎ IsPartSpan tokens known xs k j s)
 
 module _ (tokens : List SymbolId) (known : List Span) (x : SymbolId) (xs : List SymbolId) (i j : ℕ) where
   pub adds_front_none : (old : List Span) → Adds known (IsFrontSpan tokens known x xs i j i) old old
   unfolding IsFrontSpan
   adds_front_none old = adds_none known _ old (λ s k p. absurd (omega (arith, p.1, p.3)))
 
-  pub adds_front_more : (middle : ℕ) (a b c d : List Span) → i ≤ middle → middle ≤ j → IsKnown tokens known x i middle → AreKnown tokens known xs middle j → Adds known (IsFrontSpan tokens known x xs i j middle) a b → Adds known (λ (s : Span). span x i middle ≡ s) b c → Adds known (IsPartSpan tokens known xs middle j) c d → Adds known (IsFrontSpan tokens known x xs i j (middle + 1)) a d
+  pub adds_front_more : (middle : ℕ) (a b c d : List Span) → i ≤ middle → middle ≤ j → IsKnown tokens known x i middle → AreKnown tokens known xs middle j
+      → Adds known (IsFrontSpan tokens known x xs i j middle) a b → Adds known (λ (s : Span). span x i middle ≡ s) b c
+      → Adds known (IsPartSpan tokens known xs middle j) c d → Adds known (IsFrontSpan tokens known x xs i j (middle + 1)) a d
   unfolding IsFrontSpan
   adds_front_more middle a b c d lo hi kn more f g h =
       adds_same known _ _ a d
@@ -91,7 +96,8 @@ module _ (tokens : List SymbolId) (known : List Span) (x : SymbolId) (xs : List 
       ])
       (adds_then known _ _ a c d (adds_then known _ _ a b c f g) h)
 
-  pub adds_front_same : (middle : ℕ) (a b : List Span) → (IsKnown tokens known x i middle → AreKnown tokens known xs middle j → ⊥) → Adds known (IsFrontSpan tokens known x xs i j middle) a b → Adds known (IsFrontSpan tokens known x xs i j (middle + 1)) a b
+  pub adds_front_same : (middle : ℕ) (a b : List Span) → (IsKnown tokens known x i middle → AreKnown tokens known xs middle j → ⊥)
+      → Adds known (IsFrontSpan tokens known x xs i j middle) a b → Adds known (IsFrontSpan tokens known x xs i j (middle + 1)) a b
   unfolding IsFrontSpan
   adds_front_same middle a b none f =
       adds_same known _ _ a b
@@ -104,7 +110,8 @@ module _ (tokens : List SymbolId) (known : List Span) (x : SymbolId) (xs : List 
       ])
       f
 
-  pub adds_front_all : (middle : ℕ) (a b : List Span) → j < middle → Adds known (IsFrontSpan tokens known x xs i j middle) a b → Adds known (IsPartSpan tokens known (x ∷ xs) i j) a b
+  pub adds_front_all : (middle : ℕ) (a b : List Span) → j < middle → Adds known (IsFrontSpan tokens known x xs i j middle) a b
+      → Adds known (IsPartSpan tokens known (x ∷ xs) i j) a b
   unfolding IsFrontSpan
   adds_front_all middle a b l f =
       adds_same known _ _ a b
@@ -120,14 +127,17 @@ again rules n r at k q lo hi e =
 
 -- the parts of the first n rules
 pub IsBelowFirst : List Rule → List SymbolId → List Span → Span → ℕ → Span → Type 0
-IsBelowFirst rules tokens known t n s = (k : ℕ) × (r : Rule) × (k < n) × (slice_get rules k ≡ Some r) × (r.left ≡ t.symbol) × IsPartSpan tokens known r.right t.from t.to s
+IsBelowFirst rules tokens known t n s = (k : ℕ) × (r : Rule) × (k < n) × (slice_get rules k ≡ Some r) × (r.left ≡ t.symbol)
+    × IsPartSpan tokens known r.right t.from t.to s
 
 module _ (rules : List Rule) (tokens : List SymbolId) (known : List Span) (t : Span) where
   pub below_none : (old : List Span) → Adds known (IsBelowFirst rules tokens known t 0) old old
   unfolding IsBelowFirst
   below_none old = adds_none known _ old (λ s k p. absurd (omega (arith, p.2)))
 
-  pub below_more : (n : ℕ) (r : Rule) (a b c : List Span) → slice_get rules n ≡ Some r → r.left ≡ t.symbol → Adds known (IsBelowFirst rules tokens known t n) a b → Adds known (IsPartSpan tokens known r.right t.from t.to) b c → Adds known (IsBelowFirst rules tokens known t (n + 1)) a c
+  pub below_more : (n : ℕ) (r : Rule) (a b c : List Span) → slice_get rules n ≡ Some r → r.left ≡ t.symbol
+      → Adds known (IsBelowFirst rules tokens known t n) a b → Adds known (IsPartSpan tokens known r.right t.from t.to) b c
+      → Adds known (IsBelowFirst rules tokens known t (n + 1)) a c
   unfolding IsBelowFirst
   below_more n r a b c at left f g =
       adds_same known _ _ a c
@@ -141,7 +151,8 @@ module _ (rules : List Rule) (tokens : List SymbolId) (known : List Span) (t : S
       ])
       (adds_then known _ _ a b c f g)
 
-  pub below_same : (n : ℕ) (r : Rule) (a b : List Span) → slice_get rules n ≡ Some r → (r.left ≡ t.symbol → ⊥) → Adds known (IsBelowFirst rules tokens known t n) a b → Adds known (IsBelowFirst rules tokens known t (n + 1)) a b
+  pub below_same : (n : ℕ) (r : Rule) (a b : List Span) → slice_get rules n ≡ Some r → (r.left ≡ t.symbol → ⊥)
+      → Adds known (IsBelowFirst rules tokens known t n) a b → Adds known (IsBelowFirst rules tokens known t (n + 1)) a b
   unfolding IsBelowFirst
   below_same n r a b at other f =
       adds_same known _ _ a b
@@ -152,7 +163,8 @@ module _ (rules : List Rule) (tokens : List SymbolId) (known : List Span) (t : S
       ])
       f
 
-  pub below_all : (n : ℕ) (a b : List Span) → length rules ≤ n → Adds known (IsBelowFirst rules tokens known t n) a b → Adds known (IsBelow rules tokens known t) a b
+  pub below_all : (n : ℕ) (a b : List Span) → length rules ≤ n → Adds known (IsBelowFirst rules tokens known t n) a b
+      → Adds known (IsBelow rules tokens known t) a b
   unfolding IsBelowFirst
   below_all n a b end f =
       adds_same known _ _ a b
@@ -163,10 +175,12 @@ module _ (rules : List Rule) (tokens : List SymbolId) (known : List Span) (t : S
 module _ (rules : List Rule) (tokens : List SymbolId) (known : List Span) (whole : IsWhole rules tokens known) where
   along_known : (xs : List SymbolId) (i : ℕ) (ends : List ℕ) (j : ℕ) → DerivesAlong rules tokens xs i ends j → i ≤ length tokens → AreKnown tokens known xs i j
   along_known xs i ends j done h = refl
-  along_known xs i ends j (part {x = x} {xs = ys} {k = k} {cuts = rest} d a) h = (k, Derives-le d, Along-le a, whole.all x i k d h, along_known ys k rest j a (Derives-within d h))
+  along_known xs i ends j (part {x = x} {xs = ys} {k = k} {cuts = rest} d a) h =
+      (k, Derives-le d, Along-le a, whole.all x i k d h, along_known ys k rest j a (Derives-within d h))
 
   -- a part along cuts is a part span, and is derived
-  part_span : (xs : List SymbolId) (i : ℕ) (ends : List ℕ) (j : ℕ) (y : SymbolId) (a b : ℕ) → IsPart xs i ends y a b → DerivesAlong rules tokens xs i ends j → i ≤ length tokens → IsPartSpan tokens known xs i j (span y a b) × Derives rules tokens y a b × (a ≤ length tokens)
+  part_span : (xs : List SymbolId) (i : ℕ) (ends : List ℕ) (j : ℕ) (y : SymbolId) (a b : ℕ) → IsPart xs i ends y a b → DerivesAlong rules tokens xs i ends j
+      → i ≤ length tokens → IsPartSpan tokens known xs i j (span y a b) × Derives rules tokens y a b × (a ≤ length tokens)
   part_span xs i ends j y a b here (part {x = x} {xs = ys} {k = k} {cuts = rest} d e) h =
       ((k, Derives-le d, Along-le e, whole.all x i k d h, along_known ys k rest j e (Derives-within d h), inl refl), d, h)
   part_span xs i ends j y a b (later p) (part {x = x} {xs = ys} {k = k} {cuts = rest} d e) h =
@@ -174,7 +188,8 @@ module _ (rules : List Rule) (tokens : List SymbolId) (known : List Span) (whole
       ((k, Derives-le d, Along-le e, whole.all x i k d h, along_known ys k rest j e (Derives-within d h), inr q), der, l)
 
   -- and the other way
-  span_part : (xs : List SymbolId) (i j : ℕ) (s : Span) → IsPartSpan tokens known xs i j s → (ends : List ℕ) × DerivesAlong rules tokens xs i ends j × IsPart xs i ends s.symbol s.from s.to
+  span_part : (xs : List SymbolId) (i j : ℕ) (s : Span) → IsPartSpan tokens known xs i j s
+      → (ends : List ℕ) × DerivesAlong rules tokens xs i ends j × IsPart xs i ends s.symbol s.from s.to
   span_part [] i j s p = absurd p
   span_part (x ∷ xs) i j s (k, lo, hi, kn, more, which) =
       let first = known_derived rules tokens known whole.fine.derived x i k kn in
@@ -188,21 +203,26 @@ module _ (rules : List Rule) (tokens : List SymbolId) (known : List Span) (whole
       ]
 
   -- a derived span of a nonterminal is known
-  pub nonterminal_known : AreTerminals rules tokens → (y : SymbolId) (a b : ℕ) → IsNonterminal rules y → Derives rules tokens y a b → a ≤ length tokens → Contains known (span y a b)
+  pub nonterminal_known : AreTerminals rules tokens → (y : SymbolId) (a b : ℕ) → IsNonterminal rules y → Derives rules tokens y a b → a ≤ length tokens
+      → Contains known (span y a b)
   nonterminal_known terminals y a b n d l = elim (whole.all y a b d l) [
     | inl t ↦ absurd (terminals y (contained tokens a y t.0) n)
     | inr c ↦ c
   ]
 
   -- what is below a span of the forest is in the forest
-  pub below_in_forest : (t s : Span) → InForest rules tokens t.symbol t.from t.to → Contains known s → IsBelow rules tokens known t s → InForest rules tokens s.symbol s.from s.to
+  pub below_in_forest : (t s : Span) → InForest rules tokens t.symbol t.from t.to → Contains known s → IsBelow rules tokens known t s
+      → InForest rules tokens s.symbol s.from s.to
   below_in_forest t s f k b =
       let (ends, along, is) = span_part b.rule.right t.from t.to s b.part in
       let n = (whole.fine.within s k).0 in
       part_of (subst (λ z. InForest rules tokens z t.from t.to) (sym b.left) f) b.live along is n
 
   -- a set with the root and all that is below its members has the forest
-  pub forest_in : AreTerminals rules tokens → (reached : List Span) → Contains reached (span START 0 (length tokens)) → ((t : Span) → Contains reached t → t.from ≤ length tokens) → ((t s : Span) → Contains reached t → Contains known s → IsBelow rules tokens known t s → Contains reached s) → (x : SymbolId) (i j : ℕ) → InForest rules tokens x i j → Contains reached (span x i j)
+  pub forest_in : AreTerminals rules tokens → (reached : List Span) → Contains reached (span START 0 (length tokens))
+      → ((t : Span) → Contains reached t → t.from ≤ length tokens)
+      → ((t s : Span) → Contains reached t → Contains known s → IsBelow rules tokens known t s → Contains reached s) → (x : SymbolId) (i j : ℕ)
+      → InForest rules tokens x i j → Contains reached (span x i j)
   forest_in terminals reached first begins closed x i j root = first
   forest_in terminals reached first begins closed x i j (part_of {r = r} {i = a} {j = b} {cuts = cuts} f c along is n) =
       let above = forest_in terminals reached first begins closed r.left a b f in
@@ -227,7 +247,8 @@ pub record AreReaching (rules : List Rule) (tokens : List SymbolId) (known reach
 module _ (rules : List Rule) (tokens : List SymbolId) (known : List Span) (whole : IsWhole rules tokens known) where
   pub reaching_first : AreReaching rules tokens known (span START 0 (length tokens) ∷ []) 0
   reaching_first =
-      let only : (s : Span) → Contains (span START 0 (length tokens) ∷ []) s → span START 0 (length tokens) ≡ s = λ s c. elim (contains_cases (span START 0 (length tokens)) [] s c) [ inl e ↦ e | inr d ↦ absurd (omega (arith, d.1)) ] in
+      let only : (s : Span) → Contains (span START 0 (length tokens) ∷ []) s → span START 0 (length tokens) ≡ s =
+          λ s c. elim (contains_cases (span START 0 (length tokens)) [] s c) [ inl e ↦ e | inr d ↦ absurd (omega (arith, d.1)) ] in
       record {
         within = λ s c. subst (λ (q : Span). InForest rules tokens q.symbol q.from q.to) (only s c) root;
         spans = λ s c. inl (only s c);
@@ -246,13 +267,15 @@ module _ (rules : List Rule) (tokens : List SymbolId) (known : List Span) (whole
 
     pub reaching_bound : length reached ≤ length known + 1
     reaching_bound =
-        let bound : length reached ≤ length (span START 0 (length tokens) ∷ known) = at_most reached (span START 0 (length tokens) ∷ known) inv.distinct (λ s c. elim (inv.spans s c) [
+        let bound : length reached ≤ length (span START 0 (length tokens) ∷ known) = at_most reached (span START 0 (length tokens) ∷ known) inv.distinct
+            (λ s c. elim (inv.spans s c) [
           | inl e ↦ subst (λ q. Contains (span START 0 (length tokens) ∷ known) q) e (contains_here (span START 0 (length tokens)) known)
           | inr k ↦ contains_there (span START 0 (length tokens)) known s k
         ]) in
         omega (arith, bound)
 
-    pub reaching_more : (t : Span) (new : List Span) → slice_get reached at ≡ Some t → Adds known (IsBelow rules tokens known t) reached new → AreReaching rules tokens known new (at + 1)
+    pub reaching_more : (t : Span) (new : List Span) → slice_get reached at ≡ Some t → Adds known (IsBelow rules tokens known t) reached new
+        → AreReaching rules tokens known new (at + 1)
     reaching_more t new get_t a = record {
       within = λ s c. elim (a.within s c) [
         | inl d ↦ inv.within s d
@@ -269,7 +292,8 @@ module _ (rules : List Rule) (tokens : List SymbolId) (known : List Span) (whole
             kept known (IsBelow rules tokens known t) reached new a s (inv.closed k u s below there c b)
         | inr above ↦
             let same : k ≡ at = omega arith in
-            let old : slice_get (reached ++ a.more) at ≡ Some u = subst (λ q. slice_get q at ≡ Some u) a.grown (subst (λ m. slice_get new m ≡ Some u) same get) in
+            let old : slice_get (reached ++ a.more) at ≡ Some u = subst (λ q. slice_get q at ≡ Some u) a.grown
+                (subst (λ m. slice_get new m ≡ Some u) same get) in
             let there = get_prefix reached a.more at u (slice_get_within reached at t get_t) old in
             let one : u ≡ t = some_same u t (sym there ∙ get_t) in
             a.all s c (subst (λ q. IsBelow rules tokens known q s) one b)
@@ -279,18 +303,23 @@ module _ (rules : List Rule) (tokens : List SymbolId) (known : List Span) (whole
     pub reaching_all : AreTerminals rules tokens → length reached ≤ at → AreReached rules tokens reached
     reaching_all terminals end = record {
       within = inv.within;
-      all = forest_in rules tokens known whole terminals reached inv.first (λ t c. (reaching_ends t c).0) (λ t s c k b. inv.closed c.0 t s (omega (arith, c.1)) (at_of reached t c) k b);
+      all = forest_in rules tokens known whole terminals reached inv.first (λ t c. (reaching_ends t c).0) (λ t s c k b. inv.closed c.0 t s (omega (arith, c.1))
+          (at_of reached t c) k b);
     }
 
-part_ends : {rules : List Rule} {tokens : List SymbolId} {xs : List SymbolId} {i : ℕ} {ends : List ℕ} {j : ℕ} {y : SymbolId} {a b : ℕ} → IsPart xs i ends y a b → DerivesAlong rules tokens xs i ends j → (a ≤ b) × (b ≤ j)
+part_ends : {rules : List Rule} {tokens : List SymbolId} {xs : List SymbolId} {i : ℕ} {ends : List ℕ} {j : ℕ} {y : SymbolId} {a b : ℕ} → IsPart xs i ends y a b
+    → DerivesAlong rules tokens xs i ends j → (a ≤ b) × (b ≤ j)
 part_ends here (part d rest) = (Derives-le d, Along-le rest)
 part_ends (later p) (part d rest) = part_ends p rest
 
 -- the spans of the forest lie within the text
-pub forest_ends : {rules : List Rule} {tokens : List SymbolId} {x : SymbolId} {i j : ℕ} → InForest rules tokens x i j → (i ≤ length tokens) × (j ≤ length tokens)
+pub forest_ends : {rules : List Rule} {tokens : List SymbolId} {x : SymbolId} {i j : ℕ} → InForest rules tokens x i j
+    → (i ≤ length tokens) × (j ≤ length tokens)
 forest_ends root = (omega arith, omega arith)
-forest_ends (part_of f c along p n) = let above = forest_ends f in let ends = part_ends p along in (omega (arith, ends.0, ends.1, above.1), omega (arith, ends.1, above.1))
+forest_ends (part_of f c along p n) = let above = forest_ends f in let ends = part_ends p along in
+    (omega (arith, ends.0, ends.1, above.1), omega (arith, ends.1, above.1))
 
 -- another list of the same spans
-pub reached_same : (rules : List Rule) (tokens : List SymbolId) (reached spans : List Span) → AreReached rules tokens reached → ((s : Span) → Contains spans s ↔ Contains reached s) → AreReached rules tokens spans
+pub reached_same : (rules : List Rule) (tokens : List SymbolId) (reached spans : List Span) → AreReached rules tokens reached
+    → ((s : Span) → Contains spans s ↔ Contains reached s) → AreReached rules tokens spans
 reached_same rules tokens reached spans a same = record { within = λ s c. a.within s ((same s).0 c); all = λ x i j f. (same (span x i j)).1 (a.all x i j f) }

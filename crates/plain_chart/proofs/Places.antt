@@ -1,11 +1,13 @@
 -- Places from which something is derived, as bits.
-use Rattle.std.proofs.Common.{◌≡◌, ℕ, zero, suc, ◌+◌, ◌<◌, ◌≤◌, ◌↔◌, inl, inr, List, [], ◌∷◌, length, get_or, replicate, set, sym, ◌∙◌, ap, subst, arith, Bool, true, false, IsTrue, slice_get, Some}
+use Rattle.std.proofs.Common.{◌≡◌, ℕ, zero, suc, ◌+◌, ◌<◌, ◌≤◌, ◌↔◌, inl, inr, List, [], ◌∷◌, length, get_or, replicate, set, sym, ◌∙◌, ap, subst, arith, Bool}
+use Rattle.std.proofs.Common.{true, false, IsTrue, slice_get, Some}
 use Rattle.std.proofs.lemmas.Bool.{cases_lt}
 use Rattle.std.proofs.lemmas.List.{length-replicate, get_or-replicate}
 use Rattle.forest.specs.declared.symbols.SymbolId.{SymbolId}
 use Rattle.plain_chart.specs.declared.spans.Span.{Span}
-use Rattle.plain_chart.specs.Known.{AreSources, LeadsTo, AreLeads}
+use Rattle.plain_chart.specs.Known.{AreSources, ReachesAhead, AreLeads}
 use Rattle.plain_chart.proofs.TableLemmas.{some_same, read_is, get_set, set_here, set_there, not_set}
+use Rattle.plain_chart.specs.declared.limits.TheConstants.{PLACES}
 
 -- one bit is set
 pub one_set : (n to i : ℕ) → to < n → (slice_get (set (replicate n false) to true) i ≡ Some true) ↔ (i ≡ to)
@@ -19,7 +21,8 @@ pub none_set : (n i : ℕ) → i < n → slice_get (replicate n false) i ≡ Som
 none_set n i l = read_is (replicate n false) i false (sym (get_or-replicate n i false false l)) (omega (arith, length-replicate n false))
 
 -- one more bit tells a fact
-pub bits_more : (P : ℕ → Type 0) (places : List Bool) (n : ℕ) (b : Bool) → n < length places → ((i : ℕ) → i < n → (slice_get places i ≡ Some true) ↔ P i) → (IsTrue b ↔ P n) → (i : ℕ) → i < n + 1 → (slice_get (set places n b) i ≡ Some true) ↔ P i
+pub bits_more : (P : ℕ → Type 0) (places : List Bool) (n : ℕ) (b : Bool) → n < length places → ((i : ℕ) → i < n → (slice_get places i ≡ Some true) ↔ P i)
+    → (IsTrue b ↔ P n) → (i : ℕ) → i < n + 1 → (slice_get (set places n b) i ≡ Some true) ↔ P i
 bits_more P places n b within below here i l = elim (cases_lt i n) [
   | inl less ↦ (
     λ e. elim (get_set places n b i true e) [ inl f ↦ absurd (omega (arith, f.0)) | inr f ↦ (below i less).0 f.1 ],
@@ -33,12 +36,15 @@ bits_more P places n b within below here i l = elim (cases_lt i n) [
       )
 ]
 
-pub clear_more : (places : List Bool) (n : ℕ) (b : Bool) → ((i : ℕ) → n ≤ i → i < 65 → slice_get places i ≡ Some false) → (i : ℕ) → n + 1 ≤ i → i < 65 → slice_get (set places n b) i ≡ Some false
+pub clear_more : (places : List Bool) (n : ℕ) (b : Bool) → ((i : ℕ) → n ≤ i → i < PLACES → slice_get places i ≡ Some false) → (i : ℕ) → n + 1 ≤ i → i < PLACES
+    → slice_get (set places n b) i ≡ Some false
 clear_more places n b above i l k = set_there places n b i false (λ f. omega (arith, f)) (above i (omega arith) k)
 
 module _ (tokens : List SymbolId) (known : List Span) where
   -- all places up to an end
-  pub leads_all : (x : SymbolId) (ahead : List Bool) (j n : ℕ) (places : List Bool) → j < n → ((i : ℕ) → i < n → (slice_get places i ≡ Some true) ↔ LeadsTo tokens known x i ahead j) → ((i : ℕ) → n ≤ i → i < 65 → slice_get places i ≡ Some false) → AreLeads tokens known x ahead j places
+  pub leads_all : (x : SymbolId) (ahead : List Bool) (j n : ℕ) (places : List Bool) → j < n
+      → ((i : ℕ) → i < n → (slice_get places i ≡ Some true) ↔ ReachesAhead tokens known x i ahead j)
+      → ((i : ℕ) → n ≤ i → i < PLACES → slice_get places i ≡ Some false) → AreLeads tokens known x ahead j places
   leads_all x ahead j n places l below above i k = elim (cases_lt i n) [
     | inl less ↦ below i less
     | inr more ↦ (
@@ -47,10 +53,11 @@ module _ (tokens : List SymbolId) (known : List Span) where
     )
   ]
 
-  pub sources_none : (j : ℕ) (places : List Bool) → ((i : ℕ) → i < 65 → (slice_get places i ≡ Some true) ↔ (i ≡ j)) → AreSources tokens known [] j places
+  pub sources_none : (j : ℕ) (places : List Bool) → ((i : ℕ) → i < PLACES → (slice_get places i ≡ Some true) ↔ (i ≡ j)) → AreSources tokens known [] j places
   sources_none j places f = f
 
-  pub sources_more : (x : SymbolId) (xs : List SymbolId) (j : ℕ) (ahead places : List Bool) → j < 65 → AreSources tokens known xs j ahead → AreLeads tokens known x ahead j places → AreSources tokens known (x ∷ xs) j places
+  pub sources_more : (x : SymbolId) (xs : List SymbolId) (j : ℕ) (ahead places : List Bool) → j < PLACES → AreSources tokens known xs j ahead
+      → AreLeads tokens known x ahead j places → AreSources tokens known (x ∷ xs) j places
   sources_more x xs j ahead places l rest first i k = (
     λ e. let (m, lo, hi, kn, open_) = (first i k).0 e in (m, lo, hi, kn, (rest m (omega arith)).0 open_),
     λ (m, lo, hi, kn, more). (first i k).1 (m, lo, hi, kn, (rest m (omega arith)).1 more),

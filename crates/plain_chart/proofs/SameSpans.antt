@@ -10,7 +10,8 @@ abbrev pub span_eq : Span → Span → Bool
 span_eq = eq_of_both (on (λ a. a.from) nat_eq) (eq_of_both (on (λ a. a.to) nat_eq) (on (λ a. a.symbol.0) nat_eq))
 
 pub span_equiv : IsEquivalence span_eq
-span_equiv = and_equiv (on_equiv (λ (a : Span). a.from) nat_eq_equiv) (and_equiv (on_equiv (λ (a : Span). a.to) nat_eq_equiv) (on_equiv (λ (a : Span). a.symbol.0) nat_eq_equiv))
+span_equiv = and_equiv (on_equiv (λ (a : Span). a.from) nat_eq_equiv) (and_equiv (on_equiv (λ (a : Span). a.to) nat_eq_equiv)
+    (on_equiv (λ (a : Span). a.symbol.0) nat_eq_equiv))
 
 pub same_spans : (a b : Span) → span_eq a b ≡ true → a ≡ b
 same_spans a b e =

@@ -1,5 +1,6 @@
 -- The splits of a span, rule after rule.
-use Rattle.std.proofs.Common.{◌≡◌, ℕ, ◌+◌, ◌<◌, ◌≤◌, inl, inr, List, [], ◌∷◌, ◌++◌, length, map, get_or, refl, sym, ◌∙◌, ap, subst, arith, Contains, slice_get, Some}
+use Rattle.std.proofs.Common.{◌≡◌, ℕ, ◌+◌, ◌<◌, ◌≤◌, inl, inr, List, [], ◌∷◌, ◌++◌, length, map, get_or, refl, sym, ◌∙◌, ap, subst, arith, Contains, slice_get}
+use Rattle.std.proofs.Common.{Some}
 use Rattle.std.proofs.lemmas.Bool.{cases_lt}
 use Rattle.std.proofs.lemmas.Map.Keys.{Less-from_sorted}
 use Rattle.std.proofs.lemmas.List.Elements.{Contains-append_cases, Contains-append_left, Contains-append_right}
@@ -19,7 +20,7 @@ use Rattle.forest.proofs.Ascending.{contains_cases, contains_there, contains_her
 use Rattle.forest.proofs.Derivations.{Derives-le, Derives-within, Along-le}
 use Rattle.plain_chart.specs.declared.spans.Span.{Span}
 use Rattle.plain_chart.specs.Known.{IsWhole}
-use Rattle.plain_chart.specs.Cuts.{AreCuts, AreAllCuts, AreSplits, split_of}
+use Rattle.plain_chart.specs.Cuts.{AreKnownCuts, AreAllCuts, AreSplits, split_of}
 use Rattle.plain_chart.proofs.Fine.{known_derived}
 use Rattle.plain_chart.proofs.CutLists.{nat_cmp-refl, sorted_append}
 
@@ -50,7 +51,8 @@ map_has f (z ∷ xs) x c = elim (contains_cases z xs x c) [
 same_rule : (r : Rule) (a b : List ℕ) → split_cmp (split_of r a) (split_of r b) ≡ slice_cmp nat_cmp a b
 same_rule r a b = ap (λ o. ordering_then o (slice_cmp nat_cmp a b)) (nat_cmp-refl r.number.0)
 
-each_split : (r : Rule) (a : List ℕ) (cuts : List (List ℕ)) → AllByRecursion (λ b. slice_cmp nat_cmp a b ≡ Less) cuts → AllByRecursion (λ s. split_cmp (split_of r a) s ≡ Less) (map (split_of r) cuts)
+each_split : (r : Rule) (a : List ℕ) (cuts : List (List ℕ)) → AllByRecursion (λ b. slice_cmp nat_cmp a b ≡ Less) cuts
+    → AllByRecursion (λ s. split_cmp (split_of r a) s ≡ Less) (map (split_of r) cuts)
 each_split r a [] e = tt
 each_split r a (b ∷ cuts) e = (same_rule r a b ∙ e.0, each_split r a cuts e.1)
 
@@ -60,7 +62,8 @@ sorted_splits r [] s = tt
 sorted_splits r (a ∷ cuts) s = (each_split r a cuts s.0, sorted_splits r cuts s.1)
 
 -- rules in order
-number_less : (rules : List Rule) (k n : ℕ) (q r : Rule) → IsStrictlySortedBy rule_cmp rules → slice_get rules k ≡ Some q → slice_get rules n ≡ Some r → k < n → nat_cmp q.number.0 r.number.0 ≡ Less
+number_less : (rules : List Rule) (k n : ℕ) (q r : Rule) → IsStrictlySortedBy rule_cmp rules → slice_get rules k ≡ Some q → slice_get rules n ≡ Some r → k < n
+    → nat_cmp q.number.0 r.number.0 ≡ Less
 number_less rules k n q r sorted at_k at_n l =
     let first : get_or rules k q ≡ q = get_contained rules k q at_k in
     let second : get_or rules n q ≡ r = sym (unwrap_or-slice_get rules n q) ∙ ap (λ o. unwrap_or o q) at_n in
@@ -70,14 +73,17 @@ number_less rules k n q r sorted at_k at_n l =
 -- the splits of the first n rules
 pub record AreFirst (rules : List Rule) (tokens : List SymbolId) (known : List Span) (s : Span) (n : ℕ) (found : List Split) : Type 0 where
   pub order : IsStrictlySortedBy split_cmp found
-  pub within : (split : Split) → Contains found split → (k : ℕ) × (r : Rule) × (cuts : List ℕ) × (k < n) × (slice_get rules k ≡ Some r) × (r.left ≡ s.symbol) × (split ≡ split_of r cuts) × AreCuts tokens known r.right s.from s.to cuts
-  pub all : (k : ℕ) (r : Rule) (cuts : List ℕ) → k < n → slice_get rules k ≡ Some r → r.left ≡ s.symbol → AreCuts tokens known r.right s.from s.to cuts → Contains found (split_of r cuts)
+  pub within : (split : Split) → Contains found split → (k : ℕ) × (r : Rule) × (cuts : List ℕ) × (k < n) × (slice_get rules k ≡ Some r) × (r.left ≡ s.symbol) ×
+      (split ≡ split_of r cuts) × AreKnownCuts tokens known r.right s.from s.to cuts
+  pub all : (k : ℕ) (r : Rule) (cuts : List ℕ) → k < n → slice_get rules k ≡ Some r → r.left ≡ s.symbol → AreKnownCuts tokens known r.right s.from s.to cuts
+      → Contains found (split_of r cuts)
 
 pub first_none : (rules : List Rule) (tokens : List SymbolId) (known : List Span) (s : Span) → AreFirst rules tokens known s 0 []
 unfolding IsStrictlySortedBy
 first_none rules tokens known s = record { order = tt; within = λ split c. absurd (omega (arith, c.1)); all = λ k r cuts l. absurd (omega arith) }
 
-module _ (rules : List Rule) (tokens : List SymbolId) (known : List Span) (s : Span) (n : ℕ) (found : List Split) (first : AreFirst rules tokens known s n found) (r : Rule) (at_n : slice_get rules n ≡ Some r) where
+module _ (rules : List Rule) (tokens : List SymbolId) (known : List Span) (s : Span) (n : ℕ) (found : List Split)
+    (first : AreFirst rules tokens known s n found) (r : Rule) (at_n : slice_get rules n ≡ Some r) where
   -- the rule at n, where it is read again
   same_at : (k : ℕ) (q : Rule) → n ≤ k → k < n + 1 → slice_get rules k ≡ Some q → r ≡ q
   same_at k q lo hi e =
@@ -95,7 +101,8 @@ module _ (rules : List Rule) (tokens : List SymbolId) (known : List Span) (s : S
     ];
   }
 
-  pub first_more : IsStrictlySortedBy rule_cmp rules → r.left ≡ s.symbol → (cuts : List (List ℕ)) → AreAllCuts tokens known r.right s.from s.to cuts → AreFirst rules tokens known s (n + 1) (found ++ map (split_of r) cuts)
+  pub first_more : IsStrictlySortedBy rule_cmp rules → r.left ≡ s.symbol → (cuts : List (List ℕ)) → AreAllCuts tokens known r.right s.from s.to cuts
+      → AreFirst rules tokens known s (n + 1) (found ++ map (split_of r) cuts)
   first_more sorted left cuts exact = record {
     order = sorted_append split_cmp found (map (split_of r) cuts) first.order (sorted_splits r cuts exact.order) (λ a b c d.
         let w = first.within a c in
@@ -111,33 +118,39 @@ module _ (rules : List Rule) (tokens : List SymbolId) (known : List Span) (s : S
       | inl below ↦ Contains-append_left found (map (split_of r) cuts) (split_of q p) (first.all k q p below e other c)
       | inr above ↦
           let same : r ≡ q = same_at k q above l e in
-          let here : AreCuts tokens known r.right s.from s.to p = subst (λ (z : Rule). AreCuts tokens known z.right s.from s.to p) (sym same) c in
-          subst (λ (z : Rule). Contains (found ++ map (split_of r) cuts) (split_of z p)) same (Contains-append_right found (map (split_of r) cuts) (split_of r p) (map_has (split_of r) cuts p (exact.all p here)))
+          let here : AreKnownCuts tokens known r.right s.from s.to p = subst (λ (z : Rule). AreKnownCuts tokens known z.right s.from s.to p) (sym same) c in
+          subst (λ (z : Rule). Contains (found ++ map (split_of r) cuts) (split_of z p)) same (Contains-append_right found (map (split_of r) cuts)
+              (split_of r p) (map_has (split_of r) cuts p (exact.all p here)))
     ];
   }
 
 module _ (rules : List Rule) (tokens : List SymbolId) (known : List Span) (whole : IsWhole rules tokens known) where
-  cuts_along : (xs : List SymbolId) (i j : ℕ) (cuts : List ℕ) → AreCuts tokens known xs i j cuts → (ends : List ℕ) × (cuts ≡ i ∷ ends) × DerivesAlong rules tokens xs i ends j
+  cuts_along : (xs : List SymbolId) (i j : ℕ) (cuts : List ℕ) → AreKnownCuts tokens known xs i j cuts
+      → (ends : List ℕ) × (cuts ≡ i ∷ ends) × DerivesAlong rules tokens xs i ends j
   cuts_along [] i j cuts c = ([], c.1, subst (λ k. DerivesAlong rules tokens [] i [] k) c.0 done)
   cuts_along (x ∷ xs) i j cuts c =
       let (ends, e, along) = cuts_along xs c.0 j c.1 c.6 in
       (c.1, c.4, subst (λ q. DerivesAlong rules tokens (x ∷ xs) i q j) (sym e) (part (known_derived rules tokens known whole.fine.derived x i c.0 c.5) along))
 
-  along_cuts : (xs : List SymbolId) (i : ℕ) (ends : List ℕ) (j : ℕ) → DerivesAlong rules tokens xs i ends j → i ≤ length tokens → AreCuts tokens known xs i j (i ∷ ends)
+  along_cuts : (xs : List SymbolId) (i : ℕ) (ends : List ℕ) (j : ℕ) → DerivesAlong rules tokens xs i ends j → i ≤ length tokens
+      → AreKnownCuts tokens known xs i j (i ∷ ends)
   along_cuts xs i ends j done h = (refl, refl)
   along_cuts xs i ends j (part {x = x} {xs = ys} {k = k} {cuts = rest} d a) h =
       (k, k ∷ rest, Derives-le d, Along-le a, refl, whole.all x i k d h, along_cuts ys k rest j a (Derives-within d h))
 
-  pub first_all : (s : Span) (n : ℕ) (found : List Split) → s.from ≤ length tokens → length rules ≤ n → AreFirst rules tokens known s n found → AreSplits rules tokens s found
+  pub first_all : (s : Span) (n : ℕ) (found : List Split) → s.from ≤ length tokens → length rules ≤ n → AreFirst rules tokens known s n found
+      → AreSplits rules tokens s found
   first_all s n found begins end first = record {
     order = first.order;
     within = λ split c.
         let w = first.within split c in
         let (ends, e, along) = cuts_along w.1.right s.from s.to w.2 w.7 in
-        record { rule = w.1; live = contained rules w.0 w.1 w.4; number = ap (λ (z : Split). z.rule) (sym w.6); left = w.5; ends = ends; cuts = ap (λ (z : Split). z.cuts) w.6 ∙ e; along = along };
+        record { rule = w.1; live = contained rules w.0 w.1 w.4; number = ap (λ (z : Split). z.rule) (sym w.6); left = w.5; ends = ends; cuts =
+            ap (λ (z : Split). z.cuts) w.6 ∙ e; along = along };
     all = λ split is.
         let cuts = along_cuts is.rule.right s.from is.ends s.to is.along begins in
         let there = first.all is.live.0 is.rule (s.from ∷ is.ends) (omega (arith, is.live.1)) (at_of rules is.rule is.live) is.left cuts in
-        let same : split_of is.rule (s.from ∷ is.ends) ≡ split = ap (λ z. let p : Split = record { rule = z; cuts = s.from ∷ is.ends } in p) is.number ∙ ap (λ z. let p : Split = record { rule = split.rule; cuts = z } in p) (sym is.cuts) in
+        let same : split_of is.rule (s.from ∷ is.ends) ≡ split = ap (λ z. let p : Split = record { rule = z; cuts = s.from ∷ is.ends } in p) is.number ∙ ap
+            (λ z. let p : Split = record { rule = split.rule; cuts = z } in p) (sym is.cuts) in
         subst (λ z. Contains found z) same there;
   }

@@ -32,7 +32,8 @@ unfolding starts
 starts_has x zero n i j l k = absurd (omega arith)
 starts_has x (suc m) n i j l k = elim (cases_lt i m) [
   | inl below ↦ Contains-append_right (ends x m n) (starts x m n) (span x i j) (starts_has x m n i j below k)
-  | inr above ↦ let same : m ≡ i = omega arith in subst (λ z. Contains (ends x m n ++ starts x m n) (span x z j)) same (Contains-append_left (ends x m n) (starts x m n) (span x m j) (ends_has x m n j k))
+  | inr above ↦ let same : m ≡ i = omega arith in subst (λ z. Contains (ends x m n ++ starts x m n) (span x z j)) same
+      (Contains-append_left (ends x m n) (starts x m n) (span x m j) (ends_has x m n j k))
 ]
 
 pub universe : List Rule → ℕ → List Span
@@ -43,12 +44,15 @@ universe_has : (rules : List Rule) (n : ℕ) (r : Rule) (i j : ℕ) → Contains
 unfolding universe
 universe_has [] n r i j c l k = absurd (omega (arith, c.1))
 universe_has (q ∷ rs) n r i j c l k = elim (contains_cases q rs r c) [
-  | inl e ↦ subst (λ (p : Rule). Contains (starts q.left n n ++ universe rs n) (span p.left i j)) e (Contains-append_left (starts q.left n n) (universe rs n) (span q.left i j) (starts_has q.left n n i j l k))
+  | inl e ↦ subst (λ (p : Rule). Contains (starts q.left n n ++ universe rs n) (span p.left i j)) e (Contains-append_left (starts q.left n n) (universe rs n)
+      (span q.left i j) (starts_has q.left n n i j l k))
   | inr d ↦ Contains-append_right (starts q.left n n) (universe rs n) (span r.left i j) (universe_has rs n r i j d l k)
 ]
 
 -- fine spans are at most all spans
-pub known_at_most : (rules : List Rule) (tokens : List SymbolId) (known : List Span) → AreFine rules tokens known → length known ≤ length (universe rules (length tokens + 1))
+pub known_at_most : (rules : List Rule) (tokens : List SymbolId) (known : List Span) → AreFine rules tokens known
+    → length known ≤ length (universe rules (length tokens + 1))
 known_at_most rules tokens known f = at_most known (universe rules (length tokens + 1)) f.distinct (λ s c.
     let w = f.within s c in
-    subst (λ x. Contains (universe rules (length tokens + 1)) (span x s.from s.to)) w.0.2 (universe_has rules (length tokens + 1) w.0.0 s.from s.to w.0.1 (omega (arith, w.1)) (omega (arith, w.2))))
+    subst (λ x. Contains (universe rules (length tokens + 1)) (span x s.from s.to)) w.0.2 (universe_has rules (length tokens + 1) w.0.0 s.from s.to w.0.1
+        (omega (arith, w.1)) (omega (arith, w.2))))

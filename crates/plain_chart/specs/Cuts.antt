@@ -12,15 +12,16 @@ use Rattle.plain_chart.specs.declared.spans.Span.{Span}
 use Rattle.plain_chart.specs.Known.{IsKnown}
 
 -- the cuts are those of the symbols from i to j, all parts known
-abbrev pub AreCuts : List SymbolId → List Span → List SymbolId → ℕ → ℕ → List ℕ → Type 0
-AreCuts tokens known [] i j cuts = (i ≡ j) × (cuts ≡ i ∷ [])
-AreCuts tokens known (x ∷ xs) i j cuts = (k : ℕ) × (rest : List ℕ) × (i ≤ k) × (k ≤ j) × (cuts ≡ i ∷ rest) × IsKnown tokens known x i k × AreCuts tokens known xs k j rest
+abbrev pub AreKnownCuts : List SymbolId → List Span → List SymbolId → ℕ → ℕ → List ℕ → Type 0
+AreKnownCuts tokens known [] i j cuts = (i ≡ j) × (cuts ≡ i ∷ [])
+AreKnownCuts tokens known (x ∷ xs) i j cuts = (k : ℕ) × (rest : List ℕ) × (i ≤ k) × (k ≤ j) × (cuts ≡ i ∷ rest) × IsKnown tokens known x i k
+    × AreKnownCuts tokens known xs k j rest
 
 -- the list has exactly these cuts, in strictly ascending order
 pub record AreAllCuts (tokens : List SymbolId) (known : List Span) (xs : List SymbolId) (i j : ℕ) (found : List (List ℕ)) : Type 0 where
   pub order : IsStrictlySortedBy (slice_cmp nat_cmp) found
-  pub within : (cuts : List ℕ) → Contains found cuts → AreCuts tokens known xs i j cuts
-  pub all : (cuts : List ℕ) → AreCuts tokens known xs i j cuts → Contains found cuts
+  pub within : (cuts : List ℕ) → Contains found cuts → AreKnownCuts tokens known xs i j cuts
+  pub all : (cuts : List ℕ) → AreKnownCuts tokens known xs i j cuts → Contains found cuts
 
 -- the splits are those of the rules for the span, in strictly ascending order
 pub record AreSplits (rules : List Rule) (tokens : List SymbolId) (s : Span) (found : List Split) : Type 0 where

@@ -6,6 +6,7 @@ use Rattle.forest.specs.Derivation.{Derives, IsNonterminal}
 use Rattle.forest.specs.Distinct.{IsDistinct}
 use Rattle.plain_chart.specs.declared.spans.Span.{Span}
 use Rattle.plain_chart.specs.Span.{span}
+use Rattle.plain_chart.specs.declared.limits.TheConstants.{PLACES}
 
 -- x is known to derive the tokens from i to j
 abbrev pub IsKnown : List SymbolId → List Span → SymbolId → ℕ → ℕ → Type 0
@@ -18,15 +19,15 @@ AreKnown tokens known (x ∷ xs) i j = (k : ℕ) × (i ≤ k) × (k ≤ j) × Is
 
 -- the places are those from which the symbols are known to derive the tokens up to j
 abbrev pub AreSources : List SymbolId → List Span → List SymbolId → ℕ → List Bool → Type 0
-AreSources tokens known xs j places = (i : ℕ) → i < 65 → (slice_get places i ≡ Some true) ↔ AreKnown tokens known xs i j
+AreSources tokens known xs j places = (i : ℕ) → i < PLACES → (slice_get places i ≡ Some true) ↔ AreKnown tokens known xs i j
 
 -- x is known to derive the tokens from i to a place up to j that is among those ahead
-abbrev pub LeadsTo : List SymbolId → List Span → SymbolId → ℕ → List Bool → ℕ → Type 0
-LeadsTo tokens known x i ahead j = (k : ℕ) × (i ≤ k) × (k ≤ j) × IsKnown tokens known x i k × (slice_get ahead k ≡ Some true)
+abbrev pub ReachesAhead : List SymbolId → List Span → SymbolId → ℕ → List Bool → ℕ → Type 0
+ReachesAhead tokens known x i ahead j = (k : ℕ) × (i ≤ k) × (k ≤ j) × IsKnown tokens known x i k × (slice_get ahead k ≡ Some true)
 
 -- the places are those from which x leads to one of those ahead
 abbrev pub AreLeads : List SymbolId → List Span → SymbolId → List Bool → ℕ → List Bool → Type 0
-AreLeads tokens known x ahead j places = (i : ℕ) → i < 65 → (slice_get places i ≡ Some true) ↔ LeadsTo tokens known x i ahead j
+AreLeads tokens known x ahead j places = (i : ℕ) → i < PLACES → (slice_get places i ≡ Some true) ↔ ReachesAhead tokens known x i ahead j
 
 -- each known span is derived by a rule
 abbrev pub AreDerived : List Rule → List SymbolId → List Span → Type 0

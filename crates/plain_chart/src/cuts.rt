@@ -2,6 +2,7 @@
 ghost use Rattle.std.specs.Prelude.{◌≡◌, ◌+◌, ◌<◌, ◌≤◌, [], ◌∷◌, ◌++◌, map, IfOk, OnOk, length};
 ghost use Rattle.plain_chart.specs.Cuts.{AreAllCuts, AreSplits, AddsSplits};
 ghost use Rattle.plain_chart.specs.Known.{IsWhole};
+ghost use Rattle.plain_chart.specs.declared.limits.TheConstants.{PLACES};
 
 use crate::derive::{is_known, sources};
 use crate::spans::{Span, Spans, is_same};
@@ -62,9 +63,9 @@ fn cuts_of(
     from: u32,
     to: u32,
 ) -> Result<Vec<Cuts>, AllocError>
-    requires few { length tokens.now < 65 }
-    requires begins { from < 65 }
-    requires ends { to < 65 }
+    requires few { length tokens.now < PLACES }
+    requires begins { from < PLACES }
+    requires ends { to < PLACES }
     ensures { IfOk result (λ v. AreAllCuts tokens.now known.now right.now from to v.items) }
 {
     match right {
@@ -92,9 +93,9 @@ fn add_splits(
     rule: &Rule,
     span: Span,
 ) -> Result<(), AllocError>
-    requires few { length tokens.now < 65 }
-    requires begins { span.from < 65 }
-    requires ends { span.to < 65 }
+    requires few { length tokens.now < PLACES }
+    requires begins { span.from < PLACES }
+    requires ends { span.to < PLACES }
     ensures { OnOk result (AddsSplits tokens.now known.now rule.now span found.old.items found.new.items) }
 {
     let cuts = cuts_of(
@@ -122,7 +123,7 @@ pub fn splits_of(
     tokens: &[SymbolId],
     span: Span,
 ) -> Result<Vec<Split>, AllocError>
-    requires few { length tokens.now < 65 }
+    requires few { length tokens.now < PLACES }
     requires whole { IsWhole rules.now.rules tokens.now known.now }
     requires within { (span.from ≤ length tokens.now) × (span.to ≤ length tokens.now) }
     ensures { IfOk result (λ v. AreSplits rules.now.rules tokens.now span v.items) }

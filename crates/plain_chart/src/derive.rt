@@ -2,15 +2,17 @@
 ghost use Rattle.std.specs.Prelude.{◌≡◌, ℕ, ◌+◌, ◌<◌, ◌≤◌, ◌↔◌, IsTrue, IsFalse, length, IfOk, Contains, slice_get, Some, true};
 ghost use Rattle.forest.specs.declared.symbols.SymbolId.{SymbolId};
 ghost use Rattle.forest.specs.declared.rules.Rule.{Rule};
-ghost use Rattle.plain_chart.specs.Known.{IsKnown, AreKnown, AreFine, AreSettled, Grows, IsSettled, IsWhole, LeadsTo, AreLeads, AreSources};
+ghost use Rattle.plain_chart.specs.Known.{IsKnown, AreKnown, AreFine, AreSettled, Grows, IsSettled, IsWhole, ReachesAhead, AreLeads, AreSources};
+ghost use Rattle.plain_chart.specs.declared.limits.TheConstants.{PLACES};
 
-use crate::spans::{PLACES, Spans, is_same};
+use crate::limits::PLACES;
+use crate::spans::{Spans, is_same};
 use forest::{Rule, SymbolId};
 use std::alloc::{AllocError, Global};
 
 /// Whether the span is that of a token.
 fn is_token(tokens: &[SymbolId], symbol: SymbolId, from: u32, to: u32) -> bool
-    requires { length tokens.now < 65 }
+    requires { length tokens.now < PLACES }
     ensures { IsTrue result ↔ ((slice_get tokens.now from ≡ Some symbol) × (to ≡ from + 1)) }
 {
     match tokens.get(from as usize) {
@@ -21,9 +23,9 @@ fn is_token(tokens: &[SymbolId], symbol: SymbolId, from: u32, to: u32) -> bool
 
 /// Whether the span is that of a token, or is among those that are known.
 pub fn is_known(known: &Spans, tokens: &[SymbolId], symbol: SymbolId, from: u32, to: u32) -> bool
-    requires few { length tokens.now < 65 }
-    requires begins { from < 65 }
-    requires ends { to < 65 }
+    requires few { length tokens.now < PLACES }
+    requires begins { from < PLACES }
+    requires ends { to < PLACES }
     ensures { IsTrue result ↔ IsKnown tokens.now known.now symbol from to }
 {
     is_token(tokens, symbol, from, to) || known.has(symbol, from, to)
@@ -38,10 +40,10 @@ fn leads(
     ahead: &[bool; PLACES],
     to: u32,
 ) -> bool
-    requires few { length tokens.now < 65 }
-    requires begins { from < 65 }
-    requires ends { to < 65 }
-    ensures { IsTrue result ↔ LeadsTo tokens.now known.now symbol from ahead.now to }
+    requires few { length tokens.now < PLACES }
+    requires begins { from < PLACES }
+    requires ends { to < PLACES }
+    ensures { IsTrue result ↔ ReachesAhead tokens.now known.now symbol from ahead.now to }
 {
     for middle in from..to + 1 {
         if ahead[middle as usize] && is_known(known, tokens, symbol, from, middle) {
@@ -59,8 +61,8 @@ fn places_before(
     ahead: &[bool; PLACES],
     to: u32,
 ) -> [bool; PLACES]
-    requires few { length tokens.now < 65 }
-    requires ends { to < 65 }
+    requires few { length tokens.now < PLACES }
+    requires ends { to < PLACES }
     ensures { AreLeads tokens.now known.now symbol ahead.now to result }
 {
     let mut places = [false; PLACES];
@@ -72,8 +74,8 @@ fn places_before(
 
 /// This place alone.
 fn one_place(to: u32) -> [bool; PLACES]
-    requires { to < 65 }
-    ensures { (i : ℕ) → i < 65 → (slice_get result i ≡ Some true) ↔ (i ≡ to) }
+    requires { to < PLACES }
+    ensures { (i : ℕ) → i < PLACES → (slice_get result i ≡ Some true) ↔ (i ≡ to) }
 {
     let mut places = [false; PLACES];
     places[to as usize] = true;
@@ -82,8 +84,8 @@ fn one_place(to: u32) -> [bool; PLACES]
 
 /// The places from which the symbols, one after the other, are known to derive the tokens up to `to`.
 pub fn sources(known: &Spans, tokens: &[SymbolId], right: &[SymbolId], to: u32) -> [bool; PLACES]
-    requires few { length tokens.now < 65 }
-    requires ends { to < 65 }
+    requires few { length tokens.now < PLACES }
+    requires ends { to < PLACES }
     ensures { AreSources tokens.now known.now right.now to result }
 {
     match right {
@@ -105,7 +107,7 @@ fn settle(
     tokens: &[SymbolId],
     to: u32,
 ) -> Result<bool, AllocError>
-    requires few { length tokens.now < 65 }
+    requires few { length tokens.now < PLACES }
     requires at { at < length rules.now }
     requires ends { to ≤ length tokens.now }
     requires fine { AreFine rules.now tokens.now known.old }
@@ -132,7 +134,7 @@ fn settle_rule(
     at: usize,
     tokens: &[SymbolId],
 ) -> Result<bool, AllocError>
-    requires few { length tokens.now < 65 }
+    requires few { length tokens.now < PLACES }
     requires at { at < length rules.now }
     requires fine { AreFine rules.now tokens.now known.old }
     ensures grows { IfOk result (λ yes. Grows rules.now tokens.now known.old known.new yes) }
@@ -152,7 +154,7 @@ fn round(
     rules: &[Rule],
     tokens: &[SymbolId],
 ) -> Result<bool, AllocError>
-    requires few { length tokens.now < 65 }
+    requires few { length tokens.now < PLACES }
     requires fine { AreFine rules.now tokens.now known.old }
     ensures grows { IfOk result (λ yes. Grows rules.now tokens.now known.old known.new yes) }
     ensures settled { IfOk result (λ yes. IsFalse yes → AreSettled rules.now tokens.now known.new) }
@@ -170,7 +172,7 @@ pub fn derived_spans(
     rules: &[Rule],
     tokens: &[SymbolId],
 ) -> Result<Spans, AllocError>
-    requires { length tokens.now < 65 }
+    requires { length tokens.now < PLACES }
     ensures { IfOk result (IsWhole rules.now tokens.now) }
 {
     let mut known = Spans::new(alloc);

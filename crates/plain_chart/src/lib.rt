@@ -8,21 +8,22 @@
 ghost use Rattle.std.specs.Prelude.{◌≡◌, ◌<◌, ◌↔◌, ℕ, IsTrue, IfOk, IfSome, IfNone, length, Result, Err};
 ghost use Rattle.forest.specs.Derivation.{IsSentence, IsNonterminal, AreTerminals};
 ghost use Rattle.forest.specs.Forests.{IsForestOf};
+ghost use Rattle.plain_chart.specs.declared.limits.TheConstants.{MOST_TOKENS, PLACES};
 
 mod cuts;
 mod derive;
+mod limits;
 mod nodes;
 mod reach;
 mod spans;
+
+pub use crate::limits::{MOST_TOKENS, limits_of_charts};
 
 use crate::derive::{derived_spans, is_known};
 use crate::nodes::forest_of;
 use crate::spans::is_same;
 use forest::{Forest, Rule, Rules, START, SymbolId};
 use std::alloc::{AllocError, Global};
-
-/// The most tokens that a chart takes.
-pub const MOST_TOKENS: usize = 64;
 
 /// Why there is no answer.
 #[derive(Clone, Copy, PartialEq, Eq, Debug)]
@@ -66,7 +67,7 @@ pub fn chart(
     requires terminals { AreTerminals rules.now.rules tokens.now }
     ensures forest { IfOk result (λ answer. IfSome answer (IsForestOf rules.now.rules tokens.now)) }
     ensures none { IfOk result (λ answer. IfNone answer (IsSentence rules.now.rules tokens.now → ⊥)) }
-    ensures too_large { (count : ℕ) → (result ≡ Err (ChartError.TooLarge count)) ↔ ((64 < length tokens.now) × (count ≡ length tokens.now)) }
+    ensures too_large { (count : ℕ) → (result ≡ Err (ChartError.TooLarge count)) ↔ ((MOST_TOKENS < length tokens.now) × (count ≡ length tokens.now)) }
 {
     if tokens.len() > MOST_TOKENS {
         return Err(ChartError::TooLarge {
@@ -85,7 +86,7 @@ fn small_chart(
     rules: &Rules,
     tokens: &[SymbolId],
 ) -> Result<Option<Forest>, AllocError>
-    requires few { length tokens.now < 65 }
+    requires few { length tokens.now < PLACES }
     requires terminals { AreTerminals rules.now.rules tokens.now }
     ensures forest { IfOk result (λ answer. IfSome answer (IsForestOf rules.now.rules tokens.now)) }
     ensures none { IfOk result (λ answer. IfNone answer (IsSentence rules.now.rules tokens.now → ⊥)) }

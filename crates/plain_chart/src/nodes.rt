@@ -6,6 +6,7 @@ ghost use Rattle.forest.specs.Forests.{IsForestOf};
 ghost use Rattle.plain_chart.specs.declared.spans.Span.{Span};
 ghost use Rattle.plain_chart.specs.Known.{IsWhole};
 ghost use Rattle.plain_chart.specs.Nodes.{span_cmp, IsNodeAt, AreNodes};
+ghost use Rattle.plain_chart.specs.declared.limits.TheConstants.{PLACES};
 
 use crate::cuts::splits_of;
 use crate::reach::reached_spans;
@@ -32,7 +33,7 @@ fn node_of(
     tokens: &[SymbolId],
     span: Span,
 ) -> Result<Node, AllocError>
-    requires few { length tokens.now < 65 }
+    requires few { length tokens.now < PLACES }
     requires whole { IsWhole rules.now.rules tokens.now known.now }
     requires within { (span.from ≤ length tokens.now) × (span.to ≤ length tokens.now) }
     ensures { IfOk result (IsNodeAt rules.now.rules tokens.now span) }
@@ -54,7 +55,7 @@ fn nodes_of(
     tokens: &[SymbolId],
     spans: &[Span],
 ) -> Result<Vec<Node>, AllocError>
-    requires few { length tokens.now < 65 }
+    requires few { length tokens.now < PLACES }
     requires whole { IsWhole rules.now.rules tokens.now known.now }
     requires within { (s : Span) → Contains spans.now s → (s.from ≤ length tokens.now) × (s.to ≤ length tokens.now) }
     ensures { IfOk result (λ v. AreNodes rules.now.rules tokens.now spans.now v.items) }
@@ -73,7 +74,7 @@ pub fn forest_of(
     rules: &Rules,
     tokens: &[SymbolId],
 ) -> Result<Forest, AllocError>
-    requires few { length tokens.now < 65 }
+    requires few { length tokens.now < PLACES }
     requires terminals { AreTerminals rules.now.rules tokens.now }
     requires whole { IsWhole rules.now.rules tokens.now known.now }
     requires sentence { IsSentence rules.now.rules tokens.now }

@@ -6,6 +6,7 @@ ghost use Rattle.plain_chart.specs.declared.spans.Span.{Span};
 ghost use Rattle.plain_chart.specs.Span.{span as span_at};
 ghost use Rattle.plain_chart.specs.Known.{IsWhole};
 ghost use Rattle.plain_chart.specs.Parts.{IsPartSpan, IsBelow, Adds, AreReached};
+ghost use Rattle.plain_chart.specs.declared.limits.TheConstants.{PLACES};
 
 use crate::derive::{is_known, sources};
 use crate::spans::{Span, Spans, is_same};
@@ -21,8 +22,8 @@ fn add_part(
     from: u32,
     to: u32,
 ) -> Result<(), AllocError>
-    requires begins { from < 65 }
-    requires ends { to < 65 }
+    requires begins { from < PLACES }
+    requires ends { to < PLACES }
     ensures { OnOk result (Adds known.now (λ (s : Span). span_at symbol from to ≡ s) reached.old reached.new) }
 {
     if known.has(symbol, from, to) && !reached.has(symbol, from, to) {
@@ -41,9 +42,9 @@ fn add_parts(
     from: u32,
     to: u32,
 ) -> Result<(), AllocError>
-    requires few { length tokens.now < 65 }
-    requires begins { from < 65 }
-    requires ends { to < 65 }
+    requires few { length tokens.now < PLACES }
+    requires begins { from < PLACES }
+    requires ends { to < PLACES }
     ensures { OnOk result (Adds known.now (IsPartSpan tokens.now known.now right.now from to) reached.old reached.new) }
 {
     match right {
@@ -70,9 +71,9 @@ fn add_below(
     tokens: &[SymbolId],
     span: Span,
 ) -> Result<(), AllocError>
-    requires few { length tokens.now < 65 }
-    requires begins { span.from < 65 }
-    requires ends { span.to < 65 }
+    requires few { length tokens.now < PLACES }
+    requires begins { span.from < PLACES }
+    requires ends { span.to < PLACES }
     ensures { OnOk result (Adds known.now (IsBelow rules.now tokens.now known.now span) reached.old reached.new) }
 {
     for rule in rules {
@@ -98,7 +99,7 @@ pub fn reached_spans(
     rules: &[Rule],
     tokens: &[SymbolId],
 ) -> Result<Spans, AllocError>
-    requires few { length tokens.now < 65 }
+    requires few { length tokens.now < PLACES }
     requires terminals { AreTerminals rules.now tokens.now }
     requires whole { IsWhole rules.now tokens.now known.now }
     ensures { IfOk result (AreReached rules.now tokens.now) }

@@ -2,13 +2,12 @@
 ghost use Rattle.std.specs.Prelude.{◌≡◌, ◌<◌, ◌+◌, ◌*◌, ◌↔◌, ℕ, List, [], ◌∷◌, ◌++◌, IsTrue, IfOk, IfSome, IfNone, OnOk, OnErr, Contains, Some, slice_get, length};
 ghost use Rattle.plain_chart.specs.Tables.{IsTableAt, KeepsTables};
 ghost use Rattle.plain_chart.specs.Span.{span};
+ghost use Rattle.plain_chart.specs.declared.limits.TheConstants.{PLACES};
 
+use crate::limits::PLACES;
 use forest::SymbolId;
 use std::alloc::{AllocError, Global};
 use std::marker::Model;
-
-/// How many places there are at most, before, between and after tokens.
-pub const PLACES: usize = 65;
 
 /// A symbol with the tokens that it derives. Spans compare as the nodes of a forest do.
 #[derive(Clone, Copy, PartialEq, Eq, PartialOrd, Ord)]
@@ -76,8 +75,8 @@ impl Spans {
     }
 
     pub fn has(&self, symbol: SymbolId, from: u32, to: u32) -> bool
-        requires begins { from < 65 }
-        requires ends { to < 65 }
+        requires begins { from < PLACES }
+        requires ends { to < PLACES }
         ensures { IsTrue result ↔ Contains self.now (span symbol from to) }
     {
         match table_of(self.tables.as_slice(), symbol) {
@@ -94,8 +93,8 @@ impl Spans {
         from: u32,
         to: u32,
     ) -> Result<(), AllocError>
-        requires begins { from < 65 }
-        requires ends { to < 65 }
+        requires begins { from < PLACES }
+        requires ends { to < PLACES }
         ensures { OnOk result (self.new ≡ self.old ++ span symbol from to ∷ []) }
     {
         let at = table_for(alloc, &mut self.tables, symbol)?;
@@ -115,9 +114,9 @@ pub fn is_same(a: SymbolId, b: SymbolId) -> bool
 
 /// Where the bit of a start and an end stands.
 fn bit_of(from: u32, to: u32) -> usize
-    requires begins { from < 65 }
-    requires ends { to < 65 }
-    ensures { result ≡ from * 65 + to }
+    requires begins { from < PLACES }
+    requires ends { to < PLACES }
+    ensures { result ≡ from * PLACES + to }
 {
     from as usize * PLACES + to as usize
 }

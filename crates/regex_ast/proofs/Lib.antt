@@ -6,3 +6,5 @@ pub mod ReadLemmas
 pub mod RowLemmas
 pub mod SetLemmas
 pub mod TableLemmas
+pub mod OneCause
+pub mod LiteralWords

@@ -6,7 +6,7 @@ use Rattle.regex_ast.specs.Expressions.{Expression, class, sequence, choice, sta
 use Rattle.regex_ast.specs.Matching.{Matches, MarksFrom}
 
 -- the class at p has b
-abbrev Holds : List (List ℕ) → ℕ → ℕ → Type 0
+abbrev pub Holds : List (List ℕ) → ℕ → ℕ → Type 0
 Holds cs p b = IsTrue (has (slice_index_or cs p []) b)
 
 pub AllZip-join : (cs : List (List ℕ)) (m n u v : List ℕ) → AllZip (Holds cs) m u → AllZip (Holds cs) n v → AllZip (Holds cs) (m ++ n) (u ++ v)
@@ -41,7 +41,7 @@ length-classes_of (star a) = length-classes_of a
 length-classes_of (plus a) = length-classes_of a
 length-classes_of (maybe a) = length-classes_of a
 
-at_length : (front : List (List ℕ)) (set : List ℕ) (back : List (List ℕ)) → slice_index_or (front ++ set ∷ back) (length front) [] ≡ set
+pub at_length : (front : List (List ℕ)) (set : List ℕ) (back : List (List ℕ)) → slice_index_or (front ++ set ∷ back) (length front) [] ≡ set
 at_length [] set back = refl
 at_length (f ∷ front) set back = at_length front set back
 

@@ -43,10 +43,10 @@ AreCuts-append (d ∷ cuts) more h k = (h.0, AreCuts-append cuts more h.1 k)
 pub count-snoc : (f : Cut → Bool) (cuts : List Cut) (c : Cut) → count_by f (cuts ++ c ∷ []) ≡ count_by f cuts + (if f c then 1 else 0)
 count-snoc f cuts c = sum_by-append (λ x. cond (f x) 1 0) cuts (c ∷ []) ∙ ap (λ n. count_by f cuts + n) (zero-add (cond (f c) 1 0))
 
-none_some : {A : Type 0} {x : A} → None ≡ Some x → ⊥
+pub none_some : {A : Type 0} {x : A} → None ≡ Some x → ⊥
 none_some e = cc
 
-some_same : {A : Type 0} {x y : A} → Some x ≡ Some y → x ≡ y
+pub some_same : {A : Type 0} {x y : A} → Some x ≡ Some y → x ≡ y
 some_same e = cc
 
 cons_nil : {x : ℕ} {xs : List ℕ} → x ∷ xs ≡ [] → ⊥
@@ -66,7 +66,7 @@ longer : (text : List ℕ) (b : ℕ) → suc (length text) ≡ length (text ++ b
 longer text b = omega (arith, length-append text (b ∷ []))
 
 -- ---- the first place of a kind
-pub FoundAt : (List Cut → Cut → Type 0) → List Cut → Option ℕ → Type 0
+unfoldable pub FoundAt : (List Cut → Cut → Type 0) → List Cut → Option ℕ → Type 0
 FoundAt Bad cuts None = NoPlace Bad cuts
 FoundAt Bad cuts (Some at) = IsFirstPlace Bad cuts at
 
@@ -322,7 +322,7 @@ after_append [] u s at = ap (λ n. after_bytes s n u) (sym (plus_none at))
 after_append (b ∷ t) u s at = bind_bytes t u at (after_byte s at b) (λ x. after_append t u x (suc at))
 
 -- a front that cannot be read is the front of no expression
-stopped : (front : List ℕ) → after_bytes first_state 0 front ≡ None → HasContinuation front → ⊥
+pub stopped : (front : List ℕ) → after_bytes first_state 0 front ≡ None → HasContinuation front → ⊥
 stopped front e h =
     let r = spelled_read (front ++ h.0) h.2.0 h.1 h.2.1 in
     none_some (sym (after_append front h.0 first_state 0 ∙ ap (λ o. option_and_then (λ x. after_bytes x (0 + length front) h.0) o) e) ∙ r.3)
@@ -349,7 +349,7 @@ continued front (reading m s f start) h =
     )
 
 -- ---- the answers
-no_place_found : (Bad : List Cut → Cut → Type 0) (cuts : List Cut) (o : Option ℕ) → FoundAt Bad cuts o → NoPlace Bad cuts → o ≡ None
+pub no_place_found : (Bad : List Cut → Cut → Type 0) (cuts : List Cut) (o : Option ℕ) → FoundAt Bad cuts o → NoPlace Bad cuts → o ≡ None
 unfolding FoundAt
 no_place_found Bad cuts None h none = refl
 no_place_found Bad cuts (Some at) h none = absurd (none h.0 h.1 h.2 h.3 h.4)
@@ -389,10 +389,10 @@ stop_is_cause text (TooDeep at) k = absurd k
 stop_is_cause text (TooManyPositions at) k = absurd k
 stop_is_cause text NoMemory k = tt
 
-mode_nest : {t u : Nest} {f g : Findings} {i j : ℕ} → reading Between t f i ≡ reading Between u g j → t ≡ u
+pub mode_nest : {t u : Nest} {f g : Findings} {i j : ℕ} → reading Between t f i ≡ reading Between u g j → t ≡ u
 mode_nest e = cc
 
-other_mode : {t u : Nest} {f g : Findings} {i j : ℕ} → reading Escaped t f i ≡ reading Between u g j → ⊥
+pub other_mode : {t u : Nest} {f g : Findings} {i j : ℕ} → reading Escaped t f i ≡ reading Between u g j → ⊥
 other_mode e = let k : Escaped ≡ Between = cc in cc
 
 opened_mode : {t u : Nest} {f g : Findings} {i j : ℕ} → reading Opened t f i ≡ reading Between u g j → ⊥
@@ -433,7 +433,7 @@ spelled_so text t f start e h k =
 abbrev NotWhole : State → Type 0
 NotWhole s = (t : Nest) (f : Findings) (start : ℕ) (e : Expression) → s ≡ reading Between t f start → finished t ≡ Some e → ⊥
 
-take_whole : (xs : List ℕ) → take (length xs) xs ≡ xs
+pub take_whole : (xs : List ℕ) → take (length xs) xs ≡ xs
 take_whole [] = refl
 take_whole (x ∷ xs) = ap (λ t. x ∷ t) (take_whole xs)
 
@@ -445,13 +445,13 @@ broken_end text s e not_whole = (
   λ x h. let r = spelled_read text h.0 x h.1 in not_whole r.0 r.1 r.2 x (some_same (sym e ∙ r.3)) r.4,
 )
 
-ok_err : {A B : Type 0} {x : A} {y : B} → ◌≡◌ {A = Result A B} (Ok x) (Err y) → ⊥
+pub ok_err : {A B : Type 0} {x : A} {y : B} → ◌≡◌ {A = Result A B} (Ok x) (Err y) → ⊥
 ok_err e = cc
 
-ok_same : {A B : Type 0} {x y : A} → ◌≡◌ {A = Result A B} (Ok x) (Ok y) → x ≡ y
+pub ok_same : {A B : Type 0} {x y : A} → ◌≡◌ {A = Result A B} (Ok x) (Ok y) → x ≡ y
 ok_same e = cc
 
-err_same : {A B : Type 0} {x y : B} → ◌≡◌ {A = Result A B} (Err x) (Err y) → x ≡ y
+pub err_same : {A B : Type 0} {x y : B} → ◌≡◌ {A = Result A B} (Err x) (Err y) → x ≡ y
 err_same e = cc
 
 limits_found : (cuts : List Cut) (f : Findings) (e x : Expression) (empty deep many : Option ℕ) → FoundAt IsEmptyClass cuts empty → FoundAt IsTooDeep cuts deep → FoundAt IsOneTooMany cuts many

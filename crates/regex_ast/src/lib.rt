@@ -15,7 +15,7 @@ mod stack;
 
 pub use bad_regex::BadRegex;
 pub use byte_set::ByteSet;
-pub use laws::words_and_marked_words;
+pub use laws::{expression_or_cause, one_expression, words_and_marked_words, words_of_literals};
 pub use limits::{DEPTH_LIMIT, POSITION_LIMIT, REGEX_LIMIT, limits_of_regex};
 pub use positions::Positions;
 pub use reader::read_regex;

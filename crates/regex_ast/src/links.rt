@@ -1,6 +1,6 @@
 //! Which positions begin, end and follow one another, part by part.
 
-ghost use Rattle.std.specs.Prelude.{◌≡◌, ℕ, ◌+◌, ◌≤◌, ◌<◌, ◌||◌, ◌&&◌, length};
+ghost use Rattle.std.specs.Prelude.{◌≡◌, ℕ, true, ◌+◌, ◌≤◌, ◌<◌, ◌||◌, ◌&&◌, length};
 ghost use Rattle.regex_ast.specs.declared.limits.TheConstants.{POSITION_LIMIT};
 ghost use Rattle.regex_ast.specs.Bytes.{has};
 ghost use Rattle.regex_ast.specs.Expressions.{tree_of, class_count};
@@ -49,22 +49,29 @@ pub(crate) fn link(regex: &Regex, base: usize, rows: &mut [ByteSet]) -> Part
             let second = link(second, first.next, rows);
             either(first, second)
         }
-        Regex::Star(inner) => {
-            let mut looped = link(inner, base, rows);
-            connect(rows, &looped.last, &looped.first);
-            looped.nullable = true;
-            looped
-        }
-        Regex::Plus(inner) => {
-            let part = link(inner, base, rows);
-            connect(rows, &part.last, &part.first);
-            part
-        }
-        Regex::Maybe(inner) => {
-            let mut part = link(inner, base, rows);
-            part.nullable = true;
-            part
-        }
+        Regex::Star(inner) => optional(looped(link(inner, base, rows), rows)),
+        Regex::Plus(inner) => looped(link(inner, base, rows), rows),
+        Regex::Maybe(inner) => optional(link(inner, base, rows)),
+    }
+}
+
+/// The part, any number of times but 0: what may begin it also follows what may end it.
+fn looped(part: Part, rows: &mut [ByteSet]) -> Part
+    requires { length rows.old ≤ POSITION_LIMIT }
+    ensures part { result ≡ part }
+    ensures rows { (q p : ℕ) → q < length rows.old → has (row rows.new q) p ≡ (has (row rows.old q) p || (has part.last q && has part.first p)) }
+{
+    connect(rows, &part.last, &part.first);
+    part
+}
+
+/// The part, or nothing.
+fn optional(part: Part) -> Part
+    ensures { result ≡ record part { nullable = true } }
+{
+    Part {
+        nullable: true,
+        ..part
     }
 }
 

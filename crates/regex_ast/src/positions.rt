@@ -1,6 +1,6 @@
 //! The positions of an expression, as a table.
 
-ghost use Rattle.std.specs.Prelude.{◌≡◌, ℕ, ◌+◌, ◌≤◌, ◌<◌, ◌++◌, [], length, filter, map, replicate, IfOk, OnOk, Some, slice_get};
+ghost use Rattle.std.specs.Prelude.{◌≡◌, ℕ, ◌+◌, ◌≤◌, ◌<◌, ◌++◌, ◌∷◌, [], length, filter, map, replicate, IfOk, OnOk, Some, slice_get};
 ghost use Rattle.regex_ast.specs.declared.limits.TheConstants.{POSITION_LIMIT};
 ghost use Rattle.regex_ast.specs.Bytes.{has, numbers_from, only};
 ghost use Rattle.regex_ast.specs.Expressions.{tree_of, class_count, classes_of};
@@ -10,7 +10,7 @@ ghost use Rattle.regex_ast.specs.Positions.{ArePositionsOf, ArePositionsOfLitera
 use crate::byte_set::ByteSet;
 use crate::links::link;
 use crate::regex::{NoMemory, Regex};
-use sqlite_items::Items;
+use lists::ListOf;
 use std::alloc::Global;
 use std::marker::Model;
 
@@ -21,10 +21,10 @@ use std::marker::Model;
 #[derive(Debug, Drop)]
 pub struct Positions {
     nullable: bool,
-    first: Items<u32>,
-    last: Items<u32>,
-    follow: Items<Items<u32>>,
-    classes: Items<ByteSet>,
+    first: ListOf<u32>,
+    last: ListOf<u32>,
+    follow: ListOf<ListOf<u32>>,
+    classes: ListOf<ByteSet>,
 }
 
 impl Model for Positions {
@@ -46,7 +46,7 @@ impl Positions {
         ensures { IfOk result (λ positions. ArePositionsOf (tree_of regex.now) positions) }
     {
         let classes = classes_of(alloc, regex)?;
-        let count = classes.len();
+        let count = classes.as_slice().len();
         let mut rows = no_links(alloc, count)?;
         let links = rows.as_mut_slice();
         let part = link(regex, 0, links);
@@ -68,8 +68,8 @@ impl Positions {
         let count = bytes.len() as u32;
         Ok(Positions {
             nullable: false,
-            first: Items::from_slice(alloc, &[0])?,
-            last: Items::from_slice(alloc, &[count - 1])?,
+            first: one_number(alloc, 0)?,
+            last: one_number(alloc, count - 1)?,
             follow: in_line(alloc, count)?,
             classes: one_each(alloc, bytes)?,
         })
@@ -80,7 +80,7 @@ impl Positions {
         ensures count { result ≡ length self.now.classes }
         ensures few { length self.now.classes ≤ POSITION_LIMIT }
     {
-        self.classes.len() as u32
+        self.classes.as_slice().len() as u32
     }
 
     /// Whether the empty word is matched.
@@ -122,13 +122,13 @@ impl Positions {
 }
 
 /// The classes of the expression, from left to right.
-fn classes_of(alloc: Global, regex: &Regex) -> Result<Items<ByteSet>, NoMemory>
+fn classes_of(alloc: Global, regex: &Regex) -> Result<ListOf<ByteSet>, NoMemory>
     ensures classes { IfOk result (λ classes. classes ≡ classes_of (tree_of regex.now)) }
     ensures count { IfOk result (λ classes. length classes ≡ class_count (tree_of regex.now)) }
 {
     let mut classes = Vec::new(alloc);
     collect(regex, &mut classes)?;
-    Ok(Items::from_vec(classes))
+    Ok(ListOf::from_vec(classes))
 }
 
 /// Adds the classes of the expression at the end, from left to right.
@@ -161,7 +161,7 @@ fn no_links(alloc: Global, count: usize) -> Result<Vec<ByteSet>, NoMemory>
 }
 
 /// Each row as a list.
-fn ascending_rows(alloc: Global, rows: &[ByteSet]) -> Result<Items<Items<u32>>, NoMemory>
+fn ascending_rows(alloc: Global, rows: &[ByteSet]) -> Result<ListOf<ListOf<u32>>, NoMemory>
     requires { length rows.now ≤ POSITION_LIMIT }
     ensures { IfOk result (λ lists. lists ≡ map (λ row. filter (has row) (numbers_from 0 (length rows.now))) rows.now) }
 {
@@ -169,11 +169,11 @@ fn ascending_rows(alloc: Global, rows: &[ByteSet]) -> Result<Items<Items<u32>>, 
     for row in rows {
         lists.push(ascending(alloc, row, rows.len())?)?;
     }
-    Ok(Items::from_vec(lists))
+    Ok(ListOf::from_vec(lists))
 }
 
 /// The numbers below `count` that are in the set.
-fn ascending(alloc: Global, set: &ByteSet, count: usize) -> Result<Items<u32>, NoMemory>
+fn ascending(alloc: Global, set: &ByteSet, count: usize) -> Result<ListOf<u32>, NoMemory>
     requires { count ≤ POSITION_LIMIT }
     ensures { IfOk result (λ numbers. numbers ≡ filter (has set.now) (numbers_from 0 count)) }
 {
@@ -183,11 +183,11 @@ fn ascending(alloc: Global, set: &ByteSet, count: usize) -> Result<Items<u32>, N
             numbers.push(number as u32)?;
         }
     }
-    Ok(Items::from_vec(numbers))
+    Ok(ListOf::from_vec(numbers))
 }
 
 /// For each number below `count` the next one, where that is below `count` too.
-fn in_line(alloc: Global, count: u32) -> Result<Items<Items<u32>>, NoMemory>
+fn in_line(alloc: Global, count: u32) -> Result<ListOf<ListOf<u32>>, NoMemory>
     requires { count ≤ 32 }
     ensures { IfOk result (λ rows. rows ≡ map (next_below count) (numbers_from 0 count)) }
 {
@@ -195,28 +195,35 @@ fn in_line(alloc: Global, count: u32) -> Result<Items<Items<u32>>, NoMemory>
     for number in 0..count {
         rows.push(next(alloc, number, count)?)?;
     }
-    Ok(Items::from_vec(rows))
+    Ok(ListOf::from_vec(rows))
 }
 
 /// The next number, if it is below `count`.
-fn next(alloc: Global, number: u32, count: u32) -> Result<Items<u32>, NoMemory>
+fn next(alloc: Global, number: u32, count: u32) -> Result<ListOf<u32>, NoMemory>
     requires { number < count }
     ensures { IfOk result (λ numbers. numbers ≡ next_below count number) }
 {
     if number + 1 < count {
-        Items::from_slice(alloc, &[number + 1])
+        one_number(alloc, number + 1)
     } else {
-        Ok(Items::new(alloc))
+        Ok(ListOf::from_vec(Vec::new(alloc)))
     }
 }
 
+/// The list of this number alone.
+fn one_number(alloc: Global, number: u32) -> Result<ListOf<u32>, NoMemory>
+    ensures { IfOk result (λ numbers. numbers ≡ number ∷ []) }
+{
+    Ok(ListOf::from_vec(Vec::from_array(alloc, [number])?))
+}
+
 /// The sets of one byte each.
-fn one_each(alloc: Global, bytes: &[u8]) -> Result<Items<ByteSet>, NoMemory>
+fn one_each(alloc: Global, bytes: &[u8]) -> Result<ListOf<ByteSet>, NoMemory>
     ensures { IfOk result (λ sets. sets ≡ map only bytes.now) }
 {
     let mut sets = Vec::with_capacity(alloc, bytes.len())?;
     for byte in bytes {
         sets.push(ByteSet::of(*byte))?;
     }
-    Ok(Items::from_vec(sets))
+    Ok(ListOf::from_vec(sets))
 }

@@ -3,12 +3,20 @@
 ghost use Rattle.std.specs.Prelude.{◌≡◌, [], None, Some, IfOk, length};
 ghost use Rattle.std.specs.Option.{option_map};
 ghost use Rattle.regex_ast.specs.Expressions.{tree_of};
-ghost use Rattle.regex_ast.specs.Nests.{levels, put, joined, chosen, settled, whole, pushed, finished, depth_of};
-ghost use Rattle.regex_ast.specs.Held.{trees_of, nest_of};
+ghost use Rattle.regex_ast.specs.Nests.{levels, put, joined, chosen, settled, whole, pushed, signed, finished, depth_of};
+ghost use Rattle.regex_ast.specs.Held.{trees_of, nest_of, signed_by};
 
 use crate::lexer::Piece;
 use crate::regex::Regex;
 use std::alloc::{AllocError, Global};
+
+/// A sign that repeats the factor before it.
+#[derive(Drop)]
+pub(crate) enum Sign {
+    Star,
+    Plus,
+    Maybe,
+}
 
 /// The expression so far at one level of parentheses.
 #[derive(Drop)]
@@ -57,9 +65,9 @@ impl Stack {
             Piece::Open => self.open(alloc),
             Piece::Close => self.close(alloc),
             Piece::Bar => self.bar(alloc),
-            Piece::StarSign => self.star(alloc),
-            Piece::PlusSign => self.plus(alloc),
-            Piece::MaybeSign => self.maybe(alloc),
+            Piece::StarSign => self.sign(alloc, Sign::Star),
+            Piece::PlusSign => self.sign(alloc, Sign::Plus),
+            Piece::MaybeSign => self.sign(alloc, Sign::Maybe),
         }
     }
 
@@ -168,8 +176,8 @@ impl Stack {
     }
 
     /// A sign after the last factor.
-    fn star(self, alloc: Global) -> Result<Option<Stack>, AllocError>
-        ensures { IfOk result (λ s. option_map nest_of s ≡ put Piece.StarSign (nest_of self)) }
+    fn sign(self, alloc: Global, sign: Sign) -> Result<Option<Stack>, AllocError>
+        ensures { IfOk result (λ s. option_map nest_of s ≡ signed (signed_by sign) (nest_of self)) }
     {
         let Stack {
             outer,
@@ -180,7 +188,7 @@ impl Stack {
         let Some(factor) = factor else {
             return Ok(None);
         };
-        let factor = Some(Regex::Star(Box::new(alloc, factor)?));
+        let factor = Some(with_sign(alloc, sign, factor)?);
         Ok(Some(Stack {
             outer,
             choice,
@@ -188,49 +196,17 @@ impl Stack {
             factor,
         }))
     }
+}
 
-    /// A sign after the last factor.
-    fn plus(self, alloc: Global) -> Result<Option<Stack>, AllocError>
-        ensures { IfOk result (λ s. option_map nest_of s ≡ put Piece.PlusSign (nest_of self)) }
-    {
-        let Stack {
-            outer,
-            choice,
-            branch,
-            factor,
-        } = self;
-        let Some(factor) = factor else {
-            return Ok(None);
-        };
-        let factor = Some(Regex::Plus(Box::new(alloc, factor)?));
-        Ok(Some(Stack {
-            outer,
-            choice,
-            branch,
-            factor,
-        }))
-    }
-
-    /// A sign after the last factor.
-    fn maybe(self, alloc: Global) -> Result<Option<Stack>, AllocError>
-        ensures { IfOk result (λ s. option_map nest_of s ≡ put Piece.MaybeSign (nest_of self)) }
-    {
-        let Stack {
-            outer,
-            choice,
-            branch,
-            factor,
-        } = self;
-        let Some(factor) = factor else {
-            return Ok(None);
-        };
-        let factor = Some(Regex::Maybe(Box::new(alloc, factor)?));
-        Ok(Some(Stack {
-            outer,
-            choice,
-            branch,
-            factor,
-        }))
+/// The factor with the sign behind it.
+fn with_sign(alloc: Global, sign: Sign, factor: Regex) -> Result<Regex, AllocError>
+    ensures { IfOk result (λ r. tree_of r ≡ signed_by sign (tree_of factor)) }
+{
+    let factor = Box::new(alloc, factor)?;
+    match sign {
+        Sign::Star => Ok(Regex::Star(factor)),
+        Sign::Plus => Ok(Regex::Plus(factor)),
+        Sign::Maybe => Ok(Regex::Maybe(factor)),
     }
 }
 

@@ -1,9 +1,5 @@
-pub mod LiteralFacts
-pub mod LiteralLinks
-pub mod LiteralSearch
-pub mod KeptLiterals
-pub mod MatchedPieces
-pub mod ScanSteps
 pub mod OneScan
 pub mod OneReply
+pub mod TokenKinds
+pub mod KnownReplies
 pub mod ReplySteps

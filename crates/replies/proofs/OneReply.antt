@@ -1,87 +1,107 @@
 -- A command has one reply at most.
-use Rattle.std.proofs.Common.{◌≡◌, ℕ, List, length, refl, ap, subst, arith}
+use Rattle.std.proofs.Common.{◌≡◌, ℕ, List, Result, Ok, Err, refl, ap, subst, arith}
+use Rattle.std.specs.List.Sorted.{IsStrictlySortedBy}
+use Rattle.std.proofs.lemmas.Map.Keys.{IsStrictlySortedBy-prop}
 use Rattle.grammar_text.specs.declared.edit.Edit.{Edit as AnEdit}
+use Rattle.forest.specs.declared.symbols.SymbolId.{SymbolId}
 use Rattle.forest.specs.declared.symbols.Token.{Token}
-use Rattle.forest.specs.Derivation.{IsSentence}
-use Rattle.forest.specs.Forests.{IsForestOf}
+use Rattle.forest.specs.declared.nodes.Node.{Node}
+use Rattle.forest.specs.declared.rules.Rule.{Rule}
+use Rattle.forest.specs.declared.forest.Forest.{Forest}
+use Rattle.forest.specs.Orders.{node_cmp}
 use Rattle.forest.proofs.OneForest.{one_forest}
 use Rattle.edit_log.specs.History.{Grammar}
-use Rattle.edit_log.specs.Tokens.{tokens, Tokenizes}
+use Rattle.edit_log.specs.Tokens.{tokens, no_token, too_many, Tokenizes}
+use Rattle.isg_scan.specs.declared.scan_error.ScanError.{ScanError}
+use Rattle.isg_scan.specs.declared.scan_error.ScanError.TheVariants.{NoToken, TooManyTokens, NoMemory}
 use Rattle.script_text.specs.declared.command.Command.{Command}
 use Rattle.script_text.specs.declared.command.Command.TheVariants.{Edit, Parse, Tokens, Stats}
-use Rattle.replies.specs.Lines.{clash_line, exists_line, full_line, no_token_line, too_many_line, name_of, forest_text}
-use Rattle.replies.specs.Scans.{kinds_of}
-use Rattle.replies.specs.Replies.{IsReply, taken, clash, exists, absent, full, no_token, too_many, too_large, forest, no_sentence}
+use Rattle.replies.specs.declared.reply.Outcome.{Outcome}
+use Rattle.replies.specs.declared.reply.Outcome.TheVariants.{Parsed, Scan}
+use Rattle.replies.specs.declared.reply.Parsed.TheVariants.{Forest as ForestOf}
+use Rattle.replies.specs.declared.reply.Reply.{Reply}
+use Rattle.replies.specs.declared.reply.Reply.TheVariants.{Refused, Parse as Parsing, Tokens as Scanning}
+use Rattle.replies.specs.Replies.{kinds_of, IsRefusedFor, IsResult, IsParse, too_large, forest, no_sentence, IsOutcome, scan, parse, IsReply, taken, refused, parsed, scanned}
 use Rattle.replies.proofs.OneScan.{one_scan}
 
--- ---- an edit has one reply
+-- ---- forests are told by their nodes
 
-one_edit_reply : (grammar : Grammar) (edit : AnEdit) (a b : List ℕ) → IsReply grammar (Edit edit) a → IsReply grammar (Edit edit) b → a ≡ b
-one_edit_reply grammar edit _ _ (taken e) (taken f) = refl
-one_edit_reply grammar edit _ _ (taken e) (clash f) = cc (e, f)
-one_edit_reply grammar edit _ _ (taken e) (exists f) = cc (e, f)
-one_edit_reply grammar edit _ _ (taken e) (absent f) = cc (e, f)
-one_edit_reply grammar edit _ _ (taken e) (full f) = cc (e, f)
-one_edit_reply grammar edit _ _ (clash e) (taken f) = cc (e, f)
-one_edit_reply grammar edit _ _ (clash {name = m} e) (clash {name = n} f) = let same : m ≡ n = cc (e, f) in ap clash_line same
-one_edit_reply grammar edit _ _ (clash e) (exists f) = cc (e, f)
-one_edit_reply grammar edit _ _ (clash e) (absent f) = cc (e, f)
-one_edit_reply grammar edit _ _ (clash e) (full f) = cc (e, f)
-one_edit_reply grammar edit _ _ (exists e) (taken f) = cc (e, f)
-one_edit_reply grammar edit _ _ (exists e) (clash f) = cc (e, f)
-one_edit_reply grammar edit _ _ (exists {number = m} e) (exists {number = n} f) = let same : m ≡ n = cc (e, f) in ap exists_line same
-one_edit_reply grammar edit _ _ (exists e) (absent f) = cc (e, f)
-one_edit_reply grammar edit _ _ (exists e) (full f) = cc (e, f)
-one_edit_reply grammar edit _ _ (absent e) (taken f) = cc (e, f)
-one_edit_reply grammar edit _ _ (absent e) (clash f) = cc (e, f)
-one_edit_reply grammar edit _ _ (absent e) (exists f) = cc (e, f)
-one_edit_reply grammar edit _ _ (absent e) (absent f) = refl
-one_edit_reply grammar edit _ _ (absent e) (full f) = cc (e, f)
-one_edit_reply grammar edit _ _ (full e) (taken f) = cc (e, f)
-one_edit_reply grammar edit _ _ (full e) (clash f) = cc (e, f)
-one_edit_reply grammar edit _ _ (full e) (exists f) = cc (e, f)
-one_edit_reply grammar edit _ _ (full e) (absent f) = cc (e, f)
-one_edit_reply grammar edit _ _ (full {version = m} e) (full {version = n} f) = let same : m ≡ n = cc (e, f) in ap full_line same
+abbrev forest_of : (nodes : List Node) → IsStrictlySortedBy node_cmp nodes → Forest
+forest_of nodes h = record { nodes = nodes; ascending = h }
 
--- ---- a text has one reply
+module _ (nodes : List Node) (h : IsStrictlySortedBy node_cmp nodes) where
+  WithNodes : List Node → Type 0
+  WithNodes others = (k : IsStrictlySortedBy node_cmp others) → forest_of nodes h ≡ forest_of others k
+
+  with_nodes : (others : List Node) → nodes ≡ others → WithNodes others
+  unfolding WithNodes
+  with_nodes others e = subst WithNodes e (λ k. ap (forest_of nodes) (IsStrictlySortedBy-prop node_cmp nodes h k))
+
+same_forest : (f g : Forest) → f.nodes ≡ g.nodes → f ≡ g
+unfolding WithNodes
+same_forest f g e = with_nodes f.nodes f.ascending g.nodes e g.ascending
+
+-- ---- tokens are parsed in one way
+
+one_parse : (rules : List Rule) (kinds : List SymbolId) (a b : Outcome) → IsParse rules kinds a → IsParse rules kinds b → a ≡ b
+one_parse rules kinds a b (too_large many) (too_large more) = refl
+one_parse rules kinds a b (too_large many) (forest few is) = absurd (omega (arith, many, few))
+one_parse rules kinds a b (too_large many) (no_sentence few not) = absurd (omega (arith, many, few))
+one_parse rules kinds a b (forest few is) (too_large many) = absurd (omega (arith, many, few))
+one_parse rules kinds a b (forest {parsed = f} few is) (forest {parsed = g} few' is') = ap (λ f. Parsed (ForestOf f)) (same_forest f g (one_forest rules kinds f g is is'))
+one_parse rules kinds a b (forest few is) (no_sentence few' not) = absurd (not is.derived)
+one_parse rules kinds a b (no_sentence few not) (too_large many) = absurd (omega (arith, many, few))
+one_parse rules kinds a b (no_sentence few not) (forest few' is) = absurd (not is.derived)
+one_parse rules kinds a b (no_sentence few not) (no_sentence few' not') = refl
+
+-- ---- a text is scanned in one way
 
 one_list : (grammar : Grammar) (text : List ℕ) (a b : List Token) → Tokenizes grammar text (tokens a) → Tokenizes grammar text (tokens b) → a ≡ b
 one_list grammar text a b e f = let same : tokens a ≡ tokens b = one_scan grammar text (tokens a) (tokens b) e f in cc same
 
-one_text_reply : (grammar : Grammar) (text : List ℕ) (a b : List ℕ) → IsReply grammar (Parse text) a → IsReply grammar (Parse text) b → a ≡ b
-one_text_reply grammar text _ _ (no_token {offset = o} e) (no_token {offset = p} f) = let same = one_scan grammar text _ _ e f in let at : o ≡ p = cc same in ap (no_token_line grammar.version) at
-one_text_reply grammar text _ _ (no_token e) (too_many f) = let same = one_scan grammar text _ _ e f in cc same
-one_text_reply grammar text _ _ (no_token e) (too_large f many) = let same = one_scan grammar text _ _ e f in cc same
-one_text_reply grammar text _ _ (no_token e) (forest f few is) = let same = one_scan grammar text _ _ e f in cc same
-one_text_reply grammar text _ _ (no_token e) (no_sentence f few is) = let same = one_scan grammar text _ _ e f in cc same
-one_text_reply grammar text _ _ (too_many e) (no_token f) = let same = one_scan grammar text _ _ e f in cc same
-one_text_reply grammar text _ _ (too_many {offset = o} e) (too_many {offset = p} f) = let same = one_scan grammar text _ _ e f in let at : o ≡ p = cc same in ap (too_many_line grammar.version) at
-one_text_reply grammar text _ _ (too_many e) (too_large f many) = let same = one_scan grammar text _ _ e f in cc same
-one_text_reply grammar text _ _ (too_many e) (forest f few is) = let same = one_scan grammar text _ _ e f in cc same
-one_text_reply grammar text _ _ (too_many e) (no_sentence f few is) = let same = one_scan grammar text _ _ e f in cc same
-one_text_reply grammar text _ _ (too_large e many) (no_token f) = let same = one_scan grammar text _ _ e f in cc same
-one_text_reply grammar text _ _ (too_large e many) (too_many f) = let same = one_scan grammar text _ _ e f in cc same
-one_text_reply grammar text _ _ (too_large e many) (too_large f many') = refl
-one_text_reply grammar text _ _ (too_large {found = t} e many) (forest {found = u} f few is) = let same = one_list grammar text t u e f in absurd (omega (arith, many, few, ap length same))
-one_text_reply grammar text _ _ (too_large {found = t} e many) (no_sentence {found = u} f few is) = let same = one_list grammar text t u e f in absurd (omega (arith, many, few, ap length same))
-one_text_reply grammar text _ _ (forest e few is) (no_token f) = let same = one_scan grammar text _ _ e f in cc same
-one_text_reply grammar text _ _ (forest e few is) (too_many f) = let same = one_scan grammar text _ _ e f in cc same
-one_text_reply grammar text _ _ (forest {found = t} e few is) (too_large {found = u} f many) = let same = one_list grammar text t u e f in absurd (omega (arith, many, few, ap length same))
-one_text_reply grammar text _ _ (forest {found = t} {parsed = x} e few is) (forest {found = u} {parsed = y} f few' is') =
-    let same = one_list grammar text u t f e in
-    let nodes : x.nodes ≡ y.nodes = one_forest grammar.rules (kinds_of t) x y is (subst (λ found. IsForestOf grammar.rules (kinds_of found) y) same is') in
-    ap (forest_text grammar.version (name_of grammar.symbols)) nodes
-one_text_reply grammar text _ _ (forest {found = t} e few is) (no_sentence {found = u} f few' not) =
-    let same = one_list grammar text t u e f in absurd (not (subst (λ found. IsSentence grammar.rules (kinds_of found)) same is.derived))
-one_text_reply grammar text _ _ (no_sentence e few not) (no_token f) = let same = one_scan grammar text _ _ e f in cc same
-one_text_reply grammar text _ _ (no_sentence e few not) (too_many f) = let same = one_scan grammar text _ _ e f in cc same
-one_text_reply grammar text _ _ (no_sentence {found = t} e few not) (too_large {found = u} f many) = let same = one_list grammar text t u e f in absurd (omega (arith, many, few, ap length same))
-one_text_reply grammar text _ _ (no_sentence {found = t} e few not) (forest {found = u} f few' is) =
-    let same = one_list grammar text u t f e in absurd (not (subst (λ found. IsSentence grammar.rules (kinds_of found)) same is.derived))
-one_text_reply grammar text _ _ (no_sentence e few not) (no_sentence f few' not') = refl
+one_error : (grammar : Grammar) (text : List ℕ) (a b : ScanError) → IsRefusedFor grammar text a → IsRefusedFor grammar text b → a ≡ b
+one_error grammar text (NoToken o) (NoToken p) e f = let same = one_scan grammar text (no_token o) (no_token p) e f in let at : o ≡ p = cc same in ap NoToken at
+one_error grammar text (NoToken o) (TooManyTokens p) e f = let same = one_scan grammar text (no_token o) (too_many p) e f in cc same
+one_error grammar text (TooManyTokens o) (NoToken p) e f = let same = one_scan grammar text (too_many o) (no_token p) e f in cc same
+one_error grammar text (TooManyTokens o) (TooManyTokens p) e f = let same = one_scan grammar text (too_many o) (too_many p) e f in let at : o ≡ p = cc same in ap TooManyTokens at
+one_error grammar text NoMemory b e f = absurd e
+one_error grammar text (NoToken o) NoMemory e f = absurd f
+one_error grammar text (TooManyTokens o) NoMemory e f = absurd f
 
-pub one_reply : (grammar : Grammar) (command : Command) (a b : List ℕ) → IsReply grammar command a → IsReply grammar command b → a ≡ b
+not_refused : (grammar : Grammar) (text : List ℕ) (found : List Token) (error : ScanError) → Tokenizes grammar text (tokens found) → IsRefusedFor grammar text error → ⊥
+not_refused grammar text found (NoToken o) e f = let same = one_scan grammar text (tokens found) (no_token o) e f in cc same
+not_refused grammar text found (TooManyTokens o) e f = let same = one_scan grammar text (tokens found) (too_many o) e f in cc same
+not_refused grammar text found NoMemory e f = f
+
+one_result : (grammar : Grammar) (text : List ℕ) (a b : Result (List Token) ScanError) → IsResult grammar text a → IsResult grammar text b → a ≡ b
+one_result grammar text (Ok a) (Ok b) e f = ap Ok (one_list grammar text a b e f)
+one_result grammar text (Ok a) (Err b) e f = absurd (not_refused grammar text a b e f)
+one_result grammar text (Err a) (Ok b) e f = absurd (not_refused grammar text b a f e)
+one_result grammar text (Err a) (Err b) e f = ap Err (one_error grammar text a b e f)
+
+one_outcome : (grammar : Grammar) (text : List ℕ) (a b : Outcome) → IsOutcome grammar text a → IsOutcome grammar text b → a ≡ b
+one_outcome grammar text a b (scan {error = x} e) (scan {error = y} f) = ap Scan (one_error grammar text x y e f)
+one_outcome grammar text a b (scan {error = x} e) (parse {found = found} f is) = absurd (not_refused grammar text found x f e)
+one_outcome grammar text a b (parse {found = found} e is) (scan {error = y} f) = absurd (not_refused grammar text found y e f)
+one_outcome grammar text a b (parse {found = found} e is) (parse {found = other} f is') =
+    one_parse grammar.rules (kinds_of found) a b is (subst (λ ts. IsParse grammar.rules (kinds_of ts) b) (one_list grammar text other found f e) is')
+
+-- ---- commands
+
+one_edit_reply : (grammar : Grammar) (edit : AnEdit) (a b : Reply) → IsReply grammar (Edit edit) a → IsReply grammar (Edit edit) b → a ≡ b
+one_edit_reply grammar edit a b (taken e) (taken f) = refl
+one_edit_reply grammar edit a b (taken e) (refused f) = cc (e, f)
+one_edit_reply grammar edit a b (refused e) (taken f) = cc (e, f)
+one_edit_reply grammar edit a b (refused {why = x} e) (refused {why = y} f) = let same : x ≡ y = cc (e, f) in ap Refused same
+
+one_parse_reply : (grammar : Grammar) (text : List ℕ) (a b : Reply) → IsReply grammar (Parse text) a → IsReply grammar (Parse text) b → a ≡ b
+one_parse_reply grammar text a b (parsed {outcome = x} e) (parsed {outcome = y} f) = ap (Parsing grammar.version) (one_outcome grammar text x y e f)
+
+one_tokens_reply : (grammar : Grammar) (text : List ℕ) (a b : Reply) → IsReply grammar (Tokens text) a → IsReply grammar (Tokens text) b → a ≡ b
+one_tokens_reply grammar text a b (scanned {result = x} e) (scanned {result = y} f) = ap (Scanning grammar.version) (one_result grammar text x y e f)
+
+pub one_reply : (grammar : Grammar) (command : Command) (a b : Reply) → IsReply grammar command a → IsReply grammar command b → a ≡ b
 one_reply grammar (Edit edit) a b e f = one_edit_reply grammar edit a b e f
-one_reply grammar (Parse text) a b e f = one_text_reply grammar text a b e f
-one_reply grammar (Tokens text) a b e f = elim e [ ]
+one_reply grammar (Parse text) a b e f = one_parse_reply grammar text a b e f
+one_reply grammar (Tokens text) a b e f = one_tokens_reply grammar text a b e f
 one_reply grammar Stats a b e f = elim e [ ]

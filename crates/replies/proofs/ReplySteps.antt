@@ -1,50 +1,55 @@
--- The reply to a command.
-use Rattle.std.proofs.Common.{◌≡◌, ◌≤◌, ◌<◌, ◌↔◌, ℕ, Result, Ok, Err, Some, None, List, [], Contains, length, refl, inl, inr, ap, sym, ◌∙◌, subst, ◌+◌}
+-- How a command's reply is made.
+use Rattle.std.proofs.Common.{◌≡◌, ◌≤◌, ◌<◌, ◌+◌, ◌↔◌, ℕ, Result, Ok, Err, Some, None, List, refl, inl, inr, ap, sym, ◌∙◌, subst}
 use Rattle.std.proofs.lemmas.Bool.{cases_lt}
-use Rattle.std.proofs.lemmas.Option.{slice_get_within}
-use Rattle.grammar_text.specs.declared.symbol.Symbol.TheVariants.{Named}
 use Rattle.grammar_text.specs.declared.edit.Edit.{Edit as AnEdit}
-use Rattle.grammar_text.specs.declared.edit.Edit.TheVariants.{AddRule, DropRule, AddToken, DropToken, AddSkip, DropSkip}
-use Rattle.forest.specs.declared.symbols.SymbolId.{SymbolId}
-use Rattle.forest.specs.declared.nodes.Node.{Node}
-use Rattle.forest.specs.declared.forest.Forest.{Forest}
-use Rattle.forest.specs.Derivation.{IsNonterminal}
-use Rattle.forest.specs.Forests.{IsForestOf, InForest, root, part_of}
 use Rattle.plain_chart.specs.declared.ChartError.{ChartError}
 use Rattle.plain_chart.specs.declared.ChartError.TheVariants.{TooLarge}
 use Rattle.edit_log.specs.declared.refusal.Refusal.{Refusal}
 use Rattle.edit_log.specs.History.{Grammar, after}
 use Rattle.edit_log.specs.Verdict.{verdict}
-use Rattle.edit_log.specs.Facts.{IsNamed, IsWellFormed}
-use Rattle.replies.specs.Replies.{IsOfRule, unless_refused}
-use Rattle.replies.proofs.MatchedPieces.{at_each}
+use Rattle.forest.specs.declared.symbols.Token.{Token}
+use Rattle.isg_scan.specs.declared.scan_error.ScanError.{ScanError}
+use Rattle.isg_scan.specs.declared.scan_error.ScanError.TheVariants.{NoToken, TooManyTokens, NoMemory}
+use Rattle.isg_scan.specs.Answers.{EndsWith}
+use Rattle.script_text.specs.declared.command.Command.{Command}
+use Rattle.script_text.specs.declared.command.Command.TheVariants.{Parse, Tokens}
+use Rattle.replies.specs.declared.reply.Outcome.{Outcome}
+use Rattle.replies.specs.declared.reply.Reply.TheVariants.{Parse as Parsing, Tokens as Scanning}
+use Rattle.replies.specs.Replies.{IsRefusedFor, IsResult, IsOutcome, IsReply, parsed, scanned, unless_refused}
+
+-- ---- parses
 
 -- an answer that is no refusal comes only where there are few tokens
-pub few_tokens : {X : Type 0} (n : ℕ) (result : Result X ChartError) (answer : X)
+pub few_kinds : {X : Type 0} (n : ℕ) (result : Result X ChartError) (answer : X)
     → ((count : ℕ) → (result ≡ Err (TooLarge count)) ↔ ((64 < n) × (count ≡ n))) → result ≡ Ok answer → n ≤ 64
-few_tokens n result answer exact is = elim (cases_lt 64 n) [
+few_kinds n result answer exact is = elim (cases_lt 64 n) [
   | inl less ↦ cc (is, (exact n).1 (less, refl))
   | inr more ↦ more
 ]
 
-pub many_tokens : {X : Type 0} (n count : ℕ) (result : Result X ChartError)
+pub many_kinds : {X : Type 0} (n count : ℕ) (result : Result X ChartError)
     → ((count : ℕ) → (result ≡ Err (TooLarge count)) ↔ ((64 < n) × (count ≡ n))) → result ≡ Err (TooLarge count) → 64 < n
-many_tokens n count result exact is = ((exact count).0 is).0
+many_kinds n count result exact is = ((exact count).0 is).0
 
--- ---- the symbols of a forest have numbers
+-- a scan that ends so is refused for it, unless memory ran out
+pub refused_for : (grammar : Grammar) (text : List ℕ) (error : ScanError) → (error ≡ NoMemory → ⊥) → EndsWith grammar text error → IsRefusedFor grammar text error
+refused_for grammar text (NoToken offset) other is = is
+refused_for grammar text (TooManyTokens offset) other is = is
+refused_for grammar text NoMemory other is = other refl
 
-known_left : (grammar : Grammar) (symbol : SymbolId) → IsWellFormed grammar → IsNonterminal grammar.rules symbol → symbol.0 < length grammar.symbols
-known_left grammar symbol formed left =
-    let is_named = at_each (λ r. IsNamed grammar.symbols r.left) grammar.rules left.0 formed.lefts left.1 in
-    subst (λ (x : SymbolId). x.0 < length grammar.symbols) left.2 (slice_get_within grammar.symbols left.0.left.0 (Named is_named.0) is_named.1)
+pub parsed_reply : (before grammar : Grammar) (command : Command) (text bytes : List ℕ) (version : ℕ) (outcome : Outcome) → before ≡ grammar → command ≡ Parse text → bytes ≡ text → version ≡ before.version
+    → IsOutcome before bytes outcome → IsReply grammar command (Parsing version outcome)
+parsed_reply before grammar command text bytes version outcome same is written at how =
+    let whole : IsReply before (Parse text) (Parsing before.version outcome) = parsed (subst (λ t. IsOutcome before t outcome) written how) in
+    subst (λ g. IsReply g command (Parsing version outcome)) same
+    (subst (λ c. IsReply before c (Parsing version outcome)) (sym is) (subst (λ v. IsReply before (Parse text) (Parsing v outcome)) (sym at) whole))
 
-known_within : (grammar : Grammar) (tokens : List SymbolId) (symbol : SymbolId) (i j : ℕ) → IsWellFormed grammar → InForest grammar.rules tokens symbol i j → symbol.0 < length grammar.symbols
-known_within grammar tokens symbol i j formed root = slice_get_within grammar.symbols 0 _ formed.start
-known_within grammar tokens symbol i j formed (part_of within live along part left) = known_left grammar symbol formed left
-
-pub known_nodes : (grammar : Grammar) (tokens : List SymbolId) (forest : Forest) → IsWellFormed grammar → IsForestOf grammar.rules tokens forest
-    → (node : Node) → Contains forest.nodes node → node.symbol.0 < length grammar.symbols
-known_nodes grammar tokens forest formed is node has = known_within grammar tokens node.symbol node.from node.to formed (is.each node has).within
+pub scanned_reply : (before grammar : Grammar) (command : Command) (text bytes : List ℕ) (version : ℕ) (result : Result (List Token) ScanError) → before ≡ grammar → command ≡ Tokens text → bytes ≡ text
+    → version ≡ before.version → IsResult before bytes result → IsReply grammar command (Scanning version result)
+scanned_reply before grammar command text bytes version result same is written at how =
+    let whole : IsReply before (Tokens text) (Scanning before.version result) = scanned (subst (λ t. IsResult before t result) written how) in
+    subst (λ g. IsReply g command (Scanning version result)) same
+    (subst (λ c. IsReply before c (Scanning version result)) (sym is) (subst (λ v. IsReply before (Tokens text) (Scanning v result)) (sym at) whole))
 
 -- ---- edits
 
@@ -53,16 +58,6 @@ refused_stays grammar edit why is = ap (λ v. unless_refused v grammar edit) (sy
 
 pub taken_next : (grammar : Grammar) (edit : AnEdit) (next : Grammar) → verdict grammar edit ≡ None → next ≡ after grammar edit → next ≡ unless_refused (verdict grammar edit) grammar edit
 taken_next grammar edit next taken is = is ∙ ap (λ v. unless_refused v grammar edit) (sym taken)
-
--- an edit of a rule defines nothing
-pub plain_after : (grammar : Grammar) (edit : AnEdit) → IsOfRule edit → grammar.definitions ≡ [] → (after grammar edit).definitions ≡ []
-unfolding after
-plain_after grammar (AddRule r) of_rule plain = plain
-plain_after grammar (DropRule r) of_rule plain = plain
-plain_after grammar (AddToken d) of_rule plain = absurd of_rule
-plain_after grammar (DropToken name) of_rule plain = absurd of_rule
-plain_after grammar (AddSkip d) of_rule plain = absurd of_rule
-plain_after grammar (DropSkip name) of_rule plain = absurd of_rule
 
 pub version_after : (grammar : Grammar) (edit : AnEdit) → (after grammar edit).version ≡ grammar.version + 1
 unfolding after

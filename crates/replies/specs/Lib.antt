@@ -1,5 +1,4 @@
 pub mod Lines
-pub mod Literals
-pub mod Scans
 pub mod Replies
-pub mod Sessions
+pub mod Known
+pub mod Blocks

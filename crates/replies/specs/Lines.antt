@@ -1,14 +1,22 @@
 -- The lines that answer a command. Numbers are decimals, and every line ends with byte 10.
-use Rattle.std.specs.Prelude.{ℕ, List, ◌++◌, length, codes, decimal}
-use Rattle.std.specs.List.{flat_map, sum_by}
+use Rattle.std.specs.Prelude.{ℕ, List, [], ◌++◌, length, codes, decimal, Result, Ok, Err}
+use Rattle.std.specs.List.{sum_by}
 use Rattle.grammar_text.specs.declared.symbol.Symbol.{Symbol}
-use Rattle.forest.specs.declared.symbols.SymbolId.{SymbolId}
-use Rattle.forest.specs.declared.nodes.Split.{Split}
+use Rattle.forest.specs.declared.symbols.Token.{Token}
 use Rattle.forest.specs.declared.nodes.Node.{Node}
-use Rattle.edit_log.specs.Symbols.{symbol_at, symbol_bytes}
+use Rattle.edit_log.specs.declared.refusal.Refusal.{Refusal}
+use Rattle.edit_log.specs.declared.refusal.Refusal.TheVariants.{NameClash, Exists, NoSuch, LogFull, NoMemory}
+use Rattle.isg_scan.specs.declared.scan_error.ScanError.{ScanError}
+use Rattle.isg_scan.specs.declared.scan_error.ScanError.TheVariants.{NoToken, TooManyTokens, NoMemory as OutOfMemory}
+use Rattle.forest_print.specs.Lines.{name_of, nodes_text, tokens_text}
 use Rattle.script_text.specs.declared.bad_script.BadScript.{BadScript}
 use Rattle.script_text.specs.declared.bad_script.BadKind.{BadKind}
 use Rattle.script_text.specs.declared.bad_script.BadKind.TheVariants.{UnknownCommand, BadEdit, BadRegex, BadText, TextTooLong, UnclosedPar, StrayEnd, ParInPar, TooManyCommands, SectionTooLong, StatsAfterPar}
+use Rattle.replies.specs.declared.reply.Outcome.{Outcome}
+use Rattle.replies.specs.declared.reply.Outcome.TheVariants.{Parsed, Scan, TooLarge}
+use Rattle.replies.specs.declared.reply.Parsed.TheVariants.{Forest as ForestOf, NoSentence}
+use Rattle.replies.specs.declared.reply.Reply.{Reply}
+use Rattle.replies.specs.declared.reply.Reply.TheVariants.{Edited, Refused, Parse, Tokens}
 
 -- ---- edits
 
@@ -32,59 +40,77 @@ absent_line = codes "refused absent\n"
 abbrev pub full_line : ℕ → List ℕ
 full_line version = codes "refused full " ++ decimal version ++ codes "\n"
 
+-- a refused edit; that memory ran out is told by no line
+abbrev pub refusal_line : Refusal → List ℕ
+refusal_line (NameClash name) = clash_line name
+refusal_line (Exists number) = exists_line number
+refusal_line NoSuch = absent_line
+refusal_line (LogFull version) = full_line version
+refusal_line NoMemory = []
+
 -- ---- texts
 
--- how each answer to a text begins
-abbrev pub parse_head : ℕ → List ℕ
-parse_head version = codes "parse " ++ decimal version
+-- how each line begins that answers a text: the command's word and the version
+abbrev pub head : List ℕ → ℕ → List ℕ
+head word version = word ++ codes " " ++ decimal version
 
 -- at the offset no token begins
-abbrev pub no_token_line : ℕ → ℕ → List ℕ
-no_token_line version offset = parse_head version ++ codes " no token at " ++ decimal offset ++ codes "\n"
+abbrev pub no_token_line : List ℕ → ℕ → ℕ → List ℕ
+no_token_line word version offset = head word version ++ codes " no token at " ++ decimal offset ++ codes "\n"
 
 -- at the offset a token too many begins
-abbrev pub too_many_line : ℕ → ℕ → List ℕ
-too_many_line version offset = parse_head version ++ codes " too many tokens at " ++ decimal offset ++ codes "\n"
+abbrev pub too_many_line : List ℕ → ℕ → ℕ → List ℕ
+too_many_line word version offset = head word version ++ codes " too many tokens at " ++ decimal offset ++ codes "\n"
+
+-- a text that has no tokens; that memory ran out is told by no line
+abbrev pub scan_line : List ℕ → ℕ → ScanError → List ℕ
+scan_line word version (NoToken offset) = no_token_line word version offset
+scan_line word version (TooManyTokens offset) = too_many_line word version offset
+scan_line word version OutOfMemory = []
 
 abbrev pub too_large_line : ℕ → List ℕ
-too_large_line version = parse_head version ++ codes " too large\n"
+too_large_line version = head (codes "parse") version ++ codes " too large\n"
 
 abbrev pub no_sentence_line : ℕ → List ℕ
-no_sentence_line version = parse_head version ++ codes " no sentence\n"
-
--- ---- forests
-
-abbrev pub cut_text : ℕ → List ℕ
-cut_text cut = codes " " ++ decimal cut
-
--- a rule with its cuts
-unfoldable pub split_line : Split → List ℕ
-split_line split = codes "rule " ++ decimal split.rule.0 ++ codes " at" ++ flat_map cut_text split.cuts ++ codes "\n"
-
--- a symbol of this name with the places in the tokens where it begins and ends
-unfoldable pub span_line : List ℕ → ℕ → ℕ → List ℕ
-span_line name from to = codes "node " ++ name ++ codes " " ++ decimal from ++ codes " " ++ decimal to ++ codes "\n"
-
--- a node whose symbol has this name, and then its splits
-unfoldable pub node_text : List ℕ → Node → List ℕ
-node_text name node = span_line name node.from node.to ++ flat_map split_line node.splits
+no_sentence_line version = head (codes "parse") version ++ codes " no sentence\n"
 
 -- how many nodes and splits a forest has
-unfoldable pub count_line : ℕ → List Node → List ℕ
-count_line version nodes =
-    parse_head version ++ codes " forest " ++ decimal (length nodes) ++ codes " nodes " ++ decimal (sum_by (λ node. length node.splits) nodes) ++ codes " splits\n"
-
--- the bytes of the symbol with this number
-abbrev pub name_of : List Symbol → SymbolId → List ℕ
-name_of symbols number = symbol_bytes (symbol_at symbols number)
-
--- each node, where name tells the bytes of a symbol
-abbrev pub nodes_text : (SymbolId → List ℕ) → List Node → List ℕ
-nodes_text name nodes = flat_map (λ node. node_text (name node.symbol) node) nodes
+unfoldable pub node_count_line : ℕ → List Node → List ℕ
+node_count_line version nodes =
+    head (codes "parse") version ++ codes " forest " ++ decimal (length nodes) ++ codes " nodes " ++ decimal (sum_by (λ node. length node.splits) nodes) ++ codes " splits\n"
 
 -- a forest
-abbrev pub forest_text : ℕ → (SymbolId → List ℕ) → List Node → List ℕ
-forest_text version name nodes = count_line version nodes ++ nodes_text name nodes
+abbrev pub forest_text : List Symbol → ℕ → List Node → List ℕ
+forest_text symbols version nodes = node_count_line version nodes ++ nodes_text (name_of symbols) nodes
+
+-- how a parse came out
+abbrev pub outcome_text : List Symbol → ℕ → Outcome → List ℕ
+outcome_text symbols version (Parsed (ForestOf forest)) = forest_text symbols version forest.nodes
+outcome_text symbols version (Parsed NoSentence) = no_sentence_line version
+outcome_text symbols version (Scan error) = scan_line (codes "parse") version error
+outcome_text symbols version TooLarge = too_large_line version
+
+-- how many tokens a text has
+unfoldable pub token_count_line : ℕ → ℕ → List ℕ
+token_count_line version count = head (codes "tokens") version ++ codes " count " ++ decimal count ++ codes "\n"
+
+-- the tokens of a text
+abbrev pub token_lines : List Symbol → ℕ → List Token → List ℕ
+token_lines symbols version found = token_count_line version (length found) ++ tokens_text symbols found
+
+-- what a scan gave
+abbrev pub result_text : List Symbol → ℕ → Result (List Token) ScanError → List ℕ
+result_text symbols version (Ok found) = token_lines symbols version found
+result_text symbols version (Err error) = scan_line (codes "tokens") version error
+
+-- ---- replies
+
+-- the lines of a reply, where the symbols have these numbers
+abbrev pub reply_text : List Symbol → Reply → List ℕ
+reply_text symbols (Edited version) = version_line version
+reply_text symbols (Refused why) = refusal_line why
+reply_text symbols (Parse version outcome) = outcome_text symbols version outcome
+reply_text symbols (Tokens version result) = result_text symbols version result
 
 -- ---- bad scripts
 

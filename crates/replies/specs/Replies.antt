@@ -1,39 +1,66 @@
 -- The replies to commands.
-use Rattle.std.specs.Prelude.{◌≡◌, ◌<◌, ◌≤◌, ℕ, ◌+◌, List, [], ◌∷◌, ◌++◌, length, Option, Some, None}
+use Rattle.std.specs.Prelude.{◌≡◌, ◌<◌, ◌≤◌, ℕ, ◌+◌, List, [], ◌∷◌, ◌++◌, length, map, Option, Some, None, Result, Ok, Err}
 use Rattle.grammar_text.specs.declared.edit.Edit.{Edit as AnEdit}
-use Rattle.grammar_text.specs.declared.edit.Edit.TheVariants.{AddRule, DropRule, AddToken, DropToken, AddSkip, DropSkip}
+use Rattle.forest.specs.declared.symbols.SymbolId.{SymbolId}
 use Rattle.forest.specs.declared.symbols.Token.{Token}
+use Rattle.forest.specs.declared.rules.Rule.{Rule}
 use Rattle.forest.specs.declared.forest.Forest.{Forest}
 use Rattle.forest.specs.Derivation.{IsSentence}
 use Rattle.forest.specs.Forests.{IsForestOf}
-use Rattle.plain_chart.specs.declared.TheConstants.{MOST_TOKENS}
+use Rattle.plain_chart.specs.declared.limits.TheConstants.{MOST_TOKENS}
 use Rattle.edit_log.specs.declared.refusal.Refusal.{Refusal}
-use Rattle.edit_log.specs.declared.refusal.Refusal.TheVariants.{NameClash, Exists, NoSuch, LogFull}
 use Rattle.edit_log.specs.History.{Grammar, after}
-use Rattle.edit_log.specs.Verdict.{verdict, IsProper}
-use Rattle.edit_log.specs.Tokens.{tokens, no_token as no_token_at, too_many as too_many_at, Tokenizes}
+use Rattle.edit_log.specs.Verdict.{verdict}
+use Rattle.edit_log.specs.Tokens.{tokens, no_token, too_many, Tokenizes}
+use Rattle.isg_scan.specs.declared.scan_error.ScanError.{ScanError}
+use Rattle.isg_scan.specs.declared.scan_error.ScanError.TheVariants.{NoToken, TooManyTokens, NoMemory}
 use Rattle.script_text.specs.declared.command.Command.{Command}
 use Rattle.script_text.specs.declared.command.Command.TheVariants.{Edit, Parse, Tokens, Stats}
 use Rattle.script_text.specs.declared.command.Block.{Block}
-use Rattle.script_text.specs.declared.command.Block.TheVariants.{Alone, Par}
-use Rattle.replies.specs.Lines.{version_line, clash_line, exists_line, absent_line, full_line, no_token_line, too_many_line, too_large_line, no_sentence_line, name_of, forest_text}
-use Rattle.replies.specs.Scans.{kinds_of}
+use Rattle.script_text.specs.declared.command.Block.TheVariants.{Alone}
+use Rattle.replies.specs.declared.reply.Outcome.{Outcome}
+use Rattle.replies.specs.declared.reply.Outcome.TheVariants.{Parsed, Scan, TooLarge}
+use Rattle.replies.specs.declared.reply.Parsed.TheVariants.{Forest as ForestOf, NoSentence}
+use Rattle.replies.specs.declared.reply.Reply.{Reply}
+use Rattle.replies.specs.declared.reply.Reply.TheVariants.{Edited, Refused, Parse as Parsing, Tokens as Scanning}
+use Rattle.replies.specs.Lines.{reply_text}
+
+-- ---- texts
+
+-- the scan of the text is refused for this; never for want of memory
+abbrev pub IsRefusedFor : Grammar → List ℕ → ScanError → Type 0
+IsRefusedFor grammar text (NoToken offset) = Tokenizes grammar text (no_token offset)
+IsRefusedFor grammar text (TooManyTokens offset) = Tokenizes grammar text (too_many offset)
+IsRefusedFor grammar text NoMemory = ⊥
+
+-- the tokens of the text, or why it has none
+abbrev pub IsResult : Grammar → List ℕ → Result (List Token) ScanError → Type 0
+IsResult grammar text (Ok found) = Tokenizes grammar text (tokens found)
+IsResult grammar text (Err error) = IsRefusedFor grammar text error
+
+-- the kinds of tokens
+abbrev pub kinds_of : List Token → List SymbolId
+kinds_of found = map (λ token. token.kind) found
+
+-- how tokens of these kinds are parsed
+pub data IsParse (rules : List Rule) (kinds : List SymbolId) : Outcome → Type 0 where
+  too_large : MOST_TOKENS < length kinds → IsParse rules kinds TooLarge
+  forest : {parsed : Forest} → length kinds ≤ MOST_TOKENS → IsForestOf rules kinds parsed → IsParse rules kinds (Parsed (ForestOf parsed))
+  no_sentence : length kinds ≤ MOST_TOKENS → (IsSentence rules kinds → ⊥) → IsParse rules kinds (Parsed NoSentence)
+
+-- how the text is parsed: its scan is refused, or its tokens are parsed
+pub data IsOutcome (grammar : Grammar) (text : List ℕ) : Outcome → Type 0 where
+  scan : {error : ScanError} → IsRefusedFor grammar text error → IsOutcome grammar text (Scan error)
+  parse : {found : List Token} {outcome : Outcome} → Tokenizes grammar text (tokens found) → IsParse grammar.rules (kinds_of found) outcome → IsOutcome grammar text outcome
+
+-- ---- commands
 
 -- the reply to a command, under the grammar that the commands before it made
-pub data IsReply (grammar : Grammar) : Command → List ℕ → Type 0 where
-  taken : {edit : AnEdit} → verdict grammar edit ≡ None → IsReply grammar (Edit edit) (version_line (grammar.version + 1))
-  clash : {edit : AnEdit} {name : List ℕ} → verdict grammar edit ≡ Some (NameClash name) → IsReply grammar (Edit edit) (clash_line name)
-  exists : {edit : AnEdit} {number : ℕ} → verdict grammar edit ≡ Some (Exists number) → IsReply grammar (Edit edit) (exists_line number)
-  absent : {edit : AnEdit} → verdict grammar edit ≡ Some NoSuch → IsReply grammar (Edit edit) absent_line
-  full : {edit : AnEdit} {version : ℕ} → verdict grammar edit ≡ Some (LogFull version) → IsReply grammar (Edit edit) (full_line version)
-  no_token : {text : List ℕ} {offset : ℕ} → Tokenizes grammar text (no_token_at offset) → IsReply grammar (Parse text) (no_token_line grammar.version offset)
-  too_many : {text : List ℕ} {offset : ℕ} → Tokenizes grammar text (too_many_at offset) → IsReply grammar (Parse text) (too_many_line grammar.version offset)
-  too_large : {text : List ℕ} {found : List Token} → Tokenizes grammar text (tokens found) → MOST_TOKENS < length found →
-      IsReply grammar (Parse text) (too_large_line grammar.version)
-  forest : {text : List ℕ} {found : List Token} {parsed : Forest} → Tokenizes grammar text (tokens found) → length found ≤ MOST_TOKENS →
-      IsForestOf grammar.rules (kinds_of found) parsed → IsReply grammar (Parse text) (forest_text grammar.version (name_of grammar.symbols) parsed.nodes)
-  no_sentence : {text : List ℕ} {found : List Token} → Tokenizes grammar text (tokens found) → length found ≤ MOST_TOKENS →
-      (IsSentence grammar.rules (kinds_of found) → ⊥) → IsReply grammar (Parse text) (no_sentence_line grammar.version)
+pub data IsReply (grammar : Grammar) : Command → Reply → Type 0 where
+  taken : {edit : AnEdit} → verdict grammar edit ≡ None → IsReply grammar (Edit edit) (Edited (grammar.version + 1))
+  refused : {edit : AnEdit} {why : Refusal} → verdict grammar edit ≡ Some why → IsReply grammar (Edit edit) (Refused why)
+  parsed : {text : List ℕ} {outcome : Outcome} → IsOutcome grammar text outcome → IsReply grammar (Parse text) (Parsing grammar.version outcome)
+  scanned : {text : List ℕ} {result : Result (List Token) ScanError} → IsResult grammar text result → IsReply grammar (Tokens text) (Scanning grammar.version result)
 
 -- an edit that is taken changes the grammar, and a refused one leaves it
 abbrev pub unless_refused : Option Refusal → Grammar → AnEdit → Grammar
@@ -47,51 +74,8 @@ grammar_after grammar (Parse text) = grammar
 grammar_after grammar (Tokens text) = grammar
 grammar_after grammar Stats = grammar
 
--- the replies to the commands, one after the other, from this grammar on
+-- the lines of the replies to the commands, one after the other, from this grammar on
 pub data AreReplies : Grammar → List Block → List ℕ → Type 0 where
   none : {grammar : Grammar} → AreReplies grammar [] []
-  more : {grammar : Grammar} {command : Command} {blocks : List Block} {reply replies : List ℕ} →
-      IsReply grammar command reply → AreReplies (grammar_after grammar command) blocks replies → AreReplies grammar (Alone command ∷ blocks) (reply ++ replies)
-
--- ---- what is answered at this stage
-
--- the edit adds or drops a rule
-abbrev pub IsOfRule : AnEdit → Type 0
-IsOfRule (AddRule r) = Unit {0}
-IsOfRule (DropRule r) = Unit {0}
-IsOfRule (AddToken d) = ⊥
-IsOfRule (DropToken name) = ⊥
-IsOfRule (AddSkip d) = ⊥
-IsOfRule (DropSkip name) = ⊥
-
--- an edit of a rule, or a text
-abbrev pub IsAnswerable : Command → Type 0
-IsAnswerable (Edit edit) = IsProper edit × IsOfRule edit
-IsAnswerable (Parse text) = Unit {0}
-IsAnswerable (Tokens text) = ⊥
-IsAnswerable Stats = ⊥
-
-abbrev pub IsAnswerableBlock : Block → Type 0
-IsAnswerableBlock (Alone command) = IsAnswerable command
-IsAnswerableBlock (Par commands) = ⊥
-
--- the grammar after a block
-abbrev pub grammar_behind : Grammar → Block → Grammar
-grammar_behind grammar (Alone command) = grammar_after grammar command
-grammar_behind grammar (Par commands) = grammar
-
--- the grammar after all the blocks, one after the other
-abbrev pub grammar_after_all : Grammar → List Block → Grammar
-grammar_after_all grammar [] = grammar
-grammar_after_all grammar (block ∷ blocks) = grammar_after_all (grammar_behind grammar block) blocks
-
--- the reply to the command was appended
-pub record RepliesWith (grammar : Grammar) (command : Command) (old new : List ℕ) : Type 0 where
-  pub reply : List ℕ
-  pub is : IsReply grammar command reply
-  pub appended : new ≡ old ++ reply
-
--- the reply to the block was appended
-abbrev pub AnswersBlock : Grammar → Block → List ℕ → List ℕ → Type 0
-AnswersBlock grammar (Alone command) old new = RepliesWith grammar command old new
-AnswersBlock grammar (Par commands) old new = ⊥
+  more : {grammar : Grammar} {command : Command} {blocks : List Block} {reply : Reply} {replies : List ℕ} →
+      IsReply grammar command reply → AreReplies (grammar_after grammar command) blocks replies → AreReplies grammar (Alone command ∷ blocks) (reply_text grammar.symbols reply ++ replies)

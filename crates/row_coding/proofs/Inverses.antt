@@ -8,10 +8,10 @@ use Rattle.item_sets.specs.declared.item.Item.{Item}
 use Rattle.isg_states.specs.declared.mark.Mark.{Mark}
 use Rattle.isg_states.specs.Marks.{definition_number, mark_number}
 use Rattle.row_coding.specs.Words.{item_word}
-use Rattle.row_coding.specs.Reading.{symbol_of, rule_of, item_of, definition_of_number, mark_of}
+use Rattle.row_coding.specs.Reading.{symbol_of, rule_id, item_of, definition_of_number, mark_of}
 
 abbrev item_with : ℕ → ℕ → Item
-item_with rule dot = record { rule = rule_of rule; dot = dot }
+item_with rule dot = record { rule = rule_id rule; dot = dot }
 
 abbrev mark_with : DefId → ℕ → Mark
 mark_with definition index = record { def = definition; index = index }
@@ -35,12 +35,12 @@ items_back (item ∷ items) small =
     ap (λ i. i ∷ map item_of (map item_word items)) (item_back item (All-head HasSmallDot item items small))
     ∙ ap (λ is. item ∷ is) (items_back items (All-tail HasSmallDot item items small))
 
-pub rules_back : (rules : List RuleId) → map rule_of (map (λ rule. rule.0) rules) ≡ rules
+pub rules_back : (rules : List RuleId) → map rule_id (map (λ rule. rule.0) rules) ≡ rules
 rules_back [] = refl
 rules_back (rule ∷ rules) = ap (λ rs. rule ∷ rs) (rules_back rules)
 
 abbrev definition_from : ℕ → ℕ → DefId
-definition_from remainder half = cond (eqb remainder 0) (literal (symbol_of half)) (named (rule_of half))
+definition_from remainder half = cond (eqb remainder 0) (literal (symbol_of half)) (named (rule_id half))
 
 definition_back : (definition : DefId) → definition_of_number (definition_number definition) ≡ definition
 definition_back (literal symbol) =
@@ -50,7 +50,7 @@ definition_back (literal symbol) =
 definition_back (named number) =
     let odd : (2 * number.0 + 1) % 2 ≡ 1 = omega arith in
     let half : (2 * number.0 + 1) / 2 ≡ number.0 = omega arith in
-    ap (λ r. definition_from r ((2 * number.0 + 1) / 2)) odd ∙ ap (λ n. named (rule_of n)) half
+    ap (λ r. definition_from r ((2 * number.0 + 1) / 2)) odd ∙ ap (λ n. named (rule_id n)) half
 
 divided : (number index : ℕ) → index < 256 → (number * 256 + index) / 256 ≡ number
 divided number index small = omega arith

@@ -1,5 +1,6 @@
 -- What is read from the words of moves is what was coded.
-use Rattle.std.proofs.Common.{◌≡◌, ℕ, ◌+◌, ◌-◌, ◌<◌, ◌/◌, ◌^◌, List, [], ◌∷◌, ◌++◌, length, get_or, take, drop, map, flat_map, All, sym, ap, ◌∙◌, subst, arith, length-append}
+use Rattle.std.proofs.Common.{◌≡◌, ℕ, ◌+◌, ◌-◌, ◌<◌, ◌/◌, ◌^◌, List, [], ◌∷◌, ◌++◌, length, get_or, take, drop, map, flat_map, All, sym, ap, ◌∙◌, subst, arith}
+use Rattle.std.proofs.Common.{length-append}
 use Rattle.std.proofs.lemmas.List.{length-map, take_rest, drop_at}
 use Rattle.std.specs.List.Sorted.{IsStrictlySortedBy}
 use Rattle.std.proofs.lemmas.List.Elements.{All-head, All-tail, All-cons, All-nil, All-get_or, All-map}
@@ -9,7 +10,7 @@ use Rattle.item_sets.specs.declared.expansion.Expansion.{Expansion}
 use Rattle.item_sets.specs.Orders.{item_cmp}
 use Rattle.row_coding.specs.Words.{item_word, move_words, item_payload_words}
 use Rattle.row_coding.specs.Conditions.{FitsCoding, IsTypedItem, IsTyped}
-use Rattle.row_coding.specs.Reading.{Move, symbol_of, item_of, piece_of, rest_of, AreItemWords, BeginWithMove, BeginWithMoves, IsReadable}
+use Rattle.row_coding.specs.Reading.{Move, symbol_of, item_of, counted_words, rest_of, AreItemWords, BeginWithMove, BeginWithMoves, IsReadable}
 use Rattle.row_coding.proofs.PiecesWritten.{next_piece}
 use Rattle.row_coding.proofs.PiecesRead.{first_word, is_piece, own_words, words_after}
 use Rattle.row_coding.proofs.Inverses.{rule_in_word, items_back, HasSmallDot}
@@ -46,9 +47,9 @@ module _ (words : List ℕ) (move : Move) (after : List ℕ) (readable : IsReada
     items = subst AreItemWords (sym (own_words words move.0.0 (map item_word move.1) after piece)) (are_item_words move readable);
   }
 
-  pub move_read : (symbol_of (get_or words 0 0), map item_of (piece_of words)) ≡ move
+  pub move_read : (symbol_of (get_or words 0 0), map item_of (counted_words words)) ≡ move
   move_read =
-      ap (λ n. (symbol_of n, map item_of (piece_of words))) (first_word words move.0.0 (map item_word move.1) after piece)
+      ap (λ n. (symbol_of n, map item_of (counted_words words))) (first_word words move.0.0 (map item_word move.1) after piece)
       ∙ ap (λ ws. (move.0, map item_of ws)) (own_words words move.0.0 (map item_word move.1) after piece)
       ∙ ap (λ items. (move.0, items)) (items_back move.1 readable.dots)
 
@@ -75,7 +76,7 @@ module _ (words now rest : List ℕ) (moves : List Move) (i : ℕ) (begin : Begi
   pub begin_with_next : BeginWithMove now
   begin_with_next = begin_with_move now move (flat_map move_words (drop (i + 1) moves) ++ rest) readable next
 
-  pub next_read : (symbol_of (get_or now 0 0), map item_of (piece_of now)) ≡ get_or moves i (symbol_of 0, [])
+  pub next_read : (symbol_of (get_or now 0 0), map item_of (counted_words now)) ≡ get_or moves i (symbol_of 0, [])
   unfolding move no_move
   next_read = move_read now move (flat_map move_words (drop (i + 1) moves) ++ rest) readable next
 

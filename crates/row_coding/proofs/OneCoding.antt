@@ -1,5 +1,6 @@
 -- What has the same words is the same.
-use Rattle.std.proofs.Common.{◌≡◌, ℕ, ◌+◌, ◌*◌, ◌<◌, List, [], ◌∷◌, ◌++◌, length, take, drop, map, flat_map, All, Contains, get_or, refl, sym, ap, ◌∙◌, subst, arith, append_assoc}
+use Rattle.std.proofs.Common.{◌≡◌, ℕ, ◌+◌, ◌*◌, ◌<◌, List, [], ◌∷◌, ◌++◌, length, take, drop, map, flat_map, All, Contains, get_or, refl, sym, ap, ◌∙◌, subst}
+use Rattle.std.proofs.Common.{arith, append_assoc}
 use Rattle.std.proofs.lemmas.List.{take_at, drop_at, length-map, get_or_default}
 use Rattle.std.proofs.lemmas.List.Elements.{All-head, All-tail}
 use Rattle.std.proofs.lemmas.Map.Keys.{IsStrictlySortedBy-prop}
@@ -18,7 +19,7 @@ use Rattle.row_coding.specs.Words.{item_word, move_words, item_payload_words, ma
 use Rattle.row_coding.specs.Conditions.{FitsCoding, FitsRange, FitsScanCoding}
 use Rattle.row_coding.specs.Rows.{Key, key_words, FitsKey}
 use Rattle.row_coding.specs.Rows.Key.{kernel, scan}
-use Rattle.row_coding.specs.Reading.{Move, symbol_of, rule_of, item_of, mark_of}
+use Rattle.row_coding.specs.Reading.{Move, symbol_of, rule_id, item_of, mark_of}
 use Rattle.row_coding.proofs.Inverses.{items_back, HasSmallDot, rules_back, marks_back, HasSmallIndex}
 
 -- what holds of each member holds at each place
@@ -103,7 +104,7 @@ one_item_payload a b fa fb e =
     let tails : flat_map move_words a.moves ++ rules_a ≡ flat_map move_words b.moves ++ rules_b = cc in
     let parts = one_list move_words FitsMove one_move a.moves b.moves rules_a rules_b
     (fits_moves a fa) (fits_moves b fb) len tails in
-    same_expansion a b parts.0 (sym (rules_back a.reductions) ∙ ap (map rule_of) parts.1 ∙ rules_back b.reductions)
+    same_expansion a b parts.0 (sym (rules_back a.reductions) ∙ ap (map rule_id) parts.1 ∙ rules_back b.reductions)
 
 -- ranges
 abbrev range_with : ℕ → ℕ → ScanKey → Range

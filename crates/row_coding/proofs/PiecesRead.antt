@@ -1,7 +1,7 @@
 -- A piece at the front of a list of words: its first word, its own words, and what follows.
 use Rattle.std.proofs.Common.{◌≡◌, ℕ, ◌+◌, List, ◌∷◌, ◌++◌, length, get_or, take, drop, refl, ap, ◌∙◌, arith, length-append}
 use Rattle.std.proofs.lemmas.List.{take_at, drop_at}
-use Rattle.row_coding.specs.Reading.{IsPiece, piece_of, rest_of}
+use Rattle.row_coding.specs.Reading.{IsCounted, counted_words, rest_of}
 
 module _ (words : List ℕ) (head : ℕ) (own after : List ℕ) (is : words ≡ head ∷ length own ∷ (own ++ after)) where
   pub first_word : get_or words 0 0 ≡ head
@@ -10,13 +10,13 @@ module _ (words : List ℕ) (head : ℕ) (own after : List ℕ) (is : words ≡ 
   count_word : get_or words 1 0 ≡ length own
   count_word = ap (λ ws. get_or ws 1 0) is
 
-  pub is_piece : IsPiece words
+  pub is_piece : IsCounted words
   is_piece = record {
     some = omega (arith, ap length is);
     whole = omega (arith, ap length is, count_word, length-append own after);
   }
 
-  pub own_words : piece_of words ≡ own
+  pub own_words : counted_words words ≡ own
   own_words = ap (λ n. take n (drop 2 words)) count_word ∙ ap (λ ws. take (length own) (drop 2 ws)) is ∙ take_at own after (length own) refl
 
   pub words_after : rest_of words ≡ after

@@ -1,5 +1,6 @@
 -- What is read from the words of ranges is what was coded.
-use Rattle.std.proofs.Common.{◌≡◌, ℕ, ◌+◌, ◌-◌, ◌*◌, ◌<◌, ◌/◌, ◌%◌, ◌^◌, List, [], ◌∷◌, ◌++◌, length, get_or, take, drop, map, flat_map, All, sym, ap, ◌∙◌, subst, arith}
+use Rattle.std.proofs.Common.{◌≡◌, ℕ, ◌+◌, ◌-◌, ◌*◌, ◌<◌, ◌/◌, ◌%◌, ◌^◌, List, [], ◌∷◌, ◌++◌, length, get_or, take, drop, map, flat_map, All, sym, ap, ◌∙◌}
+use Rattle.std.proofs.Common.{subst, arith}
 use Rattle.std.proofs.lemmas.List.{length-map, take_rest, append-nil}
 use Rattle.std.proofs.lemmas.List.Elements.{All-head, All-tail, All-cons, All-nil, All-get_or}
 use Rattle.edit_log.specs.declared.definitions.DefId.{DefId}
@@ -12,7 +13,7 @@ use Rattle.isg_states.specs.Marks.{definition_number, mark_number, AreAscending}
 use Rattle.isg_states.specs.Expansion.{Range}
 use Rattle.row_coding.specs.Words.{marks_in, range_words, scan_payload_words}
 use Rattle.row_coding.specs.Conditions.{FitsScanCoding, IsTypedDefinition, IsTypedScan}
-use Rattle.row_coding.specs.Reading.{mark_of, range_of, piece_of, rest_of, AreMarkWords, BeginWithRange, BeginWithRanges, IsReadableRange}
+use Rattle.row_coding.specs.Reading.{mark_of, range_of, counted_words, rest_of, AreMarkWords, BeginWithRange, BeginWithRanges, IsReadableRange}
 use Rattle.row_coding.proofs.PiecesWritten.{next_piece}
 use Rattle.row_coding.proofs.PiecesRead.{first_word, is_piece, own_words, words_after}
 use Rattle.row_coding.proofs.Inverses.{marks_back, HasSmallIndex}
@@ -73,14 +74,14 @@ module _ (range : Range) (readable : IsReadableRange range) where
       marks = subst AreMarkWords (sym (own_words words head own after piece)) are_mark_words;
     }
 
-    pub range_read : range_of (get_or words 0 0) (piece_of words) ≡ range
+    pub range_read : range_of (get_or words 0 0) (counted_words words) ≡ range
     unfolding head own
     range_read =
         let low : (range.0 * 256 + range.1) / 256 ≡ range.0 = omega (arith, readable.fits.high) in
         let high : (range.0 * 256 + range.1) % 256 ≡ range.1 = omega (arith, readable.fits.high) in
         let with_ends : ℕ → ℕ → Range = λ l h. (l, h, Set (map mark_of own)) in
         let with_key : ScanKey → Range = λ key. (range.0, range.1, key) in
-        ap (λ n. range_of n (piece_of words)) (first_word words head own after piece) ∙ ap (λ ws. range_of head ws) (own_words words head own after piece)
+        ap (λ n. range_of n (counted_words words)) (first_word words head own after piece) ∙ ap (λ ws. range_of head ws) (own_words words head own after piece)
         ∙ ap (λ l. with_ends l (head % 256)) low ∙ ap (λ h. with_ends range.0 h) high
         ∙ ap (λ ms. with_key (Set ms)) (marks_back readable.fits.marks small) ∙ ap with_key (sym readable.fits.is)
 
@@ -107,7 +108,7 @@ module _ (words now rest : List ℕ) (ranges : List Range) (i : ℕ) (begin : Be
   pub begin_with_next : BeginWithRange now
   begin_with_next = begin_with_range range readable now (flat_map range_words (drop (i + 1) ranges) ++ rest) next
 
-  pub next_read : range_of (get_or now 0 0) (piece_of now) ≡ get_or ranges i (0, 0, Start)
+  pub next_read : range_of (get_or now 0 0) (counted_words now) ≡ get_or ranges i (0, 0, Start)
   unfolding range no_range
   next_read = range_read range readable now (flat_map range_words (drop (i + 1) ranges) ++ rest) next
 

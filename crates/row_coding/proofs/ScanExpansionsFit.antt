@@ -8,7 +8,7 @@ use Rattle.edit_log.specs.declared.definitions.DefId.{DefId}
 use Rattle.edit_log.specs.declared.definitions.DefId.TheVariants.{Literal as literal, Named as named}
 use Rattle.edit_log.specs.History.{Definition, Grammar}
 use Rattle.edit_log.specs.Facts.{IsNumber, IsWellFormed}
-use Rattle.edit_log.proofs.LiveFacts.{found_there}
+use Rattle.edit_log.proofs.LiveByUses.{found_there}
 use Rattle.isg_states.specs.declared.mark.Mark.{Mark}
 use Rattle.isg_states.specs.declared.scan_key.ScanKey.{ScanKey}
 use Rattle.isg_states.specs.declared.scan_key.ScanKey.TheVariants.{Set}

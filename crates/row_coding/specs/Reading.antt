@@ -15,13 +15,13 @@ use Rattle.row_coding.specs.Words.{move_words, range_words}
 use Rattle.row_coding.specs.Conditions.{IsTypedItem, FitsRange, AreTypedMarks}
 
 -- a first word, the number of the words in the piece, and these
-pub record IsPiece (words : List ℕ) : Type 0 where
+pub record IsCounted (words : List ℕ) : Type 0 where
   pub some : 1 < length words
   pub whole : slice_index words 1 + 2 ≤ length words
 
 -- the words in the piece that these begin with
-abbrev pub piece_of : List ℕ → List ℕ
-piece_of words = take (slice_index words 1) (drop 2 words)
+abbrev pub counted_words : List ℕ → List ℕ
+counted_words words = take (slice_index words 1) (drop 2 words)
 
 -- what follows that piece
 abbrev pub rest_of : List ℕ → List ℕ
@@ -30,12 +30,12 @@ rest_of words = drop (slice_index words 1 + 2) words
 abbrev pub symbol_of : ℕ → SymbolId
 symbol_of word = record { 0 = word }
 
-abbrev pub rule_of : ℕ → RuleId
-rule_of word = record { 0 = word }
+abbrev pub rule_id : ℕ → RuleId
+rule_id word = record { 0 = word }
 
 -- the item in a word
 abbrev pub item_of : ℕ → Item
-item_of word = record { rule = rule_of (word / 32); dot = word % 32 }
+item_of word = record { rule = rule_id (word / 32); dot = word % 32 }
 
 -- the words are items of rules of 32 bits, and the items ascend
 pub record AreItemWords (words : List ℕ) : Type 0 where
@@ -48,9 +48,9 @@ Move = SymbolId × List Item
 
 -- the words begin with the piece of a move
 pub record BeginWithMove (words : List ℕ) : Type 0 where
-  pub piece : IsPiece words
+  pub piece : IsCounted words
   pub symbol : slice_index words 0 < 2 ^ 32
-  pub items : AreItemWords (piece_of words)
+  pub items : AreItemWords (counted_words words)
 
 -- the move can be read from its words
 pub record IsReadable (move : Move) : Type 0 where
@@ -66,7 +66,7 @@ pub record BeginWithMoves (words : List ℕ) (moves : List Move) (rest : List �
 
 -- the definition with this number
 abbrev pub definition_of_number : ℕ → DefId
-definition_of_number number = if number % 2 == 0 then literal (symbol_of (number / 2)) else named (rule_of (number / 2))
+definition_of_number number = if number % 2 == 0 then literal (symbol_of (number / 2)) else named (rule_id (number / 2))
 
 -- the mark in a word
 abbrev pub mark_of : ℕ → Mark
@@ -83,9 +83,9 @@ pub record AreMarkWords (words : List ℕ) : Type 0 where
 
 -- the words begin with the piece of a range
 pub record BeginWithRange (words : List ℕ) : Type 0 where
-  pub piece : IsPiece words
+  pub piece : IsCounted words
   pub ends : slice_index words 0 < 2 ^ 16
-  pub marks : AreMarkWords (piece_of words)
+  pub marks : AreMarkWords (counted_words words)
 
 -- the range can be read from its words
 pub record IsReadableRange (range : Range) : Type 0 where

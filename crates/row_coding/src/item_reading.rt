@@ -4,10 +4,10 @@ ghost use Rattle.std.specs.Prelude.{◌≡◌, ℕ, ◌<◌, ◌^◌, ◌/◌, L
 ghost use Rattle.item_sets.specs.declared.expansion.Expansion.{Expansion};
 ghost use Rattle.row_coding.specs.Words.{item_payload_words};
 ghost use Rattle.row_coding.specs.Conditions.{FitsCoding, IsTyped};
-ghost use Rattle.row_coding.specs.Reading.{Move, symbol_of, rule_of, item_of, piece_of, AreItemWords, BeginWithMove, BeginWithMoves};
+ghost use Rattle.row_coding.specs.Reading.{Move, symbol_of, rule_id, item_of, counted_words, AreItemWords, BeginWithMove, BeginWithMoves};
 
 use crate::NoMemory;
-use crate::pieces::{piece_of, rest_of};
+use crate::pieces::{counted_words, rest_of};
 use forest::{RuleId, SymbolId};
 use item_sets::{Expansion, Item, Kernel, Moves, Reductions};
 use smallvec::SmallVec;
@@ -43,9 +43,9 @@ fn read_move(
     items: &mut Buffer,
 ) -> Result<(SymbolId, Kernel), NoMemory>
     requires { BeginWithMove words.now }
-    ensures { IfOk result (λ entry. entry ≡ (symbol_of (slice_index words.now 0), map item_of (piece_of words.now))) }
+    ensures { IfOk result (λ entry. entry ≡ (symbol_of (slice_index words.now 0), map item_of (counted_words words.now))) }
 {
-    let kernel = read_kernel(alloc, piece_of(words), items)?;
+    let kernel = read_kernel(alloc, counted_words(words), items)?;
     Ok((SymbolId(words[0] as u32), kernel))
 }
 
@@ -71,7 +71,7 @@ fn read_moves(
 
 fn read_rules(alloc: Global, words: &[u64]) -> Result<Vec<RuleId>, NoMemory>
     requires { All (λ word. word < 2 ^ 32) words.now }
-    ensures { IfOk result (λ found. found.items ≡ map rule_of words.now) }
+    ensures { IfOk result (λ found. found.items ≡ map rule_id words.now) }
 {
     let mut rules = Vec::with_capacity(alloc, words.len())?;
     for word in words {

@@ -5,10 +5,10 @@ ghost use Rattle.isg_states.specs.declared.ranges.ScanExpansion.{ScanExpansion};
 ghost use Rattle.isg_states.specs.Expansion.{Range};
 ghost use Rattle.row_coding.specs.Words.{scan_payload_words};
 ghost use Rattle.row_coding.specs.Conditions.{FitsScanCoding, IsTypedScan};
-ghost use Rattle.row_coding.specs.Reading.{definition_of_number, mark_of, range_of, piece_of, AreMarkWords, BeginWithRange, BeginWithRanges};
+ghost use Rattle.row_coding.specs.Reading.{definition_of_number, mark_of, range_of, counted_words, AreMarkWords, BeginWithRange, BeginWithRanges};
 
 use crate::NoMemory;
-use crate::pieces::{piece_of, rest_of};
+use crate::pieces::{counted_words, rest_of};
 use edit_log::DefId;
 use forest::{RuleId, SymbolId};
 use isg_states::{Mark, Marks, Ranges, ScanExpansion, ScanKey};
@@ -55,9 +55,9 @@ fn read_range(
     marks: &mut Buffer,
 ) -> Result<(u8, u8, ScanKey), NoMemory>
     requires { BeginWithRange words.now }
-    ensures { IfOk result (λ range. range ≡ range_of (slice_index words.now 0) (piece_of words.now)) }
+    ensures { IfOk result (λ range. range ≡ range_of (slice_index words.now 0) (counted_words words.now)) }
 {
-    let set = read_marks(alloc, piece_of(words), marks)?;
+    let set = read_marks(alloc, counted_words(words), marks)?;
     let ends = words[0];
     Ok(((ends / 256) as u8, (ends % 256) as u8, ScanKey::Set(set)))
 }

@@ -4,11 +4,12 @@ use Rattle.grammar_text.specs.declared.edit.Edit.{Edit as AnEdit}
 use Rattle.grammar_text.specs.Spelling.{Spells}
 use Rattle.grammar_text.specs.Limits.{IsWithinLimits}
 use Rattle.script_text.specs.declared.command.Command.{Command}
-use Rattle.script_text.specs.declared.command.Command.TheVariants.{Edit, Parse}
+use Rattle.script_text.specs.declared.command.Command.TheVariants.{Edit, Parse, Tokens}
 use Rattle.script_text.specs.declared.bad_script.BadKind.{BadKind}
-use Rattle.script_text.specs.declared.bad_script.BadKind.TheVariants.{BadEdit, BadText, TextTooLong}
+use Rattle.script_text.specs.declared.bad_script.BadKind.TheVariants.{BadEdit, BadRegex, BadText, TextTooLong}
 use Rattle.script_text.specs.declared.limits.TheConstants.{TEXT_LIMIT}
-use Rattle.script_text.specs.Forms.{Sort, EditLine, ParseLine}
+use Rattle.script_text.specs.Forms.{Sort, EditLine, ParseLine, TokensLine}
+use Rattle.script_text.specs.Expressions.{HasExpression}
 use Rattle.script_text.specs.Texts.{text_of}
 
 -- the text that is written so, within the limit
@@ -18,8 +19,9 @@ pub record SpellsText (written text : List ℕ) : Type 0 where
 
 -- the line, which asks for this, is the command
 pub data SpellsAs : Sort → List ℕ → Command → Type 0 where
-  an_edit : {line : List ℕ} {edit : AnEdit} → Spells line edit → IsWithinLimits edit → SpellsAs EditLine line (Edit edit)
+  an_edit : {line : List ℕ} {edit : AnEdit} → Spells line edit → IsWithinLimits edit → HasExpression edit → SpellsAs EditLine line (Edit edit)
   a_text : {line written text : List ℕ} → SpellsText written text → SpellsAs (ParseLine written) line (Parse text)
+  a_scan : {line written text : List ℕ} → SpellsText written text → SpellsAs (TokensLine written) line (Tokens text)
 
 -- what is wrong with what is written for a text: an escape, or the length of the text
 pub data IsWrongText : List ℕ → BadKind → Type 0 where
@@ -29,4 +31,6 @@ pub data IsWrongText : List ℕ → BadKind → Type 0 where
 -- what is wrong with the line, which asks for this and is no command
 pub data IsWrongAs : Sort → List ℕ → BadKind → Type 0 where
   no_edit : {line : List ℕ} → ((edit : AnEdit) → Spells line edit → IsWithinLimits edit → ⊥) → IsWrongAs EditLine line BadEdit
+  no_expression : {line : List ℕ} {edit : AnEdit} → Spells line edit → IsWithinLimits edit → (HasExpression edit → ⊥) → IsWrongAs EditLine line BadRegex
   no_text : {line written : List ℕ} {kind : BadKind} → IsWrongText written kind → IsWrongAs (ParseLine written) line kind
+  no_scan : {line written : List ℕ} {kind : BadKind} → IsWrongText written kind → IsWrongAs (TokensLine written) line kind

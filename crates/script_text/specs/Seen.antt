@@ -1,16 +1,21 @@
 -- What the types of the reader stand for.
+use Rattle.std.specs.Prelude.{◌≡◌}
+use Rattle.grammar_text.specs.declared.edit.Edit.{Edit as AnEdit}
 use Rattle.script_text.specs.declared.bad_script.BadKind.{BadKind}
+use Rattle.script_text.specs.declared.bad_script.BadKind.TheVariants.{BadRegex}
 use Rattle.script_text.specs.declared.bad_script.Refusal.{Refusal}
 use Rattle.script_text.specs.declared.bad_script.Refusal.TheVariants.{Wrong, OutOfMemory}
 use Rattle.script_text.specs.declared.form.Line.{Line}
 use Rattle.script_text.specs.declared.form.Line.TheVariants.{PassedOver as passed, Unknown, Command}
 use Rattle.script_text.specs.declared.form.Ask.{Ask}
-use Rattle.script_text.specs.declared.form.Ask.TheVariants.{Edit, Parse}
-use Rattle.script_text.specs.Forms.{Sort, EditLine, ParseLine, Form, PassedOver, OtherWord, Asks}
+use Rattle.script_text.specs.declared.form.Ask.TheVariants.{Edit, Parse, Tokens}
+use Rattle.script_text.specs.Expressions.{HasExpression}
+use Rattle.script_text.specs.Forms.{Sort, EditLine, ParseLine, TokensLine, Form, PassedOver, OtherWord, Asks}
 
 abbrev pub sort_seen : Ask → Sort
 sort_seen Edit = EditLine
 sort_seen (Parse written) = ParseLine written.now
+sort_seen (Tokens written) = TokensLine written.now
 
 abbrev pub form_seen : Line → Form
 form_seen passed = PassedOver
@@ -21,3 +26,7 @@ form_seen (Command ask) = Asks (sort_seen ask)
 abbrev pub IsReason : (BadKind → Type 0) → Refusal → Type 0
 IsReason IsWrong (Wrong kind) = IsWrong kind
 IsReason IsWrong OutOfMemory = Unit {0}
+
+-- the edit adds something else than an expression
+abbrev pub LacksExpression : AnEdit → BadKind → Type 0
+LacksExpression edit kind = (kind ≡ BadRegex) × (HasExpression edit → ⊥)

@@ -1,7 +1,7 @@
 //! What a line of a script is, by its command word.
 
 ghost use Rattle.std.specs.Prelude.{◌≡◌, drop};
-ghost use Rattle.script_text.specs.Forms.{is_comment, form_by, form_of};
+ghost use Rattle.script_text.specs.Forms.{is_comment, begins_edit, form_by, form_of};
 ghost use Rattle.script_text.specs.Seen.{form_seen};
 
 use grammar_text::{split_piece, trimmed};
@@ -13,6 +13,8 @@ pub(crate) enum Ask<'a> {
     Edit,
     /// To parse the text that is written so.
     Parse(&'a [u8]),
+    /// To scan the text that is written so into tokens.
+    Tokens(&'a [u8]),
 }
 
 /// A line of a script.
@@ -46,22 +48,27 @@ fn behind_blank(behind: &[u8]) -> &[u8]
     }
 }
 
+/// Whether edits begin with the word.
+fn begins_edit(word: &[u8]) -> bool
+    ensures { result ≡ begins_edit word.now }
+{
+    word == b"rule".as_slice()
+        || word == b"token".as_slice()
+        || word == b"skip".as_slice()
+        || word == b"drop".as_slice()
+}
+
 /// The form of a line with this command word, and these bytes behind it.
 #[tactic(auto, unfolding(crate::specs::Forms::form_by))]
 fn form_by<'a>(word: &[u8], behind: &'a [u8]) -> Line<'a>
     ensures { form_seen result ≡ form_by word.now behind.now }
 {
-    if word == b"rule".as_slice() {
+    if begins_edit(word) {
         Line::Command(Ask::Edit)
-    } else if word == b"drop".as_slice() {
-        let (dropped, _) = split_piece(trimmed(behind));
-        if dropped == b"rule".as_slice() {
-            Line::Command(Ask::Edit)
-        } else {
-            Line::Unknown
-        }
     } else if word == b"parse".as_slice() {
         Line::Command(Ask::Parse(behind_blank(behind)))
+    } else if word == b"tokens".as_slice() {
+        Line::Command(Ask::Tokens(behind_blank(behind)))
     } else {
         Line::Unknown
     }

@@ -1,8 +1,11 @@
 //! Laws of scripts.
 
-ghost use Rattle.std.specs.Prelude.{◌≡◌, ◌⊎◌, List, ℕ};
+ghost use Rattle.std.specs.Prelude.{◌≡◌, ◌⊎◌, List, ℕ, IsTrue};
+ghost use Rattle.grammar_text.specs.declared.edit.Edit.{Edit};
+ghost use Rattle.grammar_text.specs.Spelling.{keyword_of};
 ghost use Rattle.script_text.specs.declared.command.Script.{Script};
 ghost use Rattle.script_text.specs.declared.bad_script.BadScript.{BadScript};
+ghost use Rattle.script_text.specs.Forms.{begins_edit};
 ghost use Rattle.script_text.specs.Scripts.{SpellsScript, IsFirstBad};
 
 /// A text spells at most one script.
@@ -17,4 +20,9 @@ pub fn has_first_bad()
     ensures not_both { (bytes : List ℕ) (script : Script) (bad : BadScript) →
         SpellsScript bytes script → IsFirstBad bytes bad → ⊥ }
     ensures one { (bytes : List ℕ) (a b : BadScript) → IsFirstBad bytes a → IsFirstBad bytes b → a ≡ b }
+{}
+
+/// A line that begins as some edit does is read as an edit.
+pub fn edit_words()
+    ensures { (edit : Edit) → IsTrue (begins_edit (keyword_of edit)) }
 {}

@@ -14,6 +14,6 @@ mod texts;
 
 pub use bad_script::{BadKind, BadScript, ScriptError};
 pub use command::{Block, Blocks, Command, Commands, Script};
-pub use laws::{has_first_bad, one_script};
+pub use laws::{edit_words, has_first_bad, one_script};
 pub use limits::{COMMAND_LIMIT, SCRIPT_LIMIT, TEXT_LIMIT, limits_of_scripts};
 pub use script::read_script;

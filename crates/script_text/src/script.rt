@@ -14,10 +14,11 @@ use std::alloc::Global;
 /// Reads a script.
 ///
 /// A line ends before a byte 10, or at the end of the bytes. Blank lines and lines that begin with `#` behind
-/// blanks are passed over. Any other line is one command: `rule E ::= E "+" E` and `drop rule E ::= E "+" E`
-/// change the grammar, as `grammar_text::read_edit` reads them. `parse` asks to parse the text that stands
-/// behind it and one blank, up to the line's end; in it `\n`, `\t` and `\\` stand for a line's end, a tab and a
-/// backslash. The error is that of the first bad line.
+/// blanks are passed over. Any other line is one command. Those that begin with `rule`, `token`, `skip` or `drop`
+/// change the grammar, as `grammar_text::read_edit` reads them; an expression that they add is one that
+/// `regex_ast::read_regex` reads. `parse` asks to parse the text that stands behind it and one blank, up to the
+/// line's end, and `tokens` to scan it; in it `\n`, `\t` and `\\` stand for a line's end, a tab and a backslash.
+/// The error is that of the first bad line.
 pub fn read_script(alloc: Global, bytes: &[u8]) -> Result<Script, ScriptError>
     requires { length bytes.now ≤ SCRIPT_LIMIT }
 

@@ -1,5 +1,6 @@
 -- A script has one output at most.
-use Rattle.std.proofs.Common.{◌≡◌, IfSome, ℕ, ◌≤◌, List, [], ◌∷◌, ◌++◌, length, take, Some, None, Option, refl, ap, sym, ◌∙◌, subst, arith, append_assoc, length-append}
+use Rattle.std.proofs.Common.{◌≡◌, IfSome, ℕ, ◌≤◌, List, [], ◌∷◌, ◌++◌, length, take, Some, None, Option, refl, ap, sym, ◌∙◌, subst, arith, append_assoc}
+use Rattle.std.proofs.Common.{length-append}
 use Rattle.std.proofs.lemmas.List.{take-append-le}
 use Rattle.bench_io.specs.Known.{Takes, IsKnownAs}
 use Rattle.bench_io.proofs.Chains.{Takes-none}
@@ -9,11 +10,11 @@ use Rattle.script_text.specs.declared.command.Block.{Block}
 use Rattle.script_text.specs.declared.command.Block.TheVariants.{Alone, Par}
 use Rattle.script_text.specs.declared.command.Script.{Script}
 use Rattle.script_text.proofs.ScriptLaws.{one_script, not_both, one_bad}
-use Rattle.workbench.specs.Pieces.{TakesPrefix, TakesPart}
-use Rattle.replies.specs.Lines.{bad_line}
+use Rattle.workbench.specs.Pieces.{TakesPrefix, TakesProperPrefix}
+use Rattle.replies.specs.Lines.{bad_line, reply_text}
 use Rattle.replies.specs.Replies.{grammar_after, AreReplies, none, more}
 use Rattle.workbench.specs.Output.{IsOutput, replies, refusal}
-use Rattle.workbench.specs.Runs.{TakesFront, of_replies, of_refusal}
+use Rattle.workbench.specs.Runs.{StopsInOutput, of_replies, of_refusal}
 use Rattle.replies.proofs.OneReply.{one_reply}
 
 -- ---- blocks have one list of replies
@@ -22,7 +23,7 @@ same_replies : (grammar : Grammar) (blocks : List Block) (a b : List ℕ) → Ar
 same_replies grammar [] _ _ none none = refl
 same_replies grammar (Par commands ∷ blocks) a b e f = elim e [ ]
 same_replies grammar (Alone command ∷ blocks) _ _ (more {reply = r} {replies = rs} one others) (more {reply = s} {replies = ss} one' others') =
-    let first : r ≡ s = one_reply grammar command r s one one' in
+    let first : reply_text grammar.symbols r ≡ reply_text grammar.symbols s = ap (reply_text grammar.symbols) (one_reply grammar command r s one one') in
     let rest : rs ≡ ss = same_replies (grammar_after grammar command) blocks rs ss others others' in
     (λ i. first i ++ rest i)
 
@@ -31,13 +32,14 @@ record GoesOn (output whole : List ℕ) : Type 0 where
   behind : List ℕ
   is : whole ≡ output ++ behind
 
-front : (grammar : Grammar) (first others : List Block) (output whole : List ℕ) → AreReplies grammar first output → AreReplies grammar (first ++ others) whole → GoesOn output whole
+front : (grammar : Grammar) (first others : List Block) (output whole : List ℕ) → AreReplies grammar first output → AreReplies grammar (first ++ others) whole
+    → GoesOn output whole
 front grammar [] others _ whole none all = record { behind = whole; is = refl }
 front grammar (Par commands ∷ first) others output whole part all = elim part [ ]
 front grammar (Alone command ∷ first) others _ _ (more {reply = r} {replies = rs} one rest) (more {reply = s} {replies = ss} one' rest') =
-    let same : s ≡ r = one_reply grammar command s r one' one in
+    let same : reply_text grammar.symbols s ≡ reply_text grammar.symbols r = ap (reply_text grammar.symbols) (one_reply grammar command s r one' one) in
     let further = front (grammar_after grammar command) first others rs ss rest rest' in
-    record { behind = further.behind; is = (λ i. same i ++ further.is i) ∙ sym (append_assoc r rs further.behind) }
+    record { behind = further.behind; is = (λ i. same i ++ further.is i) ∙ sym (append_assoc (reply_text grammar.symbols r) rs further.behind) }
 
 -- ---- a script has one output
 
@@ -60,10 +62,11 @@ front_of_part old new part whole on prefix =
     (prefix.0, long, subst (Takes old new) (sym same) prefix.2)
 
 -- a part is a prefix
-pub part_is_front : (old new : Option (List ℕ)) (bytes : List ℕ) → TakesPart old new bytes → TakesPrefix old new bytes
+pub part_is_front : (old new : Option (List ℕ)) (bytes : List ℕ) → TakesProperPrefix old new bytes → TakesPrefix old new bytes
 part_is_front old new bytes part = let less = part.1 in (part.0, omega (arith, less), part.2)
 
-pub front_of_output : (script : List ℕ) (old new : Option (List ℕ)) → TakesFront old new script → (output : List ℕ) → IsOutput script output → TakesPrefix old new output
+pub front_of_output : (script : List ℕ) (old new : Option (List ℕ)) → StopsInOutput old new script → (output : List ℕ) → IsOutput script output
+    → TakesPrefix old new output
 front_of_output script old new (of_replies read spelled first) output (replies other short spelled' are) =
     let same = one_script script other read spelled' spelled in
     let blocks : other.blocks ≡ first.first ++ first.others = ap (λ (r : Script). r.blocks) same ∙ first.parts in
@@ -71,7 +74,8 @@ front_of_output script old new (of_replies read spelled first) output (replies o
     front_of_part old new first.output output whole first.taken
 front_of_output script old new (of_replies read spelled first) output (refusal bad short is) = absurd (not_both script read bad spelled is)
 front_of_output script old new (of_refusal bad is part) output (replies read short spelled are) = absurd (not_both script read bad spelled is)
-front_of_output script old new (of_refusal bad is part) _ (refusal other short is') = subst (TakesPrefix old new) (ap bad_line (one_bad script bad other is is')) (part_is_front old new (bad_line bad) part)
+front_of_output script old new (of_refusal bad is part) _ (refusal other short is') =
+    subst (TakesPrefix old new) (ap bad_line (one_bad script bad other is is')) (part_is_front old new (bad_line bad) part)
 
 -- nothing taken is a prefix of anything
 pub nothing_taken : (old new : Option (List ℕ)) (output : List ℕ) → new ≡ old → TakesPrefix old new output

@@ -1,5 +1,6 @@
 -- How a run ends.
-use Rattle.std.proofs.Common.{◌≡◌, ◌⊎◌, inl, inr, ℕ, ◌+◌, ◌≤◌, List, ◌++◌, length, Option, Some, None, Result, Ok, Err, OnOk, OnErr, refl, ap, sym, ◌∙◌, subst, arith, length-append}
+use Rattle.std.proofs.Common.{◌≡◌, ◌⊎◌, inl, inr, ℕ, ◌+◌, ◌≤◌, List, ◌++◌, length, Option, Some, None, Result, Ok, Err, OnOk, OnErr, refl, ap, sym, ◌∙◌, subst}
+use Rattle.std.proofs.Common.{arith, length-append}
 use Rattle.bench_io.specs.Known.{Gives, IsKnownAs}
 use Rattle.script_text.specs.declared.command.Script.{Script}
 use Rattle.script_text.specs.declared.bad_script.BadScript.{BadScript as ABadScript}
@@ -11,11 +12,12 @@ use Rattle.workbench.specs.declared.top_call.Status.{Status}
 use Rattle.workbench.specs.declared.top_call.Status.TheVariants.{Done, BadWords, ReadFault, WriteFault, NoMemory, BadScript, ScriptTooLong}
 use Rattle.workbench.specs.Ends.{IsLate, StopsBeforeEnd, EndsBy, without_memory, too_long, bad, good}
 use Rattle.workbench.specs.Output.{IsOutput, IsBadScript, too_long as is_too_long, bad as is_bad}
-use Rattle.workbench.specs.Runs.{TakesFront}
+use Rattle.workbench.specs.Runs.{StopsInOutput}
 use Rattle.workbench.proofs.OneOutput.{front_of_output, nothing_taken}
 
 -- what holds after a write that failed, where the status is not that of a whole one
-pub after_failure : {T E P : Type 0} (written : Result T E) (whole status other : Status) → OnOk written (status ≡ whole) → OnErr written P → status ≡ other → (whole ≡ other → ⊥) → P
+pub after_failure : {T E P : Type 0} (written : Result T E) (whole status other : Status) → OnOk written (status ≡ whole) → OnErr written P → status ≡ other
+    → (whole ≡ other → ⊥) → P
 after_failure (Ok x) whole status other ok err is apart = absurd (apart (sym ok ∙ is))
 after_failure (Err e) whole status other ok err is apart = err
 
@@ -23,7 +25,8 @@ pub not_bad : (script : List ℕ) (read : Script) → length script ≤ SCRIPT_L
 not_bad script read short spelled (is_too_long less) = absurd (omega (arith, short, less))
 not_bad script read short spelled (is_bad line first) = not_both script read line spelled first
 
-pub front_at_end : (end : Status) (script : List ℕ) (old new : Option (List ℕ)) → (end ≡ WriteFault → TakesFront old new script) → (end ≡ NoMemory → (new ≡ old) ⊎ TakesFront old new script)
+pub front_at_end : (end : Status) (script : List ℕ) (old new : Option (List ℕ)) → (end ≡ WriteFault → StopsInOutput old new script)
+    → (end ≡ NoMemory → (new ≡ old) ⊎ StopsInOutput old new script)
     → StopsBeforeEnd end → (output : List ℕ) → IsOutput script output → TakesPrefix old new output
 front_at_end Done script old new stopped no_memory ends output is = absurd ends
 front_at_end BadWords script old new stopped no_memory ends output is = absurd ends
@@ -38,7 +41,8 @@ front_at_end NoMemory script old new stopped no_memory ends output is = elim (no
 
 -- ---- a run that no fault stops
 
-ends_so : (script : List ℕ) (end : Status) → length script ≤ SCRIPT_LIMIT → IsLate end → (end ≡ Done → (read : Script) × SpellsScript script read) → (end ≡ BadScript → (line : ABadScript) × IsFirstBad script line)
+ends_so : (script : List ℕ) (end : Status) → length script ≤ SCRIPT_LIMIT → IsLate end → (end ≡ Done → (read : Script) × SpellsScript script read)
+    → (end ≡ BadScript → (line : ABadScript) × IsFirstBad script line)
     → (end ≡ WriteFault → ⊥) → EndsBy script end
 ends_so script Done short late is_done is_bad_script no_fault = let found = is_done refl in good found.0 short found.1
 ends_so script BadWords short late is_done is_bad_script no_fault = absurd late
@@ -51,8 +55,10 @@ ends_so script ScriptTooLong short late is_done is_bad_script no_fault = absurd 
 told_same : (told : Option (List ℕ)) (bytes script : List ℕ) → IsKnownAs told bytes → told ≡ Some script → script ≡ bytes
 told_same told bytes script known is = subst (λ t. IsKnownAs t bytes) is known
 
-pub ends_by : (told : Option (List ℕ)) (bytes script : List ℕ) (end : Status) → IsKnownAs told bytes → told ≡ Some script → length bytes ≤ SCRIPT_LIMIT → IsLate end
-    → (end ≡ Done → (read : Script) × SpellsScript bytes read) → (end ≡ BadScript → (line : ABadScript) × IsFirstBad bytes line) → (end ≡ WriteFault → ⊥) → EndsBy script end
+pub ends_by : (told : Option (List ℕ)) (bytes script : List ℕ) (end : Status) → IsKnownAs told bytes → told ≡ Some script → length bytes ≤ SCRIPT_LIMIT
+    → IsLate end
+    → (end ≡ Done → (read : Script) × SpellsScript bytes read) → (end ≡ BadScript → (line : ABadScript) × IsFirstBad bytes line) → (end ≡ WriteFault → ⊥)
+        → EndsBy script end
 ends_by told bytes script end known is short late is_done is_bad_script no_fault =
     subst (λ s. EndsBy s end) (sym (told_same told bytes script known is)) (ends_so bytes end short late is_done is_bad_script no_fault)
 

@@ -10,7 +10,8 @@ use Rattle.replies.specs.Replies.{AreReplies}
 
 -- the output of a script that is not too long: the replies to its commands, or the line for its first bad line
 pub data IsOutput (script : List ℕ) : List ℕ → Type 0 where
-  replies : {output : List ℕ} (read : Script) → length script ≤ SCRIPT_LIMIT → SpellsScript script read → AreReplies empty_grammar read.blocks output → IsOutput script output
+  replies : {output : List ℕ} (read : Script) → length script ≤ SCRIPT_LIMIT → SpellsScript script read → AreReplies empty_grammar read.blocks output
+      → IsOutput script output
   refusal : (bad : BadScript) → length script ≤ SCRIPT_LIMIT → IsFirstBad script bad → IsOutput script (bad_line bad)
 
 -- the script is too long or has a bad line

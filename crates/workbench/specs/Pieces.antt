@@ -11,9 +11,9 @@ abbrev pub TakesPrefix : Option (List ℕ) → Option (List ℕ) → List ℕ �
 TakesPrefix old new bytes = (n : ℕ) × (n ≤ length bytes) × Takes old new (take n bytes)
 
 -- the sink took a prefix of these bytes, and not all of them
-abbrev pub TakesPart : Option (List ℕ) → Option (List ℕ) → List ℕ → Type 0
-TakesPart old new bytes = (n : ℕ) × (n < length bytes) × Takes old new (take n bytes)
+abbrev pub TakesProperPrefix : Option (List ℕ) → Option (List ℕ) → List ℕ → Type 0
+TakesProperPrefix old new bytes = (n : ℕ) × (n < length bytes) × Takes old new (take n bytes)
 
 -- the source tells what it has left, or the sink what it has taken
-abbrev pub IsTold : Option (List ℕ) → Type 0
-IsTold known = (bytes : List ℕ) × (known ≡ Some bytes)
+abbrev pub TellsBytes : Option (List ℕ) → Type 0
+TellsBytes known = (bytes : List ℕ) × (known ≡ Some bytes)

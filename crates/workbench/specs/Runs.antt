@@ -9,17 +9,17 @@ use Rattle.script_text.specs.declared.limits.TheConstants.{SCRIPT_LIMIT}
 use Rattle.script_text.specs.Scripts.{SpellsScript, IsFirstBad}
 use Rattle.replies.specs.Lines.{bad_line}
 use Rattle.replies.specs.Replies.{AreReplies}
-use Rattle.workbench.specs.Pieces.{TakesPrefix, TakesPart}
+use Rattle.workbench.specs.Pieces.{TakesPrefix, TakesProperPrefix}
 use Rattle.workbench.specs.Output.{IsOutput}
 
 -- the sink took all the replies to these blocks
-pub record TakesReplies (old new : Option (List ℕ)) (blocks : List Block) : Type 0 where
+pub record AnswersAll (old new : Option (List ℕ)) (blocks : List Block) : Type 0 where
   pub output : List ℕ
   pub replies : AreReplies empty_grammar blocks output
   pub taken : Takes old new output
 
 -- the sink took a prefix of the replies to these blocks, at least up to where it stopped: a prefix of the replies to the first of them
-pub record TakesFirst (old new : Option (List ℕ)) (blocks : List Block) : Type 0 where
+pub record StopsInReplies (old new : Option (List ℕ)) (blocks : List Block) : Type 0 where
   pub first : List Block
   pub others : List Block
   pub parts : blocks ≡ first ++ others
@@ -28,9 +28,9 @@ pub record TakesFirst (old new : Option (List ℕ)) (blocks : List Block) : Type
   pub taken : TakesPrefix old new output
 
 -- the sink took a prefix of the script's output, and of the line for a first bad line not all
-pub data TakesFront (old new : Option (List ℕ)) (script : List ℕ) : Type 0 where
-  of_replies : (read : Script) → SpellsScript script read → TakesFirst old new read.blocks → TakesFront old new script
-  of_refusal : (bad : BadScript) → IsFirstBad script bad → TakesPart old new (bad_line bad) → TakesFront old new script
+pub data StopsInOutput (old new : Option (List ℕ)) (script : List ℕ) : Type 0 where
+  of_replies : (read : Script) → SpellsScript script read → StopsInReplies old new read.blocks → StopsInOutput old new script
+  of_refusal : (bad : BadScript) → IsFirstBad script bad → TakesProperPrefix old new (bad_line bad) → StopsInOutput old new script
 
 -- the source was read to its end, and gave this script, which is not too long
 pub record IsReadWhole (left_old left_new : Option (List ℕ)) (script : List ℕ) : Type 0 where
@@ -60,4 +60,4 @@ pub record RunsBad (left_old left_new taken_old taken_new : Option (List ℕ)) :
 pub record StopsEarly (left_old left_new taken_old taken_new : Option (List ℕ)) : Type 0 where
   pub script : List ℕ
   pub is_read : IsReadWhole left_old left_new script
-  pub taken : TakesFront taken_old taken_new script
+  pub taken : StopsInOutput taken_old taken_new script

@@ -10,10 +10,10 @@ ghost use Rattle.script_text.specs.declared.limits.TheConstants.{SCRIPT_LIMIT};
 ghost use Rattle.script_text.specs.Scripts.{SpellsScript, IsFirstBad};
 ghost use Rattle.workbench.specs.declared.top_call.TheConstants.{WRITE_SIZE};
 ghost use Rattle.workbench.specs.Ends.{IsLate, IsFree, EndsBy, IsSilent, StopsBeforeEnd};
-ghost use Rattle.replies.specs.Replies.{IsAnswerableBlock};
-ghost use Rattle.workbench.specs.Runs.{TakesReplies, TakesFirst, TakesFront, RunsWhole, RunsBad, StopsEarly};
+ghost use Rattle.replies.specs.Blocks.{IsProperBlock};
+ghost use Rattle.workbench.specs.Runs.{AnswersAll, StopsInReplies, StopsInOutput, RunsWhole, RunsBad, StopsEarly};
 ghost use Rattle.workbench.specs.Output.{IsOutput, IsBadScript};
-ghost use Rattle.workbench.specs.Pieces.{TakesPrefix, TakesPart, GivesCount, IsTold};
+ghost use Rattle.workbench.specs.Pieces.{TakesPrefix, TakesProperPrefix, GivesCount, TellsBytes};
 ghost use Rattle.replies.specs.Lines.{bad_line};
 
 use crate::sink_writing::write_all;
@@ -64,9 +64,9 @@ fn flush_full<K: Sink>(sink: &mut K, out: &mut Vec<u8>) -> Result<(), Fault>
 
 /// Writes the replies to the blocks.
 fn answer_all<K: Sink>(alloc: Global, blocks: &[Block], sink: &mut K) -> Result<(), Fault>
-    requires { AllByRecursion IsAnswerableBlock blocks.now }
-    ensures whole { OnOk result (TakesReplies (K.taken sink.old) (K.taken sink.new) blocks.now) }
-    ensures front { OnErr result (TakesFirst (K.taken sink.old) (K.taken sink.new) blocks.now) }
+    requires { AllByRecursion IsProperBlock blocks.now }
+    ensures whole { OnOk result (AnswersAll (K.taken sink.old) (K.taken sink.new) blocks.now) }
+    ensures front { OnErr result (StopsInReplies (K.taken sink.old) (K.taken sink.new) blocks.now) }
     ensures counted { K.faults sink.old ≤ K.faults sink.new }
     ensures failed { IsErrOf result Fault.Failed → HasRisen (K.faults sink.old) (K.faults sink.new) }
 {
@@ -83,7 +83,7 @@ fn answer_all<K: Sink>(alloc: Global, blocks: &[Block], sink: &mut K) -> Result<
 /// Writes the line for a bad script.
 fn refuse<K: Sink>(alloc: Global, bad: BadScript, sink: &mut K) -> Result<(), Fault>
     ensures whole { OnOk result (Takes (K.taken sink.old) (K.taken sink.new) (bad_line bad)) }
-    ensures front { OnErr result (TakesPart (K.taken sink.old) (K.taken sink.new) (bad_line bad)) }
+    ensures front { OnErr result (TakesProperPrefix (K.taken sink.old) (K.taken sink.new) (bad_line bad)) }
     ensures counted { K.faults sink.old ≤ K.faults sink.new }
     ensures failed { IsErrOf result Fault.Failed → HasRisen (K.faults sink.old) (K.faults sink.new) }
 {
@@ -110,13 +110,13 @@ fn status_after(written: Result<(), Fault>, done: Status) -> Status
 fn run_script<K: Sink>(alloc: Global, script: &[u8], sink: &mut K) -> Status
     requires { length script.now ≤ SCRIPT_LIMIT }
     ensures late { IsLate result }
-    ensures done { result ≡ Status.Done → (read : AScript) × SpellsScript script.now read × TakesReplies (K.taken sink.old) (K.taken sink.new) read.blocks }
+    ensures done { result ≡ Status.Done → (read : AScript) × SpellsScript script.now read × AnswersAll (K.taken sink.old) (K.taken sink.new) read.blocks }
     ensures bad_script { result ≡ Status.BadScript → (bad : ABadScript) × IsFirstBad script.now bad × Takes (K.taken sink.old) (K.taken sink.new) (bad_line bad) }
     ensures write_fault { result ≡ Status.WriteFault
         → HasRisen (K.faults sink.old) (K.faults sink.new) }
-    ensures stopped { result ≡ Status.WriteFault → TakesFront (K.taken sink.old) (K.taken sink.new) script.now }
+    ensures stopped { result ≡ Status.WriteFault → StopsInOutput (K.taken sink.old) (K.taken sink.new) script.now }
     ensures no_memory { result ≡ Status.NoMemory → (K.taken sink.new ≡ K.taken sink.old)
-        ⊎ TakesFront (K.taken sink.old) (K.taken sink.new) script.now }
+        ⊎ StopsInOutput (K.taken sink.old) (K.taken sink.new) script.now }
     ensures counted { K.faults sink.old ≤ K.faults sink.new }
 {
     let read = match read_script(alloc, script) {
@@ -160,9 +160,9 @@ pub fn run<S: Source, K: Sink>(
         → GivesCount (S.left source.old) (S.left source.new) (SCRIPT_LIMIT + 1) }
 
     // Where the bytes are told, a bad script and one that is too long are called so.
-    ensures only_bad_script { IsTold (S.left source.old) → IsTold (K.taken sink.old)
+    ensures only_bad_script { TellsBytes (S.left source.old) → TellsBytes (K.taken sink.old)
         → RunsBad (S.left source.old) (S.left source.new) (K.taken sink.old) (K.taken sink.new) → result ≡ Status.BadScript }
-    ensures only_too_long { IsTold (S.left source.old) → GivesCount (S.left source.old) (S.left source.new) (SCRIPT_LIMIT + 1)
+    ensures only_too_long { TellsBytes (S.left source.old) → GivesCount (S.left source.old) (S.left source.new) (SCRIPT_LIMIT + 1)
         → (result ≡ Status.ScriptTooLong) ⊎ (result ≡ Status.NoMemory) }
 
     // A fault comes only where it was counted.

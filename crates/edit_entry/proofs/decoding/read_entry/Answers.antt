@@ -1,5 +1,4 @@
-use Rattle.std.proofs.Common.{◌≡◌, ℕ, ◌≤◌, List, length, Result, Ok, sym, ap, subst, ◌∙◌, arith}
-use Rattle.grammar_text.specs.declared.bad_edit.BadEdit.{BadEdit}
+use Rattle.std.proofs.Common.{◌≡◌, ℕ, ◌≤◌, List, length, Ok, sym, ap, subst, ◌∙◌, arith}
 use Rattle.grammar_text.specs.declared.edit.Edit.{Edit}
 use Rattle.grammar_text.specs.declared.limits.TheConstants.{LINE_LIMIT}
 use Rattle.grammar_text.specs.Pieces.{IsLine}

@@ -8,10 +8,12 @@ use Rattle.edit_log.proofs.UseLists.{live_started, live_more}
 use Rattle.edit_log.proofs.uses.add_use.Goals as goal
 
 pub returns-then-is_used-clause-counts : goal.returns-then-is_used-clause-counts
-returns-then-is_used-clause-counts c = use_counts (λ (n k : ℕ). n + k) (λ n. omega arith) c.args.rows.now.items (uses_in c.count_more.new.rows.items) c.args.symbol c.requires.within c.count_more.ensures.uses
+returns-then-is_used-clause-counts c = use_counts (λ (n k : ℕ). n + k) (λ n. omega arith) c.args.rows.now.items
+    (uses_in c.count_more.new.rows.items) c.args.symbol c.requires.within c.count_more.ensures.uses
 
 pub returns-else-is_used-clause-counts : goal.returns-else-is_used-clause-counts
-returns-else-is_used-clause-counts c = use_counts (λ (n k : ℕ). n + k) (λ n. omega arith) c.args.rows.now.items (uses_in c.count_more.new.rows.items) c.args.symbol c.requires.within c.count_more.ensures.uses
+returns-else-is_used-clause-counts c = use_counts (λ (n k : ℕ). n + k) (λ n. omega arith) c.args.rows.now.items
+    (uses_in c.count_more.new.rows.items) c.args.symbol c.requires.within c.count_more.ensures.uses
 
 pub returns-then-is_used-clause-live : goal.returns-then-is_used-clause-live
 returns-then-is_used-clause-live c = λ numbers lists.
@@ -20,9 +22,11 @@ returns-then-is_used-clause-live c = λ numbers lists.
     let m = get_or (uses_in rows) place 0 in
     let new = uses_in c.count_more.new.rows.items in
     let changes = use_changes rows new c.args.symbol (m + 1) c.requires.within c.count_more.ensures.uses in
-    let used : IsUsed c.count_more.new.rows.items c.args.symbol 1 = subst (λ (rs : List Row). IsUsed rs c.args.symbol 1) c.deref.ensures.value (c.is_used.ensures.0 c.if-is_used.true) in
+    let used : IsUsed c.count_more.new.rows.items c.args.symbol 1 = subst (λ (rs : List Row). IsUsed rs c.args.symbol 1) c.deref.ensures.value
+        (c.is_used.ensures.0 c.if-is_used.true) in
     let has : HasLiteral (literals_in rows) place = subst (λ (ls : List (Option Table)). HasLiteral ls place) c.count_more.ensures.literals used.0 in
-    live_started (literals_in rows) numbers c.args.symbol (uses_in rows) new m (m + 1) c.args.live.now.items c.insert.new.live.items changes has (omega arith) lists (c.insert.ensures.live lists.order)
+    live_started (literals_in rows) numbers c.args.symbol (uses_in rows) new m (m + 1) c.args.live.now.items c.insert.new.live.items changes has
+        (omega arith) lists (c.insert.ensures.live lists.order)
 
 pub returns-else-is_used-clause-live : goal.returns-else-is_used-clause-live
 returns-else-is_used-clause-live c = λ numbers lists.
@@ -32,4 +36,6 @@ returns-else-is_used-clause-live c = λ numbers lists.
     let new = uses_in c.count_more.new.rows.items in
     let changes = use_changes rows new c.args.symbol (m + 1) c.requires.within c.count_more.ensures.uses in
     live_more (literals_in rows) numbers c.args.symbol (uses_in rows) new m c.args.live.now.items changes
-    (λ (has, at). let used = c.is_used.ensures.1 (subst (λ (rs : List Row). IsUsed rs c.args.symbol 1) (sym c.deref.ensures.value) (subst (λ (ls : List (Option Table)). HasLiteral ls place) (sym c.count_more.ensures.literals) has, at)) in absurd (let never : false ≡ true = sym c.if-is_used.false ∙ used in cc)) lists
+    (λ (has, at). let used = c.is_used.ensures.1 (subst (λ (rs : List Row). IsUsed rs c.args.symbol 1) (sym c.deref.ensures.value)
+        (subst (λ (ls : List (Option Table)). HasLiteral ls place) (sym c.count_more.ensures.literals) has, at)) in absurd (let never : false ≡ true =
+        sym c.if-is_used.false ∙ used in cc)) lists

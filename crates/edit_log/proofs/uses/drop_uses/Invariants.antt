@@ -9,7 +9,8 @@ abbrev pub invariant-loop-part : goal.invariant-loop-part
 invariant-loop-part l = record {
   lefts : lefts_in l.rows.items ≡ lefts_in l.fn.rows.items;
   literals : literals_in l.rows.items ≡ literals_in l.fn.rows.items;
-  counts : (place : ℕ) → slice_get (uses_in l.rows.items) place ≡ option_map (λ n. n - occurrences (record { 0 = place }) (take l.part-index l.right)) (slice_get (uses_in l.fn.rows.items) place);
+  counts : (place : ℕ) → slice_get (uses_in l.rows.items) place ≡ option_map (λ n. n - occurrences (record { 0 = place }) (take l.part-index l.right))
+      (slice_get (uses_in l.fn.rows.items) place);
   live : (numbers : List ARuleId) → ListsDefinitions (IsLiveBy (literals_in l.fn.rows.items) (uses_in l.fn.rows.items) numbers) l.fn.live.items
       → ListsDefinitions (IsLiveBy (literals_in l.fn.rows.items) (uses_in l.rows.items) numbers) l.live.items;
 }

@@ -28,7 +28,8 @@ loop-byte-preserved c =
     let at : marks_with c.args.candidates.now c.loop-byte.byte ≡ c.as_slice-led.result.now = sym (c.as_slice-led.ensures.value ∙ c.in_ok-with_byte.ensures) in
     elim c.if-not-is_empty.branch [
       | then-not-is_empty+in_ok-add_byte w ↦ rw w.ranges-is
-          (tells_more (marks_with c.args.candidates.now) c.loop-byte.byte _ _ c.as_slice-led.result.now c.loop-byte.invariant at (some_of _ w.if-not-is_empty.ensures) w.in_ok-add_byte.ensures)
+          (tells_more (marks_with c.args.candidates.now) c.loop-byte.byte _ _ c.as_slice-led.result.now c.loop-byte.invariant at
+              (some_of _ w.if-not-is_empty.ensures) w.in_ok-add_byte.ensures)
       | else-not-is_empty w ↦ rw w.ranges-is
           (tells_skip (marks_with c.args.candidates.now) c.loop-byte.byte _ c.loop-byte.invariant (ap length at ∙ eqb-true _ 0 (sym w.if-not-is_empty.ensures)))
     ]

@@ -8,7 +8,7 @@ pub loop-done-init : goal.loop-done-init
 loop-done-init g c = record {
   early = c.in_ok-early.ensures;
   taken = length c.args.kernel.now;
-  way = begun _ c.args.kernel.now _ _ _ c.requires.ascends (c.in_ok-visit_kernel.ensures.walk [] (rw (c.new-walk.ensures.symbols, c.new-walk.ensures.shifts, c.new-walk.ensures.reductions) (nothing_met _)));
+  way = begun _ c.args.kernel.now _ _ _ c.requires.ascends (c.in_ok-visit_kernel.ensures.walk [] (rw (c.new-walk.ensures.symbols, c.new-walk.ensures.moves, c.new-walk.ensures.reductions) (nothing_met _)));
   steps = c.in_ok-visit_kernel.ensures.steps;
 }
 

@@ -29,11 +29,11 @@ returns-in-Star-clause-rows t c = λ q p h.
     let tree : tree_of c.args.regex.now ≡ star (tree_of c.deref-in-Star.result.now) = rw (c.in-Star.is, c.deref-in-Star.ensures) refl in
     rw tree
     (rows_looped (tree_of c.deref-in-Star.result.now) c.args.base q p _ _ _ _ _
-    (c.connect-in-Star.ensures q p (omega arith)) (c.link-looped.ensures.rows q p h) (c.link-looped.ensures.last q) (c.link-looped.ensures.first p))
+    (c.looped.ensures.rows q p (omega arith)) (c.link.ensures.rows q p h) (c.link.ensures.last q) (c.link.ensures.first p))
 
 pub returns-in-Plus-clause-rows : goal.returns-in-Plus-clause-rows
 returns-in-Plus-clause-rows t c = λ q p h.
     let tree : tree_of c.args.regex.now ≡ plus (tree_of c.deref-in-Plus.result.now) = rw (c.in-Plus.is, c.deref-in-Plus.ensures) refl in
     rw tree
     (rows_looped (tree_of c.deref-in-Plus.result.now) c.args.base q p _ _ _ _ _
-    (c.connect-in-Plus.ensures q p (omega arith)) (c.link-part.ensures.rows q p h) (c.link-part.ensures.last q) (c.link-part.ensures.first p))
+    (c.looped-in-Plus.ensures.rows q p (omega arith)) (c.link-in-Plus.ensures.rows q p h) (c.link-in-Plus.ensures.last q) (c.link-in-Plus.ensures.first p))

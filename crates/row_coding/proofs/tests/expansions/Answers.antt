@@ -13,13 +13,13 @@ use Rattle.isg_states.specs.declared.ranges.ScanExpansion.{ScanExpansion}
 use Rattle.isg_states.specs.Marks.{AreAscending}
 use Rattle.isg_states.specs.Expansion.{Range}
 use Rattle.row_coding.specs.Conditions.{FitsCoding, IsTypedItem, IsTyped, IsTypedDefinition, AreTypedMarks}
-use Rattle.row_coding.specs.Reading.{Move, IsReadable, IsReadableRange, symbol_of, rule_of}
+use Rattle.row_coding.specs.Reading.{Move, IsReadable, IsReadableRange, symbol_of, rule_id}
 use Rattle.row_coding.proofs.Inverses.{HasSmallDot}
 use Rattle.row_coding.proofs.tests.expansions.Goals as goal
 
 -- the moves
 abbrev after_one : ℕ → Item
-after_one rule = item_at (rule_of rule) 1
+after_one rule = item_at (rule_id rule) 1
 
 abbrev move : ℕ → List Item → Move
 move symbol items = (symbol_of symbol, items)

@@ -10,7 +10,8 @@ returns-then-ge c =
       λ t. absurd cc,
       λ s.
           let sorted : IsStrictlySortedBy rule_cmp c.as_slice-rules.result.now = rw c.as_slice-rules.ensures s in
-          absurd (not_ascending c.as_slice-rules.result.now c.loop-at.at c.index-rules-at.result c.index-rules-at-in-loop-at.result c.index-rules-at.is c.index-rules-at-in-loop-at.is (omega arith) (omega arith) above sorted),
+          absurd (not_ascending c.as_slice-rules.result.now c.loop-at.at c.index-rules-at.result c.index-rules-at-in-loop-at.result c.index-rules-at.is
+          c.index-rules-at-in-loop-at.is (omega arith) (omega arith) above sorted),
     )
 
 pub returns : goal.returns

@@ -15,5 +15,5 @@ returns-in_default-clause-walk g c = λ items walk.
 pub returns-clause-walk : goal.returns-clause-walk
 returns-clause-walk g c = λ items walk.
     let some : next_of c.args.grammar.now.grammar.rules c.args.item ≡ Some c.in-Some.symbol = search rules in
-    let h = c.in-Some in let k = c.in_ok-insert in
-    rw (c.in_ok-push-2.ensures.items, c.in_ok-insert.ensures.keys) (met_some _ items _ _ _ walk c.args.item c.in-Some.symbol some)
+    let step = met_some _ items _ _ _ walk c.args.item c.in-Some.symbol some in
+    rw (c.in_ok-put_at.ensures, c.in_ok-place.ensures.index, c.in_ok-place.ensures.keys) step

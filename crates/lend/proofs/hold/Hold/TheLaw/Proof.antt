@@ -11,5 +11,6 @@ use Rattle.lend.proofs.hold.Hold.TheLaw.Statement.{statement}
 use Rattle.lend.proofs.Shown.{shown_laws, lends_shown}
 
 pub shares : (T : RattleType) (L : Laws T) → statement T L
-shares T L = of_Lends (C.struct T) (C.the_codes T.Denot T.coded (P.the_row RawPtr).coded) (C.the_heap T) (C.the_lent T) (λ d p. shown_laws T L d.at d.value d.age d.parts)
+shares T L = of_Lends (C.struct T) (C.the_codes T.Denot T.coded (P.the_row RawPtr).coded) (C.the_heap T) (C.the_lent T)
+    (λ d p. shown_laws T L d.at d.value d.age d.parts)
     (copy_shared (P.the_field RawPtr) (field_copy (P.the_type RawPtr) tt), tt) (λ M 𝓤 𝓛 d p. lends_shown T L d.at d.value d.age 𝓛 (C.the_row T).lives d.parts)

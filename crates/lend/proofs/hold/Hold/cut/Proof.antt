@@ -32,20 +32,33 @@ whole_is n = omega arith
 
 pub cut_spec : {M : Type 1} → statement M
 cut_spec 𝓤 𝓛 𝓜 𝓡 wired T L =
-    let H = 𝓛.H in let 𝓣 = tables 𝓤 H 𝓜 𝓡 𝓡.env in let R : RattleType = param 0 T in let LR = param_laws 0 T L in let En = ended T in let c = clauses T 𝓛 𝓜.mem 𝓡.returns in
+    let H = 𝓛.H in let 𝓣 = tables 𝓤 H 𝓜 𝓡 𝓡.env in let R : RattleType = param 0 T in let LR = param_laws 0 T L in let En = ended T in
+    let c = clauses T 𝓛 𝓜.mem 𝓡.returns in
     let inst = layouts (a_type ∷ []) (T, tt) in let fn = inst_fn inst code.function in
     let hs : Stays En.signature.params En.kept = (stay_ref (0 ∷ []) tt (plain (λ _. Hold 𝓛 R)), tt) in
     proved_at 𝓛 En hs c 𝓜 𝓡 (Goes-ref 𝓛 2 0 tt (plain (λ _. Hold 𝓛 R)), tt) (#self inst) fn (code.unfolded 𝓤 H 𝓜 𝓡 wired (T, tt)) (λ z are.
-    let κs = z.0.0 in let qs = z.0.1 in let Post : Val → SProp 𝓤 = (walk_of 𝓛 En hs c).post z in let Run : List Val → SProp 𝓤 = λ ws. WpFn 𝓤 H 𝓣.C 𝓣.Λ fn ws Post in let Out : RattleType = type_at En.signature.result κs in
-    let κ' : Lft = κs.0 in let q' : Share = qs.0 in let m = z.0.3.0 in let nb₀ : ℕ = m.ref_ptr.0 in let no₀ : ℕ = m.ref_ptr.1 in let ν₀ : ℕ = m.ghost_name in let n = m.now in
+    let κs = z.0.0 in let qs = z.0.1 in let Post : Val → SProp 𝓤 = (walk_of 𝓛 En hs c).post z in
+    let Run : List Val → SProp 𝓤 = λ ws. WpFn 𝓤 H 𝓣.C 𝓣.Λ fn ws Post in let Out : RattleType = type_at En.signature.result κs in
+    let κ' : Lft = κs.0 in let q' : Share = qs.0 in let m = z.0.3.0 in let nb₀ : ℕ = m.ref_ptr.0 in let no₀ : ℕ = m.ref_ptr.1 in let ν₀ : ℕ = m.ghost_name in
+    let n = m.now in
     let left : ℕ = n.parts - n.parts / 2 in let right : ℕ = n.parts / 2 in
-    let kept : (Hold 𝓛 R).Denot = record { marker = record {}; at = n.at; value = n.value; age = n.age; parts = left } in let made : (Hold 𝓛 R).Denot = record { marker = record {}; at = n.at; value = n.value; age = n.age; parts = right } in
-    let Told : Type 0 = ((n.at ≡ n.at) × (n.value ≡ n.value) × (n.age ≡ n.age) × (left ≡ left)) × ((n.at ≡ n.at) × (n.value ≡ n.value) × (n.age ≡ n.age) × (right ≡ right)) in
-    let Shuts = holdings.Shuts 𝓛 R κ' q' nb₀ no₀ ν₀ in let N : Fml = holdings.Mine 𝓛 R n in let N₁ : Fml = holdings.Mine 𝓛 R kept in let N₂ : Fml = holdings.Mine 𝓛 R made in
-    qed 𝓛 (((‵ (flft κ' q') ⊛ ‵ (fsep (flft κs.1.0 qs.1.0) ftrue)) ⊛ ‵ (owns (types_at En.signature.params κs) z.0.3 z.0.4)) ∷ raw ((c κs z.0.3).requires z.1) ∷ []) ∵ split ! $ split ! $ move ! (2 ∷ []) $ fsplit ! $ fsplit ! $ keep ! (1 ∷ 3 ∷ 4 ∷ []) $
-    suffices ! (Run (vptr nb₀ no₀ ∷ [])) (subst (λ (us : List Val). ent 𝓤 (Run (vptr nb₀ no₀ ∷ [])) (Run us)) (sym (λ i. are.0.0 i ++ [])) (id⊢ 𝓤 (Run (vptr nb₀ no₀ ∷ [])))) $
+    let kept : (Hold 𝓛 R).Denot = record { marker = record {}; at = n.at; value = n.value; age = n.age; parts = left } in
+    let made : (Hold 𝓛 R).Denot = record { marker = record {}; at = n.at; value = n.value; age = n.age; parts = right } in
+    let Told : Type 0 = ((n.at ≡ n.at) × (n.value ≡ n.value) × (n.age ≡ n.age) × (left ≡ left)) × ((n.at ≡ n.at) × (n.value ≡ n.value) × (n.age ≡ n.age)
+        × (right ≡ right)) in
+    let Shuts = holdings.Shuts 𝓛 R κ' q' nb₀ no₀ ν₀ in let N : Fml = holdings.Mine 𝓛 R n in let N₁ : Fml = holdings.Mine 𝓛 R kept in
+    let N₂ : Fml = holdings.Mine 𝓛 R made in
+    qed 𝓛 (((‵ (flft κ' q') ⊛ ‵ (fsep (flft κs.1.0 qs.1.0) ftrue)) ⊛ ‵ (owns (types_at En.signature.params κs) z.0.3 z.0.4)) ∷ raw
+        ((c κs z.0.3).requires z.1) ∷ []) ∵ split ! $ split ! $ move ! (2 ∷ []) $ fsplit ! $ fsplit ! $ keep ! (1 ∷ 3 ∷ 4 ∷ []) $
+    suffices ! (Run (vptr nb₀ no₀ ∷ [])) (subst (λ (us : List Val). ent 𝓤 (Run (vptr nb₀ no₀ ∷ [])) (Run us)) (sym (λ i. are.0.0 i ++ []))
+        (id⊢ 𝓤 (Run (vptr nb₀ no₀ ∷ [])))) $
     enter ! 𝓣.C 𝓣.Λ fn (vptr nb₀ no₀ ∷ []) Post $ alloc_all ! (λ l. pass_all ! refl ((tt, tt), tt) $
-    use2 𝓛 (later (‵ N ⊛ raw (all 𝓤 Shuts))) (holdings.hold_opens 𝓛 R κ' q' nb₀ no₀ ν₀ n) $ await ! tt $ split ! $ use1 𝓛 (‵ N₁ ⊛ ‵ N₂) (holdings.cuts 𝓛 R LR n.at n.value n.age n.parts left right (whole_is n.parts)) $ split ! $ move ! (2 ∷ []) $ use1 𝓛 (raw (Shuts kept)) (all_e 𝓤 Shuts kept) $ move ! (1 ∷ 0 ∷ []) $ use2 𝓛 (later (‵ (holdings.lent 𝓛 R κ' q' nb₀ no₀ ν₀ kept) ⊛ ‵ (flft κ' q'))) (apply∗ 𝓤 (sem 𝓛 N₁) _) $ await ! tt $ split ! $
+    use2 𝓛 (later (‵ N ⊛ raw (all 𝓤 Shuts))) (holdings.hold_opens 𝓛 R κ' q' nb₀ no₀ ν₀ n) $ await ! tt $ split ! $
+        use1 𝓛 (‵ N₁ ⊛ ‵ N₂) (holdings.cuts 𝓛 R LR n.at n.value n.age n.parts left right (whole_is n.parts)) $ split ! $ move ! (2 ∷ []) $
+        use1 𝓛 (raw (Shuts kept)) (all_e 𝓤 Shuts kept) $ move ! (1 ∷ 0 ∷ []) $ use2 𝓛 (later (‵ (holdings.lent 𝓛 R κ' q' nb₀ no₀ ν₀ kept) ⊛ ‵ (flft κ' q')))
+        (apply∗ 𝓤 (sem 𝓛 N₁) _) $ await ! tt $ split ! $
     feq_i ! (List Val) z.0.4.0 (vptr nb₀ no₀ ∷ []) are.0.0 $ fjoin ! $
-    nothing ! $ move ! (1 ∷ 0 ∷ []) $ fjoin ! $ move ! (2 ∷ []) $ sets ! (agg ! (no_more !)) refl (tt, tt) $ sets ! (agg ! (and_then ! (get ! refl) (no_more !))) refl (tt, (tt, tt)) $ use0 𝓛 (‵ (holdings.Data 𝓛 R)) (holdings.hold_made 𝓛 R) $ fjoin ! $ move ! (2 ∷ 3 ∷ []) $ join ! $ use0 𝓛 (raw (fact 𝓤 Told)) (fact_i 𝓤 Told (emp 𝓤) ((refl, refl, refl, refl), (refl, refl, refl, refl))) $
+    nothing ! $ move ! (1 ∷ 0 ∷ []) $ fjoin ! $ move ! (2 ∷ []) $ sets ! (agg ! (no_more !)) refl (tt, tt) $
+        sets ! (agg ! (and_then ! (get ! refl) (no_more !))) refl (tt, (tt, tt)) $ use0 𝓛 (‵ (holdings.Data 𝓛 R)) (holdings.hold_made 𝓛 R) $ fjoin ! $
+        move ! (2 ∷ 3 ∷ []) $ join ! $ use0 𝓛 (raw (fact 𝓤 Told)) (fact_i 𝓤 Told (emp 𝓤) ((refl, refl, refl, refl), (refl, refl, refl, refl))) $
     returns ! (look_at ! 0 refl) $ free_all ! refl $ keep ! (1 ∷ 3 ∷ 2 ∷ 0 ∷ []) $ by ! (leaves 𝓛 En hs c z token made (kept, tt) (tt, tt))))

@@ -13,4 +13,4 @@ invariant_of-result c =
 pub returns : goal.returns
 returns c =
     table_of_literal c.args.bytes.now c.requires.some _ _ _ _
-    c.in_ok-from_slice.ensures c.in_ok-from_slice-2.ensures c.in_ok-in_line.ensures c.in_ok-one_each.ensures
+    c.in_ok-one_number.ensures c.in_ok-one_number-2.ensures c.in_ok-in_line.ensures c.in_ok-one_each.ensures

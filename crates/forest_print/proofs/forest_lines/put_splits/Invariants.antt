@@ -1,0 +1,7 @@
+use Rattle.std.proofs.Common.{◌≡◌, ◌++◌, take}
+use Rattle.std.specs.List.{flat_map}
+use Rattle.forest_print.specs.Lines.{split_line}
+use Rattle.forest_print.proofs.forest_lines.put_splits.Given as goal
+
+abbrev pub invariant-loop-split : goal.invariant-loop-split
+invariant-loop-split l = l.out.items ≡ l.initial.out.items ++ flat_map split_line (take l.split-index l.splits)

@@ -1,0 +1,32 @@
+//! States of a scanner by hand: asks each question of the input, and writes it again with the answer.
+//!
+//! A line of the input is a word and what stands behind it; `asking` has the words. Where the states and a
+//! plain, slow search answer differently, both answers are written. The output that is wanted was worked out
+//! from the definitions.
+#![tactic(auto)]
+
+mod answers;
+mod asking;
+mod histories;
+mod plain_search;
+mod states;
+mod telling;
+
+use asking::answer;
+use edit_log::Grammar;
+use std::io;
+
+/// Writes each of the questions with its answer.
+fn answer_all(rt: &HostRuntime, questions: &str) -> io::Result<()> {
+    let mut grammar = Grammar::empty(rt.alloc())?;
+    for question in questions.lines() {
+        let answer = answer(rt.alloc(), &mut grammar, question)?;
+        println!(rt; "{question} =>{answer}")?;
+    }
+    Ok(())
+}
+
+fn main(rt: HostRuntime) -> io::Result<()> {
+    let questions = io::read_to_string(rt.alloc(), rt.stdin())?;
+    answer_all(&rt, &questions)
+}

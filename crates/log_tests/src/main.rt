@@ -1,0 +1,33 @@
+//! Histories by hand: asks a grammar each question of the input, and writes it again with the answer.
+//!
+//! A line of the input is a word and what stands behind it. `new` begins with an empty grammar; `asking` has the
+//! other words. The output that is wanted was worked out from the definitions.
+#![tactic(auto)]
+
+mod answers;
+mod asking;
+mod histories;
+mod lookups;
+mod plain_scanner;
+mod telling;
+mod touches;
+mod verdicts;
+
+use asking::answer;
+use edit_log::Grammar;
+use std::io;
+
+/// Writes each of the questions with its answer.
+fn answer_all(rt: &HostRuntime, questions: &str) -> io::Result<()> {
+    let mut grammar = Grammar::empty(rt.alloc())?;
+    for question in questions.lines() {
+        let answer = answer(rt.alloc(), &mut grammar, question)?;
+        println!(rt; "{question} =>{answer}")?;
+    }
+    Ok(())
+}
+
+fn main(rt: HostRuntime) -> io::Result<()> {
+    let questions = io::read_to_string(rt.alloc(), rt.stdin())?;
+    answer_all(&rt, &questions)
+}
