@@ -1,0 +1,13 @@
+pub mod StatesAfter
+pub mod WalkSteps
+pub mod StateTables
+pub mod Ranges
+pub mod Fills
+pub mod AskedKeys
+pub mod Reading
+pub mod Readings
+pub mod OneScan
+pub mod Pieces
+pub mod ScannedTexts
+pub mod Scans
+pub mod Refusals
