@@ -62,6 +62,15 @@ rule E ::= \"a\"|rule  E  ::=  \"a\"|rule E ::= \"b\"| => Done version 1|refused
 rule START ::= \"a\"|parse a|drop rule START ::= \"a\"|parse a| => Done version 1|parse 1 forest 1 nodes 1 splits|node START 0 1|rule 1 at 0 1|version 2|parse 2 no token at 0|
 rule START ::= \"a\"|parse a|rule START ::= START START|parse aa| => Done version 1|parse 1 forest 1 nodes 1 splits|node START 0 1|rule 1 at 0 1|version 2|parse 2 forest 3 nodes 3 splits|node START 0 1|rule 1 at 0 1|node START 0 2|rule 2 at 0 1 2|node START 1 2|rule 1 at 1 2|
 rule START ::= \"a\" \"b\"|rule START ::= \"ab\"|parse ab|parse aab|parse aba| => Done version 1|version 2|parse 2 forest 1 nodes 1 splits|node START 0 1|rule 2 at 0 1|parse 2 no sentence|parse 2 no sentence|
+token ID = [a-z]+|rule START ::= \"if\"|rule START ::= ID|tokens if|tokens iff|tokens if x| => Done version 1|version 2|version 3|tokens 3 count 1|token \"if\" 0 2|tokens 3 count 1|token ID 0 3|tokens 3 no token at 2|
+rule E ::= \"a\"|token E = a|token START = a|rule E ::= \"a\"|drop token X| => Done version 1|refused clash E|refused clash START|refused exists 1|refused absent|
+token X = a|skip X = a|rule X ::= \"b\"|token X = b|drop skip X|drop token X|skip X = a|token X = a| => Done version 1|refused clash X|refused clash X|refused exists 1|refused absent|version 2|version 3|refused clash X|
+token A = a|token B = [ab]|tokens ab|drop token A|tokens ab| => Done version 1|version 2|tokens 2 count 2|token A 0 1|token B 1 2|version 3|tokens 3 count 2|token B 0 1|token B 1 2|
+skip S = a+|token A = [ab]|tokens aaba|tokens|drop skip S|tokens aab| => Done version 1|version 2|tokens 2 count 1|token A 2 3|tokens 2 count 0|version 3|tokens 3 count 3|token A 0 1|token A 1 2|token A 2 3|
+rule START ::= \"\\\"\\\\\\n\\t\"|tokens \"\\\\\\n\\t| => Done version 1|tokens 1 count 1|token \"\\\"\\\\\\n\\t\" 0 4|
+token NUM = [0-9]+|token REAL = [0-9]+\\.[0-9]+|tokens 12|tokens 1.5|tokens 1. => Done version 1|version 2|tokens 2 count 1|token NUM 0 2|tokens 2 count 1|token REAL 0 3|tokens 2 no token at 1|
+rule START ::= A|token A = a+|skip WS = [ \\n]+|parse \\n aa |parse a a|parse b => Done version 1|version 2|version 3|parse 3 forest 1 nodes 1 splits|node START 0 1|rule 1 at 0 1|parse 3 no sentence|parse 3 no token at 0|
+tokens|tokens x => Done tokens 0 count 0|tokens 0 no token at 0|
 rule START ::= E|rule E ::= E \"+\" E|rule E ::= \"a\"|parse a+a+a| => Done version 1|version 2|version 3|parse 3 forest 7 nodes 8 splits|node E 0 1|rule 3 at 0 1|node E 0 3|rule 2 at 0 1 2 3|node START 0 5|rule 1 at 0 5|node E 0 5|rule 2 at 0 1 2 5|rule 2 at 0 3 4 5|node E 2 3|rule 3 at 2 3|node E 2 5|rule 2 at 2 3 4 5|node E 4 5|rule 3 at 4 5|";
 
 #[test]
@@ -73,6 +82,10 @@ fn replies_to_each_command(rt: HostRuntime) -> Result<(), Fail> {
 /// Scripts with a bad line.
 const BAD: &str = "rule START ::= \"a\"|frob| => BadScript bad script line 2: unknown command|
 frob| => BadScript bad script line 1: unknown command|
+rule START ::= \"a\"|token X = [a| => BadScript bad script line 2: bad expression|
+drop X| => BadScript bad script line 1: bad edit|
+stats| => BadScript bad script line 1: unknown command|
+tokens \\q| => BadScript bad script line 1: bad text|
 rule 1E ::=| => BadScript bad script line 1: bad edit|
 parse \\q| => BadScript bad script line 1: bad text|
 # a comment||parse \\q| => BadScript bad script line 3: bad text|
@@ -98,7 +111,9 @@ const LONG: &str = "rule START ::= \"a\"|parse ;a;64;Done version 1|parse 1 no s
 rule START ::= \"a\"|parse ;a;65;Done version 1|parse 1 too large|
 rule START ::= \"a\"|parse ;a;4096;Done version 1|parse 1 too large|
 rule START ::= \"a\"|parse ;a;5000;Done version 1|parse 1 too many tokens at 4096|
+rule START ::= \"a\"|tokens ;a;4097;Done version 1|tokens 1 too many tokens at 4096|
 parse ;a;65537;BadScript bad script line 1: text too long|
+tokens ;a;65537;BadScript bad script line 1: text too long|
 ;parse|;65537;BadScript bad script line 65537: too many commands|";
 
 /// The first row of a long script of which something else is told, or nothing.
@@ -119,6 +134,28 @@ fn wrong_long_row(alloc: Global, rows: &str) -> Result<String, Fail> {
 #[test]
 fn keeps_its_limits(rt: HostRuntime) -> Result<(), Fail> {
     assert_eq!(rt; wrong_long_row(rt.alloc(), LONG)?.as_str(), "");
+    Ok(())
+}
+
+/// The output for a rule of the letter, and then so many of it to scan, worked out line by line.
+fn lines_of_letters(alloc: Global, count: u32) -> Result<Vec<u8>, AllocError> {
+    let mut lines = format!(in alloc; "version 1\ntokens 1 count {count}\n")?;
+    for at in 0..count {
+        lines.push_str(&format!(in alloc; "token \"a\" {at} {}\n", at as u64 + 1)?)?;
+    }
+    Ok(lines.into_bytes())
+}
+
+/// Whether so many letters are told as so many tokens.
+fn tells_letters(alloc: Global, count: u32) -> Result<bool, AllocError> {
+    let script = repeated(alloc, "rule START ::= \"a\"\ntokens ", "a", count)?;
+    let (_, written) = outcome(alloc, &script)?;
+    Ok(written == lines_of_letters(alloc, count)?)
+}
+
+#[test]
+fn tells_each_token(rt: HostRuntime) -> Result<(), Fail> {
+    assert_eq!(rt; tells_letters(rt.alloc(), 4096)?, true);
     Ok(())
 }
 

@@ -22,7 +22,7 @@ fn name_of(kind: BadKind) -> &'static str {
     }
 }
 
-/// Appends the command: an edit as it is written, and a text as it is, behind the word `parse`.
+/// Appends the command: an edit as it is written, and a text as it is, behind the command's word.
 fn show(alloc: Global, block: &Block, out: &mut Vec<u8>) -> Result<(), AllocError> {
     match block {
         Block::Alone(Command::Edit(edit)) => {
@@ -31,6 +31,10 @@ fn show(alloc: Global, block: &Block, out: &mut Vec<u8>) -> Result<(), AllocErro
         }
         Block::Alone(Command::Parse(text)) => {
             out.extend_from_slice(b"parse:")?;
+            out.extend_from_slice(text.bytes())
+        }
+        Block::Alone(Command::Tokens(text)) => {
+            out.extend_from_slice(b"tokens:")?;
             out.extend_from_slice(text.bytes())
         }
         _ => out.extend_from_slice(b"another command"),
@@ -89,18 +93,39 @@ parse # \\\\ \\t: => parse:# \\ \t:|
 drop\trule E ::=|parse| => drop rule E ::=|parse:|
 frob => line 1 UnknownCommand
 |# parse|parsea => line 3 UnknownCommand
-token ID = a => line 1 UnknownCommand
-parse|skip WS = a => line 2 UnknownCommand
-tokens a => line 1 UnknownCommand
+token ID = a => token ID = a|
+ token  ID  =  [a-z] +  => token ID = [a-z] + |
+parse|skip WS = a => parse:|skip WS = a|
+tokens a => tokens:a|
+tokens => tokens:|
+tokens|parse => tokens:|parse:|
+ tokens\t \\t\\\\ => tokens: \t\\|
+tokensa => line 1 UnknownCommand
+tokens\r => line 1 UnknownCommand
+token\r => line 1 UnknownCommand
 stats => line 1 UnknownCommand
 par|end => line 1 UnknownCommand
 |end => line 2 UnknownCommand
-drop => line 1 UnknownCommand
-drop token ID => line 1 UnknownCommand
+drop => line 1 BadEdit
+drop frob ID => line 1 BadEdit
+drop token ID => drop token ID|
+drop  skip\tWS  => drop skip WS|
+drop token ID = a => line 1 BadEdit
+drops token ID => line 1 UnknownCommand
 parse\r => line 1 UnknownCommand
 rule 1E ::= => line 1 BadEdit
 rule E ::=\r => line 1 BadEdit
 drop rule E|frob => line 1 BadEdit
+token => line 1 BadEdit
+token X = => line 1 BadEdit
+skip 1X = [a => line 1 BadEdit
+token X = [a => line 1 BadRegex
+skip X = (a => line 1 BadRegex
+token X = [] => line 1 BadRegex
+skip X = a*** => skip X = a***|
+rule START ::= \"a\"|token X = [a => line 2 BadRegex
+skip X = a|token X = )|frob => line 2 BadRegex
+tokens \\q => line 1 BadText
 parse \\q => line 1 BadText
 parse a\\ => line 1 BadText
 |parse \\q|rule| => line 2 BadText";
@@ -146,7 +171,7 @@ fn told_first_bad(alloc: Global, script: &[u8]) -> Result<String, AllocError> {
     }
 }
 
-/// Ends of a line that parses 65,536 escapes, with what is told of it.
+/// Ends of a line whose text has 65,536 escapes, with what is told of it.
 const LONG_TEXTS: &str = " => good
 a => line 1 TextTooLong
 a\\ => line 1 BadText";
@@ -156,6 +181,8 @@ const MANY_COMMANDS: &str = " => good
 #||# => good
 #|parse => line 65540 TooManyCommands
 rule| => line 65539 TooManyCommands
+token X = [a| => line 65539 TooManyCommands
+tokens \\ => line 65539 TooManyCommands
 parse \\ => line 65539 TooManyCommands
 frob| => line 65539 UnknownCommand";
 
@@ -173,9 +200,18 @@ fn wrong_end(alloc: Global, front: &str, part: &str, rows: &str) -> Result<Strin
     Ok(String::new(alloc))
 }
 
+/// The first row for which something else is told of a text to parse or to scan, or nothing.
+fn wrong_text(alloc: Global, rows: &str) -> Result<String, Fail> {
+    let wrong = wrong_end(alloc, "parse ", "\\n", rows)?;
+    if wrong.is_empty() {
+        return wrong_end(alloc, "tokens ", "\\n", rows);
+    }
+    Ok(wrong)
+}
+
 #[test]
 fn counts_a_text_behind_its_escapes(rt: HostRuntime) -> Result<(), Fail> {
-    let wrong = wrong_end(rt.alloc(), "parse ", "\\n", LONG_TEXTS)?;
+    let wrong = wrong_text(rt.alloc(), LONG_TEXTS)?;
     assert_eq!(rt; wrong.as_str(), "");
     Ok(())
 }
