@@ -34,7 +34,7 @@ fn refused(alloc: Global, error: &ScriptError) -> Result<String, AllocError> {
     }
 }
 
-/// Appends the command: an edit as it is written, and a text as it is, behind the word `parse`.
+/// Appends the command: an edit as it is written, and a text as it is, behind the command's word.
 fn show(alloc: Global, block: &Block, out: &mut Vec<u8>) -> Result<(), AllocError> {
     match block {
         Block::Alone(Command::Edit(edit)) => {
@@ -43,6 +43,10 @@ fn show(alloc: Global, block: &Block, out: &mut Vec<u8>) -> Result<(), AllocErro
         }
         Block::Alone(Command::Parse(text)) => {
             out.extend_from_slice(b"parse:")?;
+            out.extend_from_slice(text.bytes())
+        }
+        Block::Alone(Command::Tokens(text)) => {
+            out.extend_from_slice(b"tokens:")?;
             out.extend_from_slice(text.bytes())
         }
         _ => out.extend_from_slice(b"another command"),
