@@ -1,7 +1,7 @@
 //! The words of rows.
 
 use crate::faults::{told_each_read, told_each_size, told_each_write, told_faulty};
-use crate::runs::{told_end, told_run, told_words};
+use crate::runs::{told_end, told_letters, told_run, told_words};
 use crate::scripts::{long_of, script_of};
 use crate::sinks::{told_broken_writer, told_plain_sink, told_sink, told_writer};
 use crate::sources::{told_broken_reader, told_plain_source, told_reader, told_source};
@@ -38,6 +38,7 @@ fn answer_faulty(alloc: Global, word: &str, rest: &str) -> Result<String, AllocE
 /// - `run SCRIPT`: how the run ends, and what it writes.
 /// - `long COUNT;FRONT;PART;END`: the same for the front, as many times the part, and the end.
 /// - `end COUNT;FRONT;PART;END`: the same with the last three lines alone, and how many there are.
+/// - `letters COUNT`: whether a run that scans so many letters writes the line of each, worked out one by one.
 /// - `words WORD ..;SCRIPT`: the same with more words of the command line.
 /// - `faulty SIZE;READS;WRITES;SCRIPT`: the same where the source and the sink move so many bytes at most at a
 ///   time, and fail at the calls with these numbers.
@@ -62,6 +63,7 @@ pub(crate) fn answer(alloc: Global, row: &str) -> Result<String, AllocError> {
         "run" => told_run(alloc, &script_of(alloc, rest)?),
         "long" => told_run(alloc, &long_of(alloc, rest)?),
         "end" => told_end(alloc, &long_of(alloc, rest)?),
+        "letters" => told_letters(alloc, rest),
         "words" => told_words(alloc, rest),
         _ => answer_faulty(alloc, word, rest),
     }

@@ -2,7 +2,7 @@
 
 ghost use Rattle.std.specs.Prelude.{◌<◌, length};
 
-use crate::scripts::{field, script_of, told_lines};
+use crate::scripts::{field, long_of, number_in, script_of, told_lines};
 use bench_io::{PlainSink, PlainSource};
 use std::alloc::{AllocError, Global};
 use workbench::{Status, run};
@@ -72,4 +72,25 @@ pub(crate) fn told_end(alloc: Global, script: &[u8]) -> Result<String, AllocErro
     let count = lines.matches('|').count();
     let last = last_three(alloc, &lines, count)?;
     format!(in alloc; "{:?} {count} lines, the last {last}", outcome.status)
+}
+
+/// The output for a rule of a letter, and then so many of it to scan.
+fn lines_of_letters(alloc: Global, count: u64) -> Result<String, AllocError> {
+    let mut lines = format!(in alloc; "version 1\ntokens 1 count {count}\n")?;
+    for at in 0..count {
+        lines.push_str(&format!(in alloc; "token \"a\" {at} {}\n", at + 1)?)?;
+    }
+    Ok(lines)
+}
+
+/// Whether so many letters are told as so many tokens, each with its ends.
+pub(crate) fn told_letters(alloc: Global, row: &str) -> Result<String, AllocError> {
+    let count = number_in(row);
+    let script = format!(in alloc; "{count};rule START ::= \"a\"|tokens ;a;")?;
+    let outcome = outcome_of(alloc, &long_of(alloc, &script)?)?;
+    let lines = lines_of_letters(alloc, count)?;
+    match outcome.written.as_slice() == lines.as_bytes() {
+        true => format!(in alloc; "{count} as worked out"),
+        false => format!(in alloc; "{count} DIFFER"),
+    }
 }
