@@ -77,4 +77,4 @@ module _ (L : List Entry → Type 0) (F : List Entry → List ℕ → Type 0) (v
   meets (op.GiveBack row) i = tt
   meets op.Pin i = current
   meets (op.Unpin page) i = tt
-  meets (op.LoadLog entry index) i = λ e is. h.current.log_is entry index e (in_log entry e is) i.1
+  meets (op.LoadLog entry index) i = λ e is. (h.current.log_is entry index e (in_log entry e is) i.1, h.current.log_wide entry e (in_log entry e is))

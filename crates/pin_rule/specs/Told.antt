@@ -1,5 +1,5 @@
 -- What the rule says of one view that has a share, whatever else stands in the table.
-use Rattle.std.specs.Prelude.{◌≡◌, ℕ, ◌+◌, ◌<◌, ◌≤◌, List, slice_index}
+use Rattle.std.specs.Prelude.{◌≡◌, ℕ, ◌+◌, ◌<◌, ◌≤◌, List, length, slice_index}
 use mathlib.Core.Option as maybe
 use lib.ListN.{get_elem?}
 use Rattle.pin_rule.specs.declared.content.Entry.{Entry}
@@ -47,4 +47,4 @@ Meets v (Publish page place row) n = Unit {0}
 Meets v (GiveBack row) n = Unit {0}
 Meets v Pin n = IsCurrentFor v n
 Meets v (Unpin page) n = Unit {0}
-Meets v (LoadLog entry index) n = (e : Entry) → get_elem? v.log entry ≡ maybe.some e → n ≡ slice_index e.words index
+Meets v (LoadLog entry index) n = (e : Entry) → get_elem? v.log entry ≡ maybe.some e → (n ≡ slice_index e.words index) × (length e.words ≡ 32)
