@@ -3,7 +3,7 @@ use Rattle.std.proofs.Common.{◌≡◌, ◌≢◌, ℕ, zero, suc, ◌+◌, ◌
 use Rattle.std.proofs.lemmas.Bool.{cases_lt}
 use Rattle.std.proofs.Math.Nat.{mul-le-mul_right}
 use Rattle.pin_rule.specs.declared.sizes.Sizes.{Sizes}
-use Rattle.pin_rule.specs.Layout.{claim_word, place_word, row_word, word_count, claim, entry, row_at}
+use Rattle.pin_rule.specs.Layout.{release_word, claim_word, place_word, log_word, row_word, word_count, release, claim, entry, logged, row_at}
 use Rattle.pin_rule.specs.Rows.{words_of, key_of, content_of}
 
 pub set_same : (l : List ℕ) (i : ℕ) → set l i (slice_index l i) ≡ l
@@ -47,6 +47,9 @@ before r q w i h k = let m : suc r * w ≤ q * w = mul-le-mul_right w h in let d
 pub place_before : (z : Sizes) (page place : ℕ) → page < z.versions → place < z.places → page * z.places + place < z.versions * z.places
 place_before z page place h k = before page z.versions z.places place h k
 
+pub release_in : (z : Sizes) (page : ℕ) → page < z.versions → release_word z page < word_count z
+release_in z page h = omega arith
+
 pub claim_in : (z : Sizes) (row : ℕ) → row < z.rows → claim_word z row < word_count z
 claim_in z row h = omega arith
 
@@ -64,6 +67,41 @@ module _ (z : Sizes) (words : List ℕ) (x : ℕ) where
   pub wrote : (i : ℕ) → length words ≡ word_count z → i < word_count z → slice_index (set words i x) i ≡ x
   wrote i l h = get_or-set_same words i x 0 (omega arith)
 
+  -- CUR is written
+  pub cur-release : (page : ℕ) → release z (set words 0 x) page ≡ release z words page
+  cur-release page = other 0 (release_word z page) (λ e. omega arith)
+
+  pub cur-claim : (r : ℕ) → claim z (set words 0 x) r ≡ claim z words r
+  cur-claim r = other 0 (claim_word z r) (λ e. omega arith)
+
+  pub cur-entry : (page p : ℕ) → entry z (set words 0 x) page p ≡ entry z words page p
+  cur-entry page p = other 0 (place_word z page p) (λ e. omega arith)
+
+  pub cur-logged : (e i : ℕ) → logged z (set words 0 x) e i ≡ logged z words e i
+  cur-logged e i = other 0 (log_word z e i) (λ e. omega arith)
+
+  pub cur-row : (r i : ℕ) → row_at z (set words 0 x) r i ≡ row_at z words r i
+  cur-row r i = other 0 (row_word z r i) (λ e. omega arith)
+
+  -- a release word is written
+  pub release-cur : (page : ℕ) → slice_index (set words (release_word z page) x) 0 ≡ slice_index words 0
+  release-cur page = other (release_word z page) 0 (λ e. omega arith)
+
+  pub release-release : (page q : ℕ) → q ≢ page → release z (set words (release_word z page) x) q ≡ release z words q
+  release-release page q n = other (release_word z page) (release_word z q) (λ e. n (omega arith))
+
+  pub release-claim : (page r : ℕ) → page < z.versions → claim z (set words (release_word z page) x) r ≡ claim z words r
+  release-claim page r h = other (release_word z page) (claim_word z r) (λ e. omega arith)
+
+  pub release-entry : (page q p : ℕ) → page < z.versions → entry z (set words (release_word z page) x) q p ≡ entry z words q p
+  release-entry page q p h = other (release_word z page) (place_word z q p) (λ e. omega arith)
+
+  pub release-logged : (page e i : ℕ) → page < z.versions → logged z (set words (release_word z page) x) e i ≡ logged z words e i
+  release-logged page e i h = other (release_word z page) (log_word z e i) (λ e. omega arith)
+
+  pub release-row : (page r i : ℕ) → page < z.versions → row_at z (set words (release_word z page) x) r i ≡ row_at z words r i
+  release-row page r i h = other (release_word z page) (row_word z r i) (λ e. omega arith)
+
   -- a claim word is written
   pub claim-claim : (row r : ℕ) → r ≢ row → claim z (set words (claim_word z row) x) r ≡ claim z words r
   claim-claim row r n = other (claim_word z row) (claim_word z r) (λ e. n (omega arith))
@@ -73,6 +111,15 @@ module _ (z : Sizes) (words : List ℕ) (x : ℕ) where
 
   pub claim-row : (row r i : ℕ) → row < z.rows → row_at z (set words (claim_word z row) x) r i ≡ row_at z words r i
   claim-row row r i h = other (claim_word z row) (row_word z r i) (λ e. omega arith)
+
+  pub claim-cur : (row : ℕ) → slice_index (set words (claim_word z row) x) 0 ≡ slice_index words 0
+  claim-cur row = other (claim_word z row) 0 (λ e. omega arith)
+
+  pub claim-release : (row page : ℕ) → page < z.versions → release z (set words (claim_word z row) x) page ≡ release z words page
+  claim-release row page h = other (claim_word z row) (release_word z page) (λ e. omega arith)
+
+  pub claim-logged : (row e i : ℕ) → row < z.rows → logged z (set words (claim_word z row) x) e i ≡ logged z words e i
+  claim-logged row e i h = other (claim_word z row) (log_word z e i) (λ e. omega arith)
 
   -- a place is written
   pub place-claim : (page place r : ℕ) → r < z.rows → claim z (set words (place_word z page place) x) r ≡ claim z words r
@@ -84,6 +131,15 @@ module _ (z : Sizes) (words : List ℕ) (x : ℕ) where
   pub place-row : (page place r i : ℕ) → page < z.versions → place < z.places → row_at z (set words (place_word z page place) x) r i ≡ row_at z words r i
   place-row page place r i v h = let m = place_before z page place v h in other (place_word z page place) (row_word z r i) (λ e. omega arith)
 
+  pub place-cur : (page place : ℕ) → slice_index (set words (place_word z page place) x) 0 ≡ slice_index words 0
+  place-cur page place = other (place_word z page place) 0 (λ e. omega arith)
+
+  pub place-release : (page place q : ℕ) → q < z.versions → release z (set words (place_word z page place) x) q ≡ release z words q
+  place-release page place q h = other (place_word z page place) (release_word z q) (λ e. omega arith)
+
+  pub place-logged : (page place e i : ℕ) → page < z.versions → place < z.places → logged z (set words (place_word z page place) x) e i ≡ logged z words e i
+  place-logged page place e i v h = let m = place_before z page place v h in other (place_word z page place) (log_word z e i) (λ e. omega arith)
+
   -- a word of a row is written
   pub row-claim : (row index r : ℕ) → r < z.rows → claim z (set words (row_word z row index) x) r ≡ claim z words r
   row-claim row index r h = other (row_word z row index) (claim_word z r) (λ e. omega arith)
@@ -91,9 +147,23 @@ module _ (z : Sizes) (words : List ℕ) (x : ℕ) where
   pub row-entry : (row index page p : ℕ) → page < z.versions → p < z.places → entry z (set words (row_word z row index) x) page p ≡ entry z words page p
   row-entry row index page p v h = let m = place_before z page p v h in other (row_word z row index) (place_word z page p) (λ e. omega arith)
 
+  pub row-cur : (row index : ℕ) → slice_index (set words (row_word z row index) x) 0 ≡ slice_index words 0
+  row-cur row index = other (row_word z row index) 0 (λ e. omega arith)
+
+  pub row-release : (row index page : ℕ) → page < z.versions → release z (set words (row_word z row index) x) page ≡ release z words page
+  row-release row index page h = other (row_word z row index) (release_word z page) (λ e. omega arith)
+
+  pub row-logged : (row index e i : ℕ) → e < z.log → i < 32 → logged z (set words (row_word z row index) x) e i ≡ logged z words e i
+  row-logged row index e i h k = other (row_word z row index) (log_word z e i) (λ e. omega arith)
+
 apart : (r q w i j : ℕ) → r < q → i < w → r * w + i ≢ q * w + j
 apart r q w i j h k e = let m = before r q w i h k in omega arith
 
 pub row-row : (z : Sizes) (words : List ℕ) (x row index r i : ℕ) → index < z.width → i < z.width → ((r ≡ row) → i ≢ index) → row_at z (set words (row_word z row index) x) r i ≡ row_at z words r i
 row-row z words x row index r i h k n = other z words x (row_word z row index) (row_word z r i) (λ e. let e' : r * z.width + i ≡ row * z.width + index = omega arith in
     elim (cases_lt r row) [ inl a ↦ apart r row z.width i index a k e' | inr b ↦ elim (cases_lt row r) [ inl a ↦ apart row r z.width index i a h (sym e') | inr c ↦ let same : r ≡ row = omega arith in n same (let s : r * z.width ≡ row * z.width = ap (λ q. q * z.width) same in omega arith) ] ])
+
+-- a place of another page
+pub place-page : (z : Sizes) (words : List ℕ) (x page place q p : ℕ) → place < z.places → p < z.places → q ≢ page → entry z (set words (place_word z page place) x) q p ≡ entry z words q p
+place-page z words x page place q p h k n = other z words x (place_word z page place) (place_word z q p) (λ e. let e' : q * z.places + p ≡ page * z.places + place = omega arith in
+    elim (cases_lt q page) [ inl a ↦ apart q page z.places p place a k e' | inr b ↦ elim (cases_lt page q) [ inl a ↦ apart page q z.places place p a h (sym e') | inr c ↦ n (omega arith) ] ])

@@ -1,13 +1,10 @@
--- What stands of a page, of the facts and of the own rows after a write that leaves the page's entries and the rows that they name.
+-- A page after a write that leaves its entries and the rows that they name.
 use Rattle.std.proofs.Common.{◌≡◌, ◌≢◌, ℕ, suc, ◌<◌, List, sym, ◌∙◌, subst, arith}
 use Rattle.pin_rule.specs.declared.sizes.Sizes.{Sizes}
-use Rattle.pin_rule.specs.declared.view.View.{View}
-use Rattle.pin_rule.specs.declared.view.OwnRow.{OwnRow}
 use Rattle.pin_rule.specs.Layout.{claim, entry, row_at}
 use Rattle.pin_rule.specs.Rows.{key_of, on_path}
-use Rattle.pin_rule.specs.Lawful.{StandsOnPath, IsEntry, IsPage, IsHeld, IsOwned, EntryStands, WordStands, Knows}
+use Rattle.pin_rule.specs.Pages.{StandsOnPath, IsEntry, IsPage, IsHeld}
 use Rattle.pin_rule.proofs.Frames.{Same, key_same, content_same}
-use Rattle.pin_rule.proofs.Lists.{each_map}
 use Rattle.pin_rule.proofs.Paths.{on_page}
 
 module _ (F : List ℕ → Type 0) (z : Sizes) (words words' : List ℕ) (page : ℕ) where
@@ -27,18 +24,18 @@ module _ (F : List ℕ → Type 0) (z : Sizes) (words words' : List ℕ) (page :
       }
 
   -- each place is as it was, and each row that a place holds is in use and as it was
-  pub record Kept : Type 0 where
+  pub record KeptPage : Type 0 where
     pub places : (p : ℕ) → p < z.places → entry z words' page p ≡ entry z words page p
     pub in_use : (r : ℕ) → r < z.rows → claim z words r ≡ 1 → IsHeld z words page r → claim z words' r ≡ 1
     pub rows : (r : ℕ) → r < z.rows → claim z words r ≡ 1 → IsHeld z words page r → Same z.width (row_at z words r) (row_at z words' r)
 
-  pub held_on : Kept → (r : ℕ) → IsHeld z words page r → IsHeld z words' page r
+  pub held_on : KeptPage → (r : ℕ) → IsHeld z words page r → IsHeld z words' page r
   held_on kept r x = (x.0, x.1, kept.places x.0 x.1 ∙ x.2)
 
-  pub held_back : Kept → (r : ℕ) → IsHeld z words' page r → IsHeld z words page r
+  pub held_back : KeptPage → (r : ℕ) → IsHeld z words' page r → IsHeld z words page r
   held_back kept r x = (x.0, x.1, sym (kept.places x.0 x.1) ∙ x.2)
 
-  module _ (h : IsPage z words F page) (kept : Kept) where
+  module _ (h : IsPage z words F page) (kept : KeptPage) where
     pub row_moves : (p r : ℕ) → p < z.places → entry z words page p ≡ suc r → Same z.width (row_at z words r) (row_at z words' r)
     row_moves p r inside e = let i = h.entries p r inside e in kept.rows r i.in_range i.in_use (p, inside, e)
 
@@ -51,18 +48,3 @@ module _ (F : List ℕ → Type 0) (z : Sizes) (words words' : List ℕ) (page :
           h.keys_once p q a b pi qi ea eb
           (key_same (row_at z words a) (row_at z words' a) z.width (omega arith) (row_moves p a pi ea) ∙ k ∙ sym (key_same (row_at z words b) (row_at z words' b) z.width (omega arith) (row_moves q b qi eb)));
     }
-
-module _ (F : List ℕ → Type 0) (z : Sizes) (words words' : List ℕ) (h : IsPage z words F 0) (kept : Kept F z words words' 0) where
-  pub knows_on : (v : View) → Knows z words v → Knows z words' v
-  knows_on v k = (
-    each_map (EntryStands z words) (EntryStands z words') (λ e x n. let y = x n in (y.0, kept.places e.place y.0 ∙ y.1)) v.entries k.0,
-    each_map (WordStands z words) (WordStands z words') (λ w x n. let y = x n in (held_on F z words words' 0 kept w.row y.0, y.1, sym (row_moves F z words words' 0 h kept y.0.0 w.row y.0.1 y.0.2 w.index y.1) ∙ y.2)) v.words k.1,
-  )
-
-  pub owned_moves : (o : OwnRow) → IsOwned z words o → claim z words' o.row ≡ 1 → Same z.width (row_at z words o.row) (row_at z words' o.row) → IsOwned z words' o
-  owned_moves o i c s = record {
-    in_range = i.in_range;
-    in_use = c;
-    in_no_page = λ x. i.in_no_page (held_back F z words words' 0 kept o.row x);
-    written = each_map (λ (w : ℕ × ℕ). (w.0 < z.width) × (row_at z words o.row w.0 ≡ w.1)) (λ (w : ℕ × ℕ). (w.0 < z.width) × (row_at z words' o.row w.0 ≡ w.1)) (λ w x. (x.0, sym (s w.0 x.0) ∙ x.1)) o.wrote i.written;
-  }

@@ -1,7 +1,8 @@
 -- Where the parts of the table lie, for every sizes. In this order: CUR, the release word of each page, the claim word of each row, the pages, the log, the rows.
-use Rattle.std.specs.Prelude.{◌≡◌, ℕ, ◌+◌, ◌*◌, List, slice_index, refl}
+use Rattle.std.specs.Prelude.{ℕ, ◌+◌, ◌*◌, ◌/◌, ◌%◌, ◌^◌, List, slice_index}
 use lib.Dec.{lit≤}
 use Rattle.pin_rule.specs.declared.sizes.Sizes.{Sizes}
+use Rattle.pin_rule.specs.declared.limits.TheConstants.{MOST_ENTRIES, MOST_VERSIONS, MOST_PLACES, MOST_ROWS, MOST_WIDTH, MOST_PINS}
 
 -- the pins taken on the release word of a page
 abbrev pub release_word : Sizes → ℕ → ℕ
@@ -39,12 +40,12 @@ word_count z = rows_at z + z.rows * z.width
 
 abbrev pub full_sizes : Sizes
 full_sizes = record {
-  log = 16384;
-  versions = 16;
-  places = 4096;
-  rows = 4096;
-  width = 512;
-  pins = 2147483648;
+  log = MOST_ENTRIES;
+  versions = MOST_VERSIONS;
+  places = MOST_PLACES;
+  rows = MOST_ROWS;
+  width = MOST_WIDTH;
+  pins = MOST_PINS;
   log_in = (lit≤ tt, lit≤ tt);
   versions_in = (lit≤ tt, lit≤ tt);
   places_in = (lit≤ tt, lit≤ tt);
@@ -53,10 +54,21 @@ full_sizes = record {
   pins_in = lit≤ tt;
 }
 
-pub full_word_count : word_count full_sizes ≡ 2691089
-full_word_count = refl
+-- What CUR says: the version and the page in its high half
 
--- What stands in a table of these words
+abbrev pub version_named : ℕ → ℕ
+version_named n = n / 2 ^ 32 / 16
+
+abbrev pub page_named : ℕ → ℕ
+page_named n = n / 2 ^ 32 % 16
+
+-- What stands in a table of these words. Word 0 is CUR, which has no function of its own
+
+abbrev pub release : Sizes → List ℕ → ℕ → ℕ
+release z words page = slice_index words (release_word z page)
+
+abbrev pub logged : Sizes → List ℕ → ℕ → ℕ → ℕ
+logged z words entry index = slice_index words (log_word z entry index)
 
 abbrev pub claim : Sizes → List ℕ → ℕ → ℕ
 claim z words row = slice_index words (claim_word z row)

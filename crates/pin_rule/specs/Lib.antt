@@ -1,9 +1,16 @@
 pub mod Layout
-pub mod Spots
+pub mod Ops
 pub mod Rows
 pub mod Lists
 pub mod Views
 pub mod Steps
+pub mod Pages
+pub mod PartCurrent
+pub mod PartLive
+pub mod PartClaims
+pub mod PartCarried
+pub mod PartFacts
+pub mod PartShares
 pub mod Lawful
 pub mod Keeps
 pub mod Told

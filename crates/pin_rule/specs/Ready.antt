@@ -9,12 +9,12 @@ use Rattle.pin_rule.specs.Rows.{key_of, content_of, on_path}
 use Rattle.pin_rule.specs.Told.{KnowsWord}
 
 -- the view knows a row at this place whose length of the key, or a word of the key, is not that of g
-abbrev pub KnowsOther : View → (ℕ → ℕ) → ℕ → Type 0
-KnowsOther v g place =
-    (row : ℕ) × (index : ℕ) × (word : ℕ) × In (let e : EntryFact = record { version = 0; place = place; row = row } in e) v.entries
-    × KnowsWord v row index word × (index < 2 + g 0) × (index ≢ 1) × (word ≢ g index)
+abbrev pub KnowsOther : View → ℕ → (ℕ → ℕ) → ℕ → Type 0
+KnowsOther v version g place =
+    (row : ℕ) × (index : ℕ) × (word : ℕ) × In (let e : EntryFact = record { version = version; place = place; row = row } in e) v.entries
+    × KnowsWord v version row index word × (index < 2 + g 0) × (index ≢ 1) × (word ≢ g index)
 
-pub record IsReady (fits : List ℕ → Type 0) (z : Sizes) (v : View) (o : OwnRow) (g : ℕ → ℕ) (place : ℕ) : Type 0 where
+pub record IsReady (fits : List ℕ → Type 0) (z : Sizes) (v : View) (version : ℕ) (o : OwnRow) (g : ℕ → ℕ) (place : ℕ) : Type 0 where
   pub owns : v.own ≡ Some o
   pub room : 2 + (g 0 + g 1) ≤ z.width
   pub wrote : (index : ℕ) → index < 2 + (g 0 + g 1) → In (index, g index) o.wrote
@@ -22,4 +22,4 @@ pub record IsReady (fits : List ℕ → Type 0) (z : Sizes) (v : View) (o : OwnR
   pub step : ℕ
   pub step_in : step < z.places
   pub at : on_path z (key_of g) step ≡ place
-  pub passed : (before : ℕ) → before < step → KnowsOther v g (on_path z (key_of g) before)
+  pub passed : (before : ℕ) → before < step → KnowsOther v version g (on_path z (key_of g) before)

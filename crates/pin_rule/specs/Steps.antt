@@ -1,6 +1,6 @@
 -- What each kind of step makes of the view: from the view before, the arguments, and the word met where the operation tells it.
-use Rattle.std.specs.Prelude.{ℕ, zero, suc, ◌+◌, ◌-◌, ◌/◌, List, [], ◌∷◌, ◌++◌, map, Option, Some, None, cond}
-use lib.Dec.{eqb}
+use Rattle.std.specs.Prelude.{ℕ, zero, suc, ◌+◌, ◌-◌, ◌/◌, List, [], ◌∷◌, ◌++◌, map, length, Option, Some, None, Bool, true, false, cond}
+use lib.Dec.{eqb, ltb}
 use Rattle.pin_rule.specs.declared.sizes.Sizes.{Sizes}
 use Rattle.pin_rule.specs.declared.view.View.{View}
 use Rattle.pin_rule.specs.declared.view.OwnRow.{OwnRow}
@@ -10,9 +10,13 @@ use Rattle.pin_rule.specs.declared.view.EntryFact.{EntryFact}
 use Rattle.pin_rule.specs.declared.view.WordFact.{WordFact}
 use Rattle.pin_rule.specs.declared.view.Step.{Step}
 use Rattle.pin_rule.specs.declared.view.Kind.{Kind}
-use Rattle.pin_rule.specs.declared.view.Kind.TheVariants.{LoadPlace, LoadRow, Claim, WriteRow, Publish, GiveBack, Split, Join}
-use Rattle.pin_rule.specs.Layout.{claim_word, place_word, row_word, full_sizes}
-use Rattle.pin_rule.specs.Views.{whole, version_at}
+use Rattle.pin_rule.specs.declared.view.Kind.TheVariants as kind
+use Rattle.pin_rule.specs.declared.view.KnownPlace.{KnownPlace}
+use Rattle.pin_rule.specs.declared.ops.Op.{Op}
+use Rattle.pin_rule.specs.declared.ops.Op.TheVariants as op
+use Rattle.pin_rule.specs.Layout.{release_word, claim_word, place_word, log_word, row_word, version_named, page_named, full_sizes}
+use Rattle.pin_rule.specs.Ops.{exchanged, one_more}
+use Rattle.pin_rule.specs.Views.{whole, now, version_at}
 
 -- The steps as they stand in a view's list
 
@@ -20,34 +24,38 @@ abbrev pub step_of : Kind → ℕ → Option ℕ → Option ℕ → Step
 step_of k i m n = record { kind = k; word = i; met = m; left = n }
 
 abbrev pub loaded_place : Sizes → ℕ → ℕ → ℕ → Step
-loaded_place z page place met = step_of LoadPlace (place_word z page place) (Some met) (Some met)
+loaded_place z page place met = step_of kind.LoadPlace (place_word z page place) (Some met) (Some met)
 
 abbrev pub loaded_row : Sizes → ℕ → ℕ → ℕ → Step
-loaded_row z row index met = step_of LoadRow (row_word z row index) (Some met) (Some met)
-
--- the word that an exchange of 0 for a new word leaves
-abbrev pub exchanged : ℕ → ℕ → ℕ
-exchanged new zero = new
-exchanged new (suc n) = suc n
+loaded_row z row index met = step_of kind.LoadRow (row_word z row index) (Some met) (Some met)
 
 abbrev pub claimed : Sizes → ℕ → ℕ → Step
-claimed z row met = step_of Claim (claim_word z row) (Some met) (Some (exchanged 1 met))
+claimed z row met = step_of kind.Claim (claim_word z row) (Some met) (Some (exchanged 1 met))
 
 abbrev pub wrote_row : Sizes → ℕ → ℕ → ℕ → Step
-wrote_row z row index word = step_of WriteRow (row_word z row index) None (Some word)
+wrote_row z row index word = step_of kind.WriteRow (row_word z row index) None (Some word)
 
 abbrev pub published : Sizes → ℕ → ℕ → ℕ → ℕ → Step
-published z page place row met = step_of Publish (place_word z page place) (Some met) (Some (exchanged (suc row) met))
+published z page place row met = step_of kind.Publish (place_word z page place) (Some met) (Some (exchanged (suc row) met))
 
 abbrev pub gave_back : Sizes → ℕ → Step
-gave_back z row = step_of GiveBack (claim_word z row) None (Some 0)
+gave_back z row = step_of kind.GiveBack (claim_word z row) None (Some 0)
 
--- they load word 0, and what they met is not told
+abbrev pub pinned : ℕ → Step
+pinned met = step_of kind.Pin 0 (Some met) (Some (one_more met))
+
+abbrev pub unpinned : Sizes → ℕ → ℕ → Step
+unpinned z page met = step_of kind.Unpin (release_word z page) (Some met) (Some (one_more met))
+
+abbrev pub loaded_log : Sizes → ℕ → ℕ → ℕ → Step
+loaded_log z entry index met = step_of kind.LoadLog (log_word z entry index) (Some met) (Some met)
+
+-- they load word 0, and the table does not tell what they met
 abbrev pub was_split : Step
-was_split = step_of Split 0 None None
+was_split = step_of kind.Split 0 None None
 
 abbrev pub was_joined : Step
-was_joined = step_of Join 0 None None
+was_joined = step_of kind.Join 0 None None
 
 abbrev pub noted : View → Step → View
 noted v s = record v { steps = v.steps ++ s ∷ [] }
@@ -72,7 +80,7 @@ met_word (Some version) ws row index met = record { version = version; row = row
 -- The views afterwards
 
 abbrev pub after_load_place : View → ℕ → ℕ → ℕ → View
-after_load_place v page place met = noted (record v { entries = met_entry (version_at v.pinned page) v.entries place met }) (loaded_place v.sizes page place met)
+after_load_place v page place met = noted (record v { entries = met_entry (version_at v page) v.entries place met }) (loaded_place v.sizes page place met)
 
 abbrev pub after_load_row : View → ℕ → ℕ → ℕ → View
 after_load_row v row index met = noted (record v { words = met_word (version_of v.entries row) v.words row index met }) (loaded_row v.sizes row index met)
@@ -112,24 +120,72 @@ abbrev pub published_own : Option OwnRow → ℕ → Option OwnRow
 published_own own zero = None
 published_own own (suc _) = own
 
+-- what is known of the other places
+abbrev pub without_place : ℕ → List KnownPlace → List KnownPlace
+without_place place [] = []
+without_place place (k ∷ ks) = cond (eqb k.place place) (without_place place ks) (k ∷ without_place place ks)
+
+abbrev pub published_known : List KnownPlace → ℕ → ℕ → List KnownPlace
+published_known ks place zero = without_place place ks
+published_known ks place (suc _) = ks
+
 abbrev pub after_publish : View → ℕ → ℕ → ℕ → ℕ → View
 after_publish v page place row met = noted
     (record v {
       own = published_own v.own met;
-      entries = met_entry (version_at v.pinned page) v.entries place (exchanged (suc row) met);
-      words = published_words (version_at v.pinned page) v.own v.words met;
+      entries = met_entry (version_at v page) v.entries place (exchanged (suc row) met);
+      words = published_words (version_at v page) v.own v.words met;
+      known = published_known v.known place met;
     })
     (published v.sizes page place row met)
 
 abbrev pub after_give_back : View → ℕ → View
 after_give_back v row = noted (record v { own = None }) (gave_back v.sizes row)
 
--- what is left to a seat that is split, and what the new seat has. While there is one version, each seat counts as one that pins it
-abbrev pub still : Option Pin
-still = Some record { version = 0; page = 0 }
+abbrev pub pin_of : ℕ → Pin
+pin_of met = record { version = version_named met; page = page_named met }
 
+abbrev pub after_pin : View → ℕ → View
+after_pin v met = noted (record v { pinned = Some (pin_of met); pins_left = v.pins_left - 1 }) (pinned met)
+
+abbrev pub after_unpin : View → ℕ → ℕ → View
+after_unpin v page met = noted (record v { pinned = None }) (unpinned v.sizes page met)
+
+abbrev pub is_below : ℕ → Option Pin → Bool
+is_below entry None = false
+is_below entry (Some p) = ltb entry p.version
+
+-- the word is the next one of the entry after the view's log, and the pinned version has that entry
+abbrev pub is_next : View → ℕ → ℕ → Bool
+is_next v entry index = cond (is_below entry v.pinned) (cond (eqb entry (now v)) (eqb index (length v.log_words)) false) false
+
+-- the log grows by the entry once all its words were loaded
+abbrev pub with_words : View → List ℕ → View
+with_words v ws = cond (eqb (length ws) 32) (record v { log = v.log ++ record { words = ws } ∷ []; log_words = [] }) (record v { log_words = ws })
+
+abbrev pub with_word : Bool → View → ℕ → View
+with_word false v met = v
+with_word true v met = with_words v (v.log_words ++ met ∷ [])
+
+abbrev pub after_load_log : View → ℕ → ℕ → ℕ → View
+after_load_log v entry index met = noted (with_word (is_next v entry index) v met) (loaded_log v.sizes entry index met)
+
+-- The view after an operation that met a word
+
+abbrev pub after : View → Op → ℕ → View
+after v (op.LoadPlace page place) met = after_load_place v page place met
+after v (op.LoadRow row index) met = after_load_row v row index met
+after v (op.Claim row) met = after_claim v row met
+after v (op.WriteRow row index word) met = after_write_row v row index word
+after v (op.Publish page place row) met = after_publish v page place row met
+after v (op.GiveBack row) met = after_give_back v row
+after v op.Pin met = after_pin v met
+after v (op.Unpin page) met = after_unpin v page met
+after v (op.LoadLog entry index) met = after_load_log v entry index met
+
+-- what is left to a seat that is split, and what the new seat has
 abbrev pub after_split : View → ℕ → View
-after_split v pins = noted (record v { share = v.share - v.share / 2; pins_left = v.pins_left - pins }) was_split
+after_split v pins = noted (record v { share = v.share - v.share / 2; pins_left = v.pins_left - pins; known = [] }) was_split
 
 abbrev pub split_off : View → ℕ → View
 split_off v pins = record {
@@ -137,7 +193,7 @@ split_off v pins = record {
   log = v.log;
   share = v.share / 2;
   pins_left = pins;
-  pinned = still;
+  pinned = None;
   own = None;
   log_words = [];
   entries = [];
@@ -154,6 +210,7 @@ after_join v w = record (noted v was_joined) {
   pins_left = v.pins_left + w.pins_left;
   entries = v.entries ++ w.entries;
   words = v.words ++ w.words;
+  known = [];
   steps = (v.steps ++ was_joined ∷ []) ++ w.steps;
 }
 
@@ -162,7 +219,25 @@ spent_view = record { sizes = full_sizes; log = []; share = 0; pins_left = 0; pi
 
 -- the one seat of a new table
 abbrev pub first_role : Role
-first_role = record { live = record { version = 0; page = 0; base = 0; taken = None; carried = [] } ∷ []; released = []; making = None; giving_up = None }
+first_role = record { newest = record { version = 0; page = 0; base = 0; carried = [] }; older = []; released = []; making = None; giving_up = None }
+
+-- so many places, all of them empty
+abbrev pub empty_places : ℕ → List KnownPlace
+empty_places zero = []
+empty_places (suc n) = record { place = n; met = 0; words = [] } ∷ empty_places n
 
 abbrev pub first_view : Sizes → View
-first_view z = record { sizes = z; log = []; share = whole; pins_left = z.pins; pinned = still; own = None; log_words = []; entries = []; words = []; known = []; role = Some first_role; steps = [] }
+first_view z = record {
+  sizes = z;
+  log = [];
+  share = whole;
+  pins_left = z.pins;
+  pinned = None;
+  own = None;
+  log_words = [];
+  entries = [];
+  words = [];
+  known = empty_places z.places;
+  role = Some first_role;
+  steps = [];
+}

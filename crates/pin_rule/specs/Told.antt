@@ -1,22 +1,50 @@
 -- What the rule says of one view that has a share, whatever else stands in the table.
-use Rattle.std.specs.Prelude.{ℕ, ◌+◌, ◌<◌, ◌≤◌, List}
+use Rattle.std.specs.Prelude.{◌≡◌, ℕ, ◌+◌, ◌<◌, ◌≤◌, List, length, slice_index}
+use mathlib.Core.Option as maybe
+use lib.ListN.{get_elem?}
+use Rattle.pin_rule.specs.declared.content.Entry.{Entry}
 use Rattle.pin_rule.specs.declared.view.View.{View}
 use Rattle.pin_rule.specs.declared.view.EntryFact.{EntryFact}
 use Rattle.pin_rule.specs.declared.view.WordFact.{WordFact}
+use Rattle.pin_rule.specs.declared.ops.Op.{Op}
+use Rattle.pin_rule.specs.declared.ops.Op.TheVariants.{LoadPlace, LoadRow, Claim, WriteRow, Publish, GiveBack, Pin, Unpin, LoadLog}
+use Rattle.pin_rule.specs.Layout.{version_named, page_named}
 use Rattle.pin_rule.specs.Lists.{In}
 use Rattle.pin_rule.specs.Rows.{content_of}
+use Rattle.pin_rule.specs.Views.{now, IsCaughtUp}
 
--- the view knows that the row stands in the page of version 0
-abbrev pub KnowsRow : View → ℕ → Type 0
-KnowsRow v row = (place : ℕ) × In (let e : EntryFact = record { version = 0; place = place; row = row } in e) v.entries
+-- the view knows that the row stands in the page of the version
+abbrev pub KnowsRow : View → ℕ → ℕ → Type 0
+KnowsRow v version row = (place : ℕ) × In (let e : EntryFact = record { version = version; place = place; row = row } in e) v.entries
 
-abbrev pub KnowsWord : View → ℕ → ℕ → ℕ → Type 0
-KnowsWord v row index word = In (let w : WordFact = record { version = 0; row = row; index = index; word = word } in w) v.words
+abbrev pub KnowsWord : View → ℕ → ℕ → ℕ → ℕ → Type 0
+KnowsWord v version row index word = In (let w : WordFact = record { version = version; row = row; index = index; word = word } in w) v.words
 
-pub record IsTold (fits : List ℕ → Type 0) (v : View) : Type 0 where
-  pub range : (row : ℕ) → KnowsRow v row → row < v.sizes.rows
+-- of the rows of a version
+pub record IsTold (fits : List ℕ → Type 0) (v : View) (version : ℕ) : Type 0 where
+  pub range : (row : ℕ) → KnowsRow v version row → row < v.sizes.rows
   -- a row has room for the lengths of its key and its payload
-  pub key : (row key : ℕ) → KnowsRow v row → KnowsWord v row 0 key → 2 + key ≤ v.sizes.width
-  pub room : (row key payload : ℕ) → KnowsRow v row → KnowsWord v row 0 key → KnowsWord v row 1 payload → 2 + (key + payload) ≤ v.sizes.width
+  pub key : (row key : ℕ) → KnowsRow v version row → KnowsWord v version row 0 key → 2 + key ≤ v.sizes.width
+  pub room : (row key payload : ℕ) → KnowsRow v version row → KnowsWord v version row 0 key → KnowsWord v version row 1 payload → 2 + (key + payload) ≤ v.sizes.width
   -- a row whose words are known fits the log
-  pub fitting : (row : ℕ) (g : ℕ → ℕ) → KnowsRow v row → ((index : ℕ) → index < 2 + (g 0 + g 1) → KnowsWord v row index (g index)) → fits (content_of g)
+  pub fitting : (row : ℕ) (g : ℕ → ℕ) → KnowsRow v version row → ((index : ℕ) → index < 2 + (g 0 + g 1) → KnowsWord v version row index (g index)) → fits (content_of g)
+
+-- a view that has caught up has a lawful log, and is told of the rows of the version that this log leads to
+abbrev pub Tells : (List Entry → Type 0) → (List Entry → List ℕ → Type 0) → View → Type 0
+Tells lawful fits v = IsCaughtUp v → lawful v.log × IsTold (fits v.log) v (now v)
+
+-- CUR names a version that the view's log leads to or a later one, and a page
+abbrev pub IsCurrentFor : View → ℕ → Type 0
+IsCurrentFor v n = (now v ≤ version_named n) × (version_named n ≤ v.sizes.log) × (page_named n < v.sizes.versions)
+
+-- what the rule says of the word that an operation met
+abbrev pub Meets : View → Op → ℕ → Type 0
+Meets v (LoadPlace page place) n = Unit {0}
+Meets v (LoadRow row index) n = Unit {0}
+Meets v (Claim row) n = n ≤ 1
+Meets v (WriteRow row index word) n = Unit {0}
+Meets v (Publish page place row) n = Unit {0}
+Meets v (GiveBack row) n = Unit {0}
+Meets v Pin n = IsCurrentFor v n
+Meets v (Unpin page) n = Unit {0}
+Meets v (LoadLog entry index) n = (e : Entry) → get_elem? v.log entry ≡ maybe.some e → (n ≡ slice_index e.words index) × (length e.words ≡ 32)

@@ -8,13 +8,16 @@
 
 pub mod content;
 pub mod hand;
+pub mod laws;
+pub mod limits;
 mod opening;
 mod operations;
+pub mod ops;
+mod pins;
 mod plays;
 mod rule;
 mod seating;
 pub mod sizes;
-mod spots;
 mod stepping;
 #[cfg(test)]
 mod tests;

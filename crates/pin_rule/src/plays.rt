@@ -1,30 +1,29 @@
 //! What an operation tells its hand.
 
-ghost use Rattle.std.specs.Prelude.{◌≡◌, ◌<◌, ◌≤◌, ℕ};
-ghost use Rattle.pin_rule.specs.Layout.{claim_word};
-ghost use Rattle.pin_rule.specs.Steps.{after_split, split_off, after_join, spent_view};
-ghost use Rattle.pin_rule.specs.Told.{IsTold};
+ghost use Rattle.std.specs.Prelude.{◌≡◌};
+ghost use Rattle.pin_rule.specs.Ops.{word_of};
+ghost use Rattle.pin_rule.specs.Steps.{after, after_split, split_off, after_join, spent_view};
+ghost use Rattle.pin_rule.specs.Told.{Tells, Meets};
 
 use crate::content::Content;
 use crate::view::View;
 use atomic_table::{Join, Play, Split};
 use std::marker::{Brand, PhantomData};
 
-/// The view that a step leads to, from the word that it met. Each call picks it.
-pub(crate) trait After {
-    ghost use Rattle.std.specs.Prelude.{ℕ};
-    ghost use Rattle.pin_rule.specs.declared.view.View.{View};
+/// The operation that a step makes.
+pub(crate) trait Doing {
+    ghost use Rattle.pin_rule.specs.declared.ops.Op.{Op};
 
-    ghost after: { ℕ → View };
+    ghost op: { Op };
 }
 
-impl After for Brand {
-    ghost use Rattle.pin_rule.specs.Steps.{spent_view};
+impl Doing for Brand {
+    ghost use Rattle.pin_rule.specs.declared.ops.Op.TheVariants.{Claim};
 
-    ghost after = { λ _. spent_view };
+    ghost op = { Claim 0 };
 }
 
-/// How many pins a new seat gets. Each call picks it.
+/// How many pins a new seat gets.
 pub(crate) trait Portion {
     ghost use Rattle.std.specs.Prelude.{ℕ};
 
@@ -36,13 +35,13 @@ impl Portion for Brand {
 }
 
 /// An operation that tells the word that it met. Beside the view it tells what
-/// the rule says of that view, and that a claim word is 0 or 1.
+/// the rule says of that view and of the word.
 pub(crate) struct Reads<C, G> {
     marker: PhantomData<(C, G)>,
 }
 
-impl<C: Content, G: After> Play<(), View> for Reads<C, G> {
-    ghost then = { λ s v n w. (w.0 ≡ G.after n) × (w.1 ≡ v.1) × IsTold (C.fits w.0.log) w.0 × ((row : ℕ) → row < w.0.sizes.rows → s.word ≡ claim_word w.0.sizes row → n ≤ 1) };
+impl<C: Content, G: Doing> Play<(), View> for Reads<C, G> {
+    ghost then = { λ _ v n w. (w.0 ≡ after v.0 G.op n) × (w.1 ≡ v.1) × Tells C.lawful C.fits w.0 × Meets v.0 G.op n };
 }
 
 /// An operation that tells nothing of the word that it met.
@@ -50,8 +49,8 @@ pub(crate) struct Stores<G> {
     marker: PhantomData<G>,
 }
 
-impl<G: After> Play<(), View> for Stores<G> {
-    ghost then = { λ s v n w. (w.0 ≡ G.after n) × (w.1 ≡ v.1) };
+impl<G: Doing> Play<(), View> for Stores<G> {
+    ghost then = { λ _ v n w. (w.0 ≡ after v.0 G.op n) × (w.1 ≡ v.1) };
 }
 
 /// A seat gets half of the share, rounded down, and some pins.

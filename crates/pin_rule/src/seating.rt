@@ -1,9 +1,9 @@
 //! How hands of one table are split and joined. Both load word 0.
 
 ghost use Rattle.std.specs.Prelude.{◌≡◌, ◌≢◌, ◌≤◌};
-ghost use Rattle.pin_rule.specs.Steps.{after_split, split_off, after_join, spent_view};
-ghost use Rattle.pin_rule.specs.Keeps.{KeepsSplit, KeepsJoin, law_of};
-ghost use Rattle.pin_rule.specs.Hands.{view_of, sizes_of, table_of};
+ghost use Rattle.pin_rule.specs.Steps.{after_split, split_off, after_join};
+ghost use Rattle.pin_rule.specs.Keeps.{KeepsSplit, KeepsJoin};
+ghost use Rattle.pin_rule.specs.Hands.{view_of, table_of};
 
 use crate::content::Content;
 use crate::hand::Hand;
@@ -16,7 +16,7 @@ impl<C: Content> Hand<C> {
     pub fn split(&mut self, pins: u32) -> Hand<C>
         requires share { (view_of self.old).share ≢ 0 }
         requires pins { pins ≤ (view_of self.old).pins_left }
-        requires keeps { KeepsSplit (law_of C.lawful C.fits (sizes_of self.old)) (view_of self.old) (after_split (view_of self.old) pins) (split_off (view_of self.old) pins) }
+        requires keeps { KeepsSplit C.lawful C.fits (view_of self.old) pins }
         ensures tables { (table_of self.new ≡ table_of self.old) × (table_of result ≡ table_of self.old) }
         ensures left { view_of self.new ≡ after_split (view_of self.old) pins }
         ensures new { view_of result ≡ split_off (view_of self.old) pins }
@@ -29,7 +29,7 @@ impl<C: Content> Hand<C> {
     pub fn join(&mut self, other: Hand<C>)
         requires table { table_of other ≡ table_of self.old }
         requires shares { ((view_of self.old).share ≢ 0) × ((view_of other).share ≢ 0) }
-        requires keeps { KeepsJoin (law_of C.lawful C.fits (sizes_of self.old)) (view_of self.old) (view_of other) (after_join (view_of self.old) (view_of other)) spent_view }
+        requires keeps { KeepsJoin C.lawful C.fits (view_of self.old) (view_of other) }
         ensures table { table_of self.new ≡ table_of self.old }
         ensures view { view_of self.new ≡ after_join (view_of self.old) (view_of other) }
     {

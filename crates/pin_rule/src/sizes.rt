@@ -1,5 +1,6 @@
 //! How large a table is.
 ghost use Rattle.std.specs.Prelude.{◌≤◌};
+ghost use Rattle.pin_rule.specs.declared.limits.TheConstants.{MOST_ENTRIES, MOST_VERSIONS, MOST_PLACES, MOST_ROWS, MOST_WIDTH, MOST_PINS};
 
 /// The sizes of a table: entries of the log, live versions, places of a page,
 /// rows, words of a row, and pins over the table's life.
@@ -11,10 +12,10 @@ pub struct Sizes {
     pub rows: u32,
     pub width: u32,
     pub pins: u32,
-    ghost log_in: { (1 ≤ log) × (log ≤ 16384) },
-    ghost versions_in: { (2 ≤ versions) × (versions ≤ 16) },
-    ghost places_in: { (1 ≤ places) × (places ≤ 4096) },
-    ghost rows_in: { (1 ≤ rows) × (rows ≤ 4096) },
-    ghost width_in: { (3 ≤ width) × (width ≤ 512) },
-    ghost pins_in: { pins ≤ 2147483648 },
+    ghost log_in: { (1 ≤ log) × (log ≤ MOST_ENTRIES) },
+    ghost versions_in: { (2 ≤ versions) × (versions ≤ MOST_VERSIONS) },
+    ghost places_in: { (1 ≤ places) × (places ≤ MOST_PLACES) },
+    ghost rows_in: { (1 ≤ rows) × (rows ≤ MOST_ROWS) },
+    ghost width_in: { (3 ≤ width) × (width ≤ MOST_WIDTH) },
+    ghost pins_in: { pins ≤ MOST_PINS },
 }

@@ -61,13 +61,6 @@ pub struct WordFact {
     pub word: u64,
 }
 
-/// A word of the log.
-pub struct LogWord {
-    pub entry: u64,
-    pub index: u64,
-    pub word: u64,
-}
-
 /// What stands at a place of the newest page, with the words of the row there
 /// as pairs of an index and a word.
 pub struct KnownPlace {
@@ -77,22 +70,26 @@ pub struct KnownPlace {
 }
 
 /// A live version: its page, the release word of that page when the version
-/// began, the pins taken on it if a newer version is there, and the rows that
-/// were carried into it.
+/// began, and the rows that were carried into it.
 pub struct Live {
     pub version: u64,
     pub page: u64,
     pub base: u64,
-    pub taken: Option<u64>,
     pub carried: LinkedList<u64>,
 }
 
-/// An entry and a page in the making, each with what was written so far as
-/// pairs of an index or a place and a word.
+/// A live version that is not the newest, with the pins taken on it.
+pub struct Older {
+    pub live: Live,
+    pub taken: u64,
+}
+
+/// An entry and a page in the making, each with the words written so far, in
+/// order from the first.
 pub struct Making {
     pub page: u64,
-    pub entry: LinkedList<(u64, u64)>,
-    pub places: LinkedList<(u64, u64)>,
+    pub entry: LinkedList<u64>,
+    pub places: LinkedList<u64>,
 }
 
 /// The version that is being given up, and the place of its page that comes
@@ -103,16 +100,18 @@ pub struct GivingUp {
     pub reached: u64,
 }
 
-/// What only the editor knows. The live versions stand oldest first; the
+/// What only the editor knows. The older versions stand newest first; the
 /// release words that it knows of other pages are pairs of a page and a word.
 pub struct Role {
-    pub live: LinkedList<Live>,
+    pub newest: Live,
+    pub older: LinkedList<Older>,
     pub released: LinkedList<(u64, u64)>,
     pub making: Option<Making>,
     pub giving_up: Option<GivingUp>,
 }
 
-/// What a seat knows. Facts stand newest first, steps oldest first.
+/// What a seat knows. Facts stand newest first, steps oldest first. The words
+/// that it loaded of the entry after its log stand in order from the first.
 pub struct View {
     pub sizes: Sizes,
     pub log: LinkedList<Entry>,
@@ -120,7 +119,7 @@ pub struct View {
     pub pins_left: u64,
     pub pinned: Option<Pin>,
     pub own: Option<OwnRow>,
-    pub log_words: LinkedList<LogWord>,
+    pub log_words: LinkedList<u64>,
     pub entries: LinkedList<EntryFact>,
     pub words: LinkedList<WordFact>,
     pub known: LinkedList<KnownPlace>,

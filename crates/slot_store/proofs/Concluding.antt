@@ -2,15 +2,17 @@
 use Rattle.std.proofs.Common.{◌≡◌, ◌≢◌, ℕ, List, [], ◌∷◌, ◌++◌, append_assoc, sym, refl, ap, ◌∙◌, subst}
 use Rattle.std.specs.Prelude.{Some}
 use Rattle.pin_rule.specs.declared.sizes.Sizes.{Sizes}
+use Rattle.slot_store.specs.declared.site.Site.{Site}
 use Rattle.pin_rule.specs.declared.content.Entry.{Entry}
 use Rattle.pin_rule.specs.declared.view.View.{View}
 use Rattle.pin_rule.specs.declared.view.Step.{Step}
 use Rattle.pin_rule.specs.Layout.{claim_word}
+use Rattle.pin_rule.specs.declared.ops.Op.TheVariants as op
 use Rattle.pin_rule.specs.Lists.{In}
 use Rattle.pin_rule.specs.Steps.{claimed, published, gave_back, after_give_back}
-use Rattle.pin_rule.specs.Keeps.{Keeps, law_of}
+use Rattle.pin_rule.specs.Keeps.{Keeps}
 use Rattle.pin_rule.proofs.Lists.{in_left, in_right}
-use Rattle.pin_rule.proofs.GivingBack.{keeps_give_back}
+use Rattle.pin_rule.proofs.KindGiveBack.{keeps_give_back}
 use Rattle.slot_store.specs.declared.placing.Placed.TheVariants as placed
 use Rattle.slot_store.specs.declared.page.Put.TheVariants as put
 use Rattle.slot_store.specs.Keys.{row_of}
@@ -20,11 +22,10 @@ use Rattle.slot_store.proofs.Growing.{Grows, moves_on, met_on, key_on, passed_on
 use Rattle.slot_store.proofs.Passing.{full}
 use Rattle.slot_store.proofs.Single.{moves_give_back}
 
-pub may_give_back : (L : List Entry → Type 0) (F : List Entry → List ℕ → Type 0) (x y : View) (row : ℕ) → OwnsRow x row → y.own ≡ x.own → y.share ≢ 0
-    → Keeps (law_of L F y.sizes) y (claim_word y.sizes row) (λ _. 0) (λ _. after_give_back y row)
-may_give_back L F x y row o own some = subst (λ (r : ℕ). Keeps (law_of L F y.sizes) y (claim_word y.sizes r) (λ _. 0) (λ _. after_give_back y r)) o.2 (keeps_give_back L F y.sizes y o.0 (own ∙ o.1) some)
+pub may_give_back : (L : List Entry → Type 0) (F : List Entry → List ℕ → Type 0) (x y : View) (row : ℕ) → OwnsRow x row → y.own ≡ x.own → Keeps L F y (op.GiveBack row)
+may_give_back L F x y row o own = subst (λ (r : ℕ). Keeps L F y (op.GiveBack r)) o.2 (keeps_give_back L F y o.0 (own ∙ o.1))
 
-module _ (z : Sizes) (v w x y : View) (row : ℕ) (key payload : List ℕ) (claim : Claims z v w 0 z.rows (Some row)) (write : WritesRow z w x row (row_of key payload)) where
+module _ (z : Site) (v w x y : View) (row : ℕ) (key payload : List ℕ) (claim : Claims z v w 0 z.sizes.rows (Some row)) (write : WritesRow z w x row (row_of key payload)) where
   -- the steps of the call up to the last of its walk
   abbrev pub walked : List Step → List Step
   walked added = claim.added ++ (write.added ++ added)
@@ -32,8 +33,8 @@ module _ (z : Sizes) (v w x y : View) (row : ℕ) (key payload : List ℕ) (clai
   pub moves : (added : List Step) → Moves x y added → Moves v y (walked added)
   moves added m = moves_on v w y claim.added (write.added ++ added) claim.moves (moves_on w x y write.added added write.moves m)
 
-  claimed_in : (added : List Step) → In (claimed z row 0) (walked added)
-  claimed_in added = in_left (claimed z row 0) claim.added (write.added ++ added) claim.is.2
+  claimed_in : (added : List Step) → In (claimed z.sizes row 0) (walked added)
+  claimed_in added = in_left (claimed z.sizes row 0) claim.added (write.added ++ added) claim.is.2
 
   last_of : (added : List Step) (s : Step) → In s added → In s (walked added)
   last_of added s i = in_right s claim.added (write.added ++ added) (in_right s write.added added i)
@@ -41,30 +42,30 @@ module _ (z : Sizes) (v w x y : View) (row : ℕ) (key payload : List ℕ) (clai
   regroup : (before : List Step) (s : Step) → walked (before ++ s ∷ []) ≡ walked before ++ s ∷ []
   regroup before s = ap (λ (l : List Step). claim.added ++ l) (sym (append_assoc write.added before (s ∷ []))) ∙ sym (append_assoc claim.added (write.added ++ before) (s ∷ []))
 
-  pub made : (p : Places z x y row key placed.Here) → PutIs z 0 (walked p.added) key payload put.Made
+  pub made : (p : Places z x y row key placed.Here) → PutIs z.sizes z.page (walked p.added) key payload put.Made
   made p = let at = p.is.1 in record {
     place = at.0;
     row = row;
     before = walked at.1;
     claim = claimed_in at.1;
     words = λ index lt. in_right _ claim.added (write.added ++ at.1) (in_left _ write.added at.1 (write.stores index lt));
-    entry = ap walked at.2 ∙ regroup at.1 (published z 0 at.0 row 0);
+    entry = ap walked at.2 ∙ regroup at.1 (published z.sizes z.page at.0 row 0);
   }
 
   -- and then the row was given back
   abbrev pub ended : List Step → List Step
-  ended added = walked added ++ gave_back z row ∷ []
+  ended added = walked added ++ gave_back z.sizes row ∷ []
 
-  pub ends : (added : List Step) (u : View) → Moves x y added → y.sizes ≡ z → u ≡ after_give_back y row → Moves v u (ended added)
-  ends added u m same is = subst (λ (t : View). Moves v t (ended added)) (sym is) (moves_on v y (after_give_back y row) (walked added) (gave_back z row ∷ []) (moves added m) (moves_give_back z y row same))
+  pub ends : (added : List Step) (u : View) → Moves x y added → y.sizes ≡ z.sizes → u ≡ after_give_back y row → Moves v u (ended added)
+  ends added u m same is = subst (λ (t : View). Moves v t (ended added)) (sym is) (moves_on v y (after_give_back y row) (walked added) (gave_back z.sizes row ∷ []) (moves added m) (moves_give_back z y row same))
 
-  gives_back : (added : List Step) → GivesBack z 0 (ended added)
+  gives_back : (added : List Step) → GivesBack z.sizes z.page (ended added)
   gives_back added = (row, walked added, claimed_in added, refl)
 
   grows : (added : List Step) → Grows y y added (ended added)
-  grows added = record { steps = λ s i. in_left s (walked added) (gave_back z row ∷ []) (last_of added s i); entries = λ _ i. i; words = λ _ i. i }
+  grows added = record { steps = λ s i. in_left s (walked added) (gave_back z.sizes row ∷ []) (last_of added s i); entries = λ _ i. i; words = λ _ i. i }
 
-  pub already : (p : Places z x y row key placed.Already) → PutIs z 0 (ended p.added) key payload put.Already
+  pub already : (p : Places z x y row key placed.Already) → PutIs z.sizes z.page (ended p.added) key payload put.Already
   already p = let at = p.is.1 in let g = grows p.added in (
     record {
       place = at.0;
@@ -75,5 +76,5 @@ module _ (z : Sizes) (v w x y : View) (row : ℕ) (key payload : List ℕ) (clai
     gives_back p.added,
   )
 
-  pub page_full : (p : Places z x y row key placed.Full) → PutIs z 0 (ended p.added) key payload put.PageFull
-  page_full p = (full z y (ended p.added) key (passed_on z y y p.added (ended p.added) (grows p.added) key z.places p.is.1), gives_back p.added)
+  pub page_full : (p : Places z x y row key placed.Full) → PutIs z.sizes z.page (ended p.added) key payload put.PageFull
+  page_full p = (full z y (ended p.added) key (passed_on z y y p.added (ended p.added) (grows p.added) key z.sizes.places p.is.1), gives_back p.added)

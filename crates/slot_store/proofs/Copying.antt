@@ -4,6 +4,7 @@ use mathlib.Core.Logic.{dite}
 use native.Mathlib.Decide.{ℕ_discrete}
 use Rattle.std.specs.Prelude.{Some}
 use Rattle.pin_rule.specs.declared.sizes.Sizes.{Sizes}
+use Rattle.slot_store.specs.declared.site.Site.{Site}
 use Rattle.pin_rule.specs.declared.view.View.{View}
 use Rattle.pin_rule.specs.declared.view.Step.{Step}
 use Rattle.pin_rule.specs.Steps.{version_of, loaded_row, after_load_row}
@@ -13,25 +14,28 @@ use Rattle.slot_store.proofs.Growing.{moves_on, work_on, earlier, later, reads_o
 use Rattle.slot_store.proofs.Single.{knows_row, moves_row, reads_row}
 
 -- a load of a word of a row that the view names
-pub record Loads (z : Sizes) (v w : View) (row index n : ℕ) : Type 0 where
+pub record Loads (z : Site) (v w : View) (row index n : ℕ) : Type 0 where
   pub added : List Step
   pub moves : Moves v w added
   pub own : w.own ≡ v.own
-  pub version : version_of w.entries row ≡ Some 0
+  pub version : version_of w.entries row ≡ Some z.version
   pub read : Reads z w added row index n
 
-pub loads : (z : Sizes) (v u : View) (row index n : ℕ) → IsAtWork z v → version_of v.entries row ≡ Some 0 → u ≡ after_load_row v row index n → Loads z v u row index n
+pub loads : (z : Site) (v u : View) (row index n : ℕ) → IsAtWork z v → version_of v.entries row ≡ Some z.version → u ≡ after_load_row v row index n → Loads z v u row index n
 loads z v u row index n work version is = subst (λ (x : View). Loads z v x row index n) (sym is)
-    (record { added = loaded_row z row index n ∷ []; moves = moves_row z v work row index n; own = refl; version = version; read = reads_row z v work row index n version })
+    (record { added = loaded_row z.sizes row index n ∷ []; moves = moves_row z v work row index n; own = refl; version = version; read = reads_row z v work row index n version })
 
-pub starts : (z : Sizes) (v u : View) (row from n : ℕ) (buffer : List ℕ) → Loads z v u row 1 n → Copies z v u row from n 0 buffer
+pub at_work : (z : Site) (v u : View) (row n : ℕ) → IsAtWork z v → version_of v.entries row ≡ Some z.version → u ≡ after_load_row v row 1 n → IsAtWork z u
+at_work z v u row n work version is = let l = loads z v u row 1 n work version is in work_on z v u l.added work l.moves
+
+pub starts : (z : Site) (v u : View) (row from n : ℕ) (buffer : List ℕ) → Loads z v u row 1 n → Copies z v u row from n 0 buffer
 starts z v u row from n buffer l = record { added = l.added; moves = l.moves; own = l.own; version = l.version; size_read = l.read; words = λ i lt. absurd (omega arith) }
 
 -- key and payload have room in the row
-pub wide : (F : List ℕ → Type 0) (z : Sizes) (v u : View) (row key n : ℕ) → IsAtWork z v → Loads z v u row 1 n → KnowsWord v row 0 key → IsTold F u → 2 + (key + n) ≤ z.width
-wide F z v u row key n work l k told = subst (λ (y : Sizes). 2 + (key + n) ≤ y.width) (l.moves.sizes ∙ work.sizes) (told.room row key n (knows_row u row l.version) (l.moves.words _ k) l.read.1)
+pub wide : (F : List ℕ → Type 0) (z : Site) (v u : View) (row key n : ℕ) → IsAtWork z v → Loads z v u row 1 n → KnowsWord v z.version row 0 key → IsTold F u z.version → 2 + (key + n) ≤ z.sizes.width
+wide F z v u row key n work l k told = subst (λ (y : Sizes). 2 + (key + n) ≤ y.width) (l.moves.sizes ∙ work.sizes) (told.room row key n (knows_row z u row l.version) (l.moves.words _ k) l.read.1)
 
-module _ (z : Sizes) (v w u : View) (row from size i x : ℕ) (buffer : List ℕ) (work : IsAtWork z v) (is : u ≡ after_load_row w row (from + i) x) (inside : i < length buffer) where
+module _ (z : Site) (v w u : View) (row from size i x : ℕ) (buffer : List ℕ) (work : IsAtWork z v) (is : u ≡ after_load_row w row (from + i) x) (inside : i < length buffer) where
   pub goes_on : Copies z v w row from size i buffer → Copies z v u row from size (i + 1) (set buffer i x)
   goes_on c = let l = loads z w u row (from + i) x (work_on z v w c.added work c.moves) c.version is in let more = earlier w u c.added l.added l.moves in record {
     added = c.added ++ l.added;

@@ -1,17 +1,20 @@
 -- What stays true of a view and of the steps that were added as more steps follow.
-use Rattle.std.proofs.Common.{ℕ, List, [], ◌++◌, inl, inr, append_assoc, append-nil, sym, refl, ap, ◌∙◌}
+use Rattle.std.proofs.Common.{ℕ, List, [], ◌++◌, length, subst, inl, inr, append_assoc, append-nil, sym, refl, ap, ◌∙◌}
 use Rattle.pin_rule.specs.declared.sizes.Sizes.{Sizes}
+use Rattle.slot_store.specs.declared.site.Site.{Site}
+use Rattle.pin_rule.specs.declared.content.Entry.{Entry}
 use Rattle.pin_rule.specs.declared.view.View.{View}
 use Rattle.pin_rule.specs.declared.view.EntryFact.{EntryFact}
 use Rattle.pin_rule.specs.declared.view.WordFact.{WordFact}
 use Rattle.pin_rule.specs.declared.view.Step.{Step}
 use Rattle.pin_rule.specs.Lists.{In}
+use Rattle.pin_rule.specs.Told.{IsTold, Tells}
 use Rattle.pin_rule.proofs.Lists.{in_left, in_right}
 use Rattle.slot_store.specs.Answers.{MetRow}
 use Rattle.slot_store.specs.Walks.{IsAtWork, Moves, Reads, ReadsKey, ReadsOther, MeetsOther, Passed}
 
 pub stays : (v : View) → Moves v v []
-stays v = record { sizes = refl; log = refl; share = refl; pins_left = refl; pinned = refl; steps = sym (append-nil v.steps); entries = λ _ i. i; words = λ _ i. i }
+stays v = record { sizes = refl; log = refl; share = refl; pins_left = refl; log_words = refl; pinned = refl; steps = sym (append-nil v.steps); entries = λ _ i. i; words = λ _ i. i }
 
 pub moves_on : (u v w : View) (a b : List Step) → Moves u v a → Moves v w b → Moves u w (a ++ b)
 moves_on u v w a b h k = record {
@@ -19,14 +22,19 @@ moves_on u v w a b h k = record {
   log = k.log ∙ h.log;
   share = k.share ∙ h.share;
   pins_left = k.pins_left ∙ h.pins_left;
+  log_words = k.log_words ∙ h.log_words;
   pinned = k.pinned ∙ h.pinned;
   steps = k.steps ∙ ap (λ (l : List Step). l ++ b) h.steps ∙ append_assoc u.steps a b;
   entries = λ e i. k.entries e (h.entries e i);
   words = λ x i. k.words x (h.words x i);
 }
 
-pub work_on : (z : Sizes) (v w : View) (a : List Step) → IsAtWork z v → Moves v w a → IsAtWork z w
-work_on z v w a h k = record { sizes = k.sizes ∙ h.sizes; share = λ e. h.share (sym k.share ∙ e); pinned = k.pinned ∙ h.pinned }
+pub work_on : (z : Site) (v w : View) (a : List Step) → IsAtWork z v → Moves v w a → IsAtWork z w
+work_on z v w a h k = record { sizes = k.sizes ∙ h.sizes; share = λ e. h.share (sym k.share ∙ e); pinned = k.pinned ∙ h.pinned; caught_up = h.caught_up ∙ ap length (sym k.log) }
+
+-- a user at work is told of the rows of its version
+pub told_at : (L : List Entry → Type 0) (F : List Entry → List ℕ → Type 0) (z : Site) (v : View) → IsAtWork z v → Tells L F v → IsTold (F v.log) v z.version
+told_at L F z v work told = subst (λ (n : ℕ). IsTold (F v.log) v n) (sym work.caught_up) (told (inl (_, work.pinned, work.caught_up))).1
 
 -- a view that knows no less, and a list with no fewer steps
 pub record Grows (v w : View) (a b : List Step) : Type 0 where
@@ -40,7 +48,7 @@ earlier v w a b k = record { steps = λ s i. in_left s a b i; entries = k.entrie
 pub later : (w : View) (a b : List Step) → Grows w w b (a ++ b)
 later w a b = record { steps = λ s i. in_right s a b i; entries = λ _ i. i; words = λ _ i. i }
 
-module _ (z : Sizes) (v w : View) (a b : List Step) (g : Grows v w a b) where
+module _ (z : Site) (v w : View) (a b : List Step) (g : Grows v w a b) where
   pub reads_on : (row index word : ℕ) → Reads z v a row index word → Reads z w b row index word
   reads_on row index word h = (g.steps _ h.0, g.words _ h.1)
 
@@ -50,7 +58,7 @@ module _ (z : Sizes) (v w : View) (a b : List Step) (g : Grows v w a b) where
   pub other_on : (row : ℕ) (key : List ℕ) → ReadsOther z v a row key → ReadsOther z w b row key
   other_on row key h = (h.0, h.1, reads_on row h.0 h.1 h.2, h.3, h.4)
 
-  pub met_on : (place row : ℕ) → MetRow z 0 a place row → MetRow z 0 b place row
+  pub met_on : (place row : ℕ) → MetRow z.sizes z.page a place row → MetRow z.sizes z.page b place row
   met_on place row h = elim h [ inl i ↦ inl (g.steps _ i) | inr t ↦ inr (t.0, g.steps _ t.1) ]
 
   pub meets_on : (key : List ℕ) (place : ℕ) → MeetsOther z v a key place → MeetsOther z w b key place

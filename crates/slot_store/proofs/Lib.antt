@@ -12,4 +12,5 @@ pub mod Offering
 pub mod Settling
 pub mod Extending
 pub mod Concluding
+pub mod CatchingUp
 pub mod Dividing

@@ -4,6 +4,7 @@ use mathlib.Core.Logic.{dite}
 use native.Mathlib.Decide.{ℕ_discrete}
 use Rattle.std.specs.Prelude.{Some}
 use Rattle.pin_rule.specs.declared.sizes.Sizes.{Sizes}
+use Rattle.slot_store.specs.declared.site.Site.{Site}
 use Rattle.pin_rule.specs.declared.view.View.{View}
 use Rattle.pin_rule.specs.declared.view.Step.{Step}
 use Rattle.pin_rule.specs.Rows.{on_path}
@@ -15,56 +16,59 @@ use Rattle.pin_rule.proofs.Paths.{on_page, path_reaches}
 use Rattle.slot_store.specs.declared.finding.Seen.TheVariants as seen
 use Rattle.slot_store.specs.Answers.{MetRow, IsPageFull}
 use Rattle.slot_store.specs.Walks.{IsAtWork, Moves, KnowsAt, ReadsKey, Passed, Compares, Walking, Walks}
-use Rattle.slot_store.proofs.Growing.{stays, moves_on, earlier, later, key_on, other_on, met_on, passed_on}
+use Rattle.slot_store.proofs.Growing.{stays, work_on, moves_on, earlier, later, key_on, other_on, met_on, passed_on}
 use Rattle.slot_store.proofs.Single.{moves_place, knows_at, names_row, knows_row}
 
 -- a row was met at a place
-pub record Meets (z : Sizes) (v w : View) (place row : ℕ) : Type 0 where
+pub record Meets (z : Site) (v w : View) (place row : ℕ) : Type 0 where
   pub added : List Step
   pub moves : Moves v w added
   pub own : w.own ≡ v.own
-  pub met : MetRow z 0 added place row
-  pub at : KnowsAt w place row
-  pub version : version_of w.entries row ≡ Some 0
+  pub met : MetRow z.sizes z.page added place row
+  pub at : KnowsAt z w place row
+  pub version : version_of w.entries row ≡ Some z.version
 
-pub starts : (z : Sizes) (v : View) (key : List ℕ) (place : ℕ) → place ≡ on_path z key 0 → Walking z v v key 0 place
+pub starts : (z : Site) (v : View) (key : List ℕ) (place : ℕ) → place ≡ on_path z.sizes key 0 → Walking z v v key 0 place
 starts z v key place at = record { added = []; moves = stays v; own = refl; passed = λ before lt. absurd (omega arith); at = at }
 
-pub on_the_page : (z : Sizes) (v w : View) (key : List ℕ) (steps place : ℕ) → Walking z v w key steps place → steps < z.places → place < z.places
-on_the_page z v w key steps place k lt = subst (λ (p : ℕ). p < z.places) (sym k.at) (on_page z key (omega arith) steps)
+pub on_the_page : (z : Site) (v w : View) (key : List ℕ) (steps place : ℕ) → Walking z v w key steps place → steps < z.sizes.places → place < z.sizes.places
+on_the_page z v w key steps place k lt = subst (λ (p : ℕ). p < z.sizes.places) (sym k.at) (on_page z.sizes key (omega arith) steps)
 
-module _ (z : Sizes) (w u : View) (work : IsAtWork z w) (place n : ℕ) (is : u ≡ after_load_place w 0 place n) where
-  pub loads : Moves w u (loaded_place z 0 place n ∷ [])
-  loads = subst (λ (x : View). Moves w x (loaded_place z 0 place n ∷ [])) (sym is) (moves_place z w work place n)
+module _ (z : Site) (w u : View) (work : IsAtWork z w) (place n : ℕ) (is : u ≡ after_load_place w z.page place n) where
+  pub loads : Moves w u (loaded_place z.sizes z.page place n ∷ [])
+  loads = subst (λ (x : View). Moves w x (loaded_place z.sizes z.page place n ∷ [])) (sym is) (moves_place z w work place n)
+
+  pub loaded_on : IsAtWork z u
+  loaded_on = work_on z w u (loaded_place z.sizes z.page place n ∷ []) work loads
 
   pub meets : (row : ℕ) → n ≡ suc row → Meets z w u place row
-  meets row e = let t = is ∙ ap (after_load_place w 0 place) e in let entries = ap (λ (x : View). x.entries) t in record {
-    added = loaded_place z 0 place n ∷ [];
+  meets row e = let t = is ∙ ap (after_load_place w z.page place) e in let entries = ap (λ (x : View). x.entries) t in record {
+    added = loaded_place z.sizes z.page place n ∷ [];
     moves = loads;
     own = ap (λ (x : View). x.own) is;
-    met = inl (inl (ap (loaded_place z 0 place) (sym e)));
+    met = inl (inl (ap (loaded_place z.sizes z.page place) (sym e)));
     at = knows_at z w work u place row entries;
     version = names_row z w work u place row entries;
   }
 
-  pub loaded_it : (row : ℕ) (e : n ≡ suc row) → In (loaded_place z 0 place (suc row)) (meets row e).added
+  pub loaded_it : (row : ℕ) (e : n ≡ suc row) → In (loaded_place z.sizes z.page place (suc row)) (meets row e).added
   unfolding meets
-  loaded_it row e = inl (ap (loaded_place z 0 place) (sym e))
+  loaded_it row e = inl (ap (loaded_place z.sizes z.page place) (sym e))
 
 -- the number of the row that was met
 pub row_met : (n : ℕ) → n ≢ 0 → n ≡ suc (n - 1)
 row_met n h = dite (ℕ_discrete n 0) (λ e. absurd (h e)) (λ ne. omega arith)
 
-pub range : (F : List ℕ → Type 0) (z : Sizes) (w u : View) (place row : ℕ) → IsAtWork z w → Meets z w u place row → IsTold F u → row < z.rows
-range F z w u place row work m told = subst (λ (y : Sizes). row < y.rows) (m.moves.sizes ∙ work.sizes) (told.range row (knows_row u row m.version))
+pub range : (F : List ℕ → Type 0) (z : Site) (w u : View) (place row : ℕ) → IsAtWork z w → Meets z w u place row → IsTold F u z.version → row < z.sizes.rows
+range F z w u place row work m told = subst (λ (y : Sizes). row < y.rows) (m.moves.sizes ∙ work.sizes) (told.range row (knows_row z u row m.version))
 
-module _ (z : Sizes) (v w : View) (key : List ℕ) (steps place : ℕ) (walk : Walking z v w key steps place) where
-  pub empty : (work : IsAtWork z w) (u : View) (n : ℕ) → u ≡ after_load_place w 0 place n → n ≡ 0 → steps < z.places → Walks z v u key (seen.Empty place)
-  empty work u n is e lt = let b : List Step = loaded_place z 0 place n ∷ [] in let m = loads z w u work place n is in record {
+module _ (z : Site) (v w : View) (key : List ℕ) (steps place : ℕ) (walk : Walking z v w key steps place) where
+  pub empty : (work : IsAtWork z w) (u : View) (n : ℕ) → u ≡ after_load_place w z.page place n → n ≡ 0 → steps < z.sizes.places → Walks z v u key (seen.Empty place)
+  empty work u n is e lt = let b : List Step = loaded_place z.sizes z.page place n ∷ [] in let m = loads z w u work place n is in record {
     added = walk.added ++ b;
     moves = moves_on v w u walk.added b walk.moves m;
     own = ap (λ (x : View). x.own) is ∙ walk.own;
-    is = (steps, lt, sym walk.at, (later u walk.added b).steps _ (inl (ap (loaded_place z 0 place) (sym e))), passed_on z w u walk.added (walk.added ++ b) (earlier w u walk.added b m) key steps walk.passed);
+    is = (steps, lt, sym walk.at, (later u walk.added b).steps _ (inl (ap (loaded_place z.sizes z.page place) (sym e))), passed_on z w u walk.added (walk.added ++ b) (earlier w u walk.added b m) key steps walk.passed);
   }
 
   module _ (u x : View) (row : ℕ) (m : Meets z w u place row) (same : Type 0) (c : Compares z u x row key same) where
@@ -77,7 +81,7 @@ module _ (z : Sizes) (v w : View) (key : List ℕ) (steps place : ℕ) (walk : W
     pub moves_all : Moves v x (walk.added ++ (m.added ++ c.added))
     moves_all = moves_on v w x walk.added (m.added ++ c.added) walk.moves on
 
-    pub met_all : MetRow z 0 (walk.added ++ (m.added ++ c.added)) place row
+    pub met_all : MetRow z.sizes z.page (walk.added ++ (m.added ++ c.added)) place row
     met_all = met_on z x x (m.added ++ c.added) (walk.added ++ (m.added ++ c.added)) (later x walk.added (m.added ++ c.added)) place row
         (met_on z u x m.added (m.added ++ c.added) (earlier u x m.added c.added c.moves) place row m.met)
 
@@ -88,7 +92,7 @@ module _ (z : Sizes) (v w : View) (key : List ℕ) (steps place : ℕ) (walk : W
     key_all is = key_on z x x (m.added ++ c.added) (walk.added ++ (m.added ++ c.added)) (later x walk.added (m.added ++ c.added)) row key
         (key_on z x x c.added (m.added ++ c.added) (later x m.added c.added) row key (c.yes is))
 
-    pub found : same → row < z.rows → In (loaded_place z 0 place (suc row)) m.added → Walks z v x key (seen.Same row)
+    pub found : same → row < z.sizes.rows → In (loaded_place z.sizes z.page place (suc row)) m.added → Walks z v x key (seen.Same row)
     found yes_it_is inside loaded = record {
       added = walk.added ++ (m.added ++ c.added);
       moves = moves_all;
@@ -96,7 +100,7 @@ module _ (z : Sizes) (v w : View) (key : List ℕ) (steps place : ℕ) (walk : W
       is = (inside, c.version, (place, in_right _ walk.added (m.added ++ c.added) (in_left _ m.added c.added loaded)), key_all yes_it_is);
     }
 
-    pub goes_on : ¬ same → (next : ℕ) → next ≡ on_path z key (steps + 1) → Walking z v x key (steps + 1) next
+    pub goes_on : ¬ same → (next : ℕ) → next ≡ on_path z.sizes key (steps + 1) → Walking z v x key (steps + 1) next
     goes_on not next at = record {
       added = walk.added ++ (m.added ++ c.added);
       moves = moves_all;
@@ -104,8 +108,8 @@ module _ (z : Sizes) (v w : View) (key : List ℕ) (steps place : ℕ) (walk : W
       passed = λ before lt. dite (ℕ_discrete before steps)
           (λ e. (
             row,
-            subst (λ (p : ℕ). MetRow z 0 (walk.added ++ (m.added ++ c.added)) p row) (walk.at ∙ ap (on_path z key) (sym e)) met_all,
-            subst (λ (p : ℕ). KnowsAt x p row) (walk.at ∙ ap (on_path z key) (sym e)) (c.moves.entries _ m.at),
+            subst (λ (p : ℕ). MetRow z.sizes z.page (walk.added ++ (m.added ++ c.added)) p row) (walk.at ∙ ap (on_path z.sizes key) (sym e)) met_all,
+            subst (λ (p : ℕ). KnowsAt z x p row) (walk.at ∙ ap (on_path z.sizes key) (sym e)) (c.moves.entries _ m.at),
             other_on z x x (m.added ++ c.added) (walk.added ++ (m.added ++ c.added)) (later x walk.added (m.added ++ c.added)) row key
                 (other_on z x x c.added (m.added ++ c.added) (later x m.added c.added) row key (c.no not)),
           ))
@@ -114,6 +118,6 @@ module _ (z : Sizes) (v w : View) (key : List ℕ) (steps place : ℕ) (walk : W
     }
 
 -- all places were passed, so all hold other keys
-pub full : (z : Sizes) (w : View) (added : List Step) (key : List ℕ) → Passed z w added key z.places → IsPageFull z 0 added key
-full z w added key passed place inside = let r = path_reaches z key (omega arith) place inside in let p = passed r.0 r.1 in let o = p.3 in
-    (p.0, o.0, o.1, subst (λ (q : ℕ). MetRow z 0 added q p.0) r.2 p.1, o.2.0, o.3, o.4)
+pub full : (z : Site) (w : View) (added : List Step) (key : List ℕ) → Passed z w added key z.sizes.places → IsPageFull z.sizes z.page added key
+full z w added key passed place inside = let r = path_reaches z.sizes key (omega arith) place inside in let p = passed r.0 r.1 in let o = p.3 in
+    (p.0, o.0, o.1, subst (λ (q : ℕ). MetRow z.sizes z.page added q p.0) r.2 p.1, o.2.0, o.3, o.4)

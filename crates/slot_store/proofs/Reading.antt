@@ -4,6 +4,7 @@ use mathlib.Core.Logic.{dite}
 use native.Mathlib.Decide.{ℕ_discrete}
 use Rattle.std.specs.Prelude.{Some, IsTrue, true, false}
 use Rattle.pin_rule.specs.declared.sizes.Sizes.{Sizes}
+use Rattle.slot_store.specs.declared.site.Site.{Site}
 use Rattle.pin_rule.specs.declared.view.View.{View}
 use Rattle.pin_rule.specs.declared.view.Step.{Step}
 use Rattle.pin_rule.specs.Steps.{version_of, loaded_row, after_load_row}
@@ -14,11 +15,11 @@ use Rattle.slot_store.proofs.Growing.{stays, moves_on, work_on, earlier, later, 
 use Rattle.slot_store.proofs.Single.{knows_row, moves_row, reads_row}
 
 -- the words below an index that tell the key are those of the key
-pub record Reading (z : Sizes) (v w : View) (row : ℕ) (key : List ℕ) (bound : ℕ) : Type 0 where
+pub record Reading (z : Site) (v w : View) (row : ℕ) (key : List ℕ) (bound : ℕ) : Type 0 where
   pub added : List Step
   pub moves : Moves v w added
   pub own : w.own ≡ v.own
-  pub version : version_of w.entries row ≡ Some 0
+  pub version : version_of w.entries row ≡ Some z.version
   pub words : (index : ℕ) → TellsKey key index → index < bound → Reads z w added row index (slice_index (head_of key) index)
 
 untrue : IsTrue false → ⊥
@@ -27,18 +28,18 @@ untrue e = cc
 pub head_at : (key : List ℕ) (i : ℕ) → slice_index (head_of key) (i + 2) ≡ slice_index key i
 head_at key i = ap (slice_index (head_of key)) (let r : i + 2 ≡ suc (suc i) = omega arith in r)
 
-pub starts : (z : Sizes) (v : View) (row : ℕ) (key : List ℕ) → version_of v.entries row ≡ Some 0 → Reading z v v row key 0
+pub starts : (z : Site) (v : View) (row : ℕ) (key : List ℕ) → version_of v.entries row ≡ Some z.version → Reading z v v row key 0
 starts z v row key is = record { added = []; moves = stays v; own = refl; version = is; words = λ index _ lt. absurd (omega arith) }
 
 -- a further word was loaded
-module _ (z : Sizes) (v w u : View) (row : ℕ) (key : List ℕ) (work : IsAtWork z v) (bound index n : ℕ) (is : u ≡ after_load_row w row index n) (r : Reading z v w row key bound) where
+module _ (z : Site) (v w u : View) (row : ℕ) (key : List ℕ) (work : IsAtWork z v) (bound index n : ℕ) (is : u ≡ after_load_row w row index n) (r : Reading z v w row key bound) where
   Loaded : View → Type 0
-  Loaded x = (added : List Step) × Moves v x added × (x.own ≡ v.own) × (version_of x.entries row ≡ Some 0) × Reads z x added row index n
+  Loaded x = (added : List Step) × Moves v x added × (x.own ≡ v.own) × (version_of x.entries row ≡ Some z.version) × Reads z x added row index n
       × ((at : ℕ) → TellsKey key at → at < bound → Reads z x added row at (slice_index (head_of key) at))
 
   loaded : Loaded u
   unfolding Loaded
-  loaded = let b : List Step = loaded_row z row index n ∷ [] in let at_work = work_on z v w r.added work r.moves in let t = after_load_row w row index n in let m = moves_row z w at_work row index n in
+  loaded = let b : List Step = loaded_row z.sizes row index n ∷ [] in let at_work = work_on z v w r.added work r.moves in let t = after_load_row w row index n in let m = moves_row z w at_work row index n in
       subst Loaded (sym is) (
         r.added ++ b,
         moves_on v w t r.added b r.moves m,
@@ -64,17 +65,21 @@ module _ (z : Sizes) (v w u : View) (row : ℕ) (key : List ℕ) (work : IsAtWor
         (λ other. l.5 at tells (omega arith));
   }
 
-  pub sizes_on : u.sizes ≡ z
+  pub past : IsAtWork z u
+  unfolding Loaded
+  past = let l = loaded in work_on z v u l.0 work l.1
+
+  pub sizes_on : u.sizes ≡ z.sizes
   unfolding Loaded
   sizes_on = loaded.1.sizes ∙ work.sizes
 
-  pub knows_both : KnowsRow u row × KnowsWord u row index n
+  pub knows_both : KnowsRow u z.version row × KnowsWord u z.version row index n
   unfolding Loaded
-  knows_both = (knows_row u row loaded.3, loaded.4.1)
+  knows_both = (knows_row z u row loaded.3, loaded.4.1)
 
 -- the word at index 1 tells nothing of the key
-pub past_one : (z : Sizes) (v w : View) (row : ℕ) (key : List ℕ) → Reading z v w row key 1 → Reading z v w row key 2
+pub past_one : (z : Site) (v w : View) (row : ℕ) (key : List ℕ) → Reading z v w row key 1 → Reading z v w row key 2
 past_one z v w row key r = record { added = r.added; moves = r.moves; own = r.own; version = r.version; words = λ index tells lt. let n = tells.1 in r.words index tells (dite (ℕ_discrete index 1) (λ e. absurd (n e)) (λ _. omega arith)) }
 
-pub ends : (z : Sizes) (v w : View) (row : ℕ) (key : List ℕ) (bound : ℕ) → 2 + length key ≤ bound → Reading z v w row key bound → Compares z v w row key (IsTrue true)
+pub ends : (z : Site) (v w : View) (row : ℕ) (key : List ℕ) (bound : ℕ) → 2 + length key ≤ bound → Reading z v w row key bound → Compares z v w row key (IsTrue true)
 ends z v w row key bound all r = record { added = r.added; moves = r.moves; own = r.own; version = r.version; yes = λ _ index tells. let lt = tells.0 in r.words index tells (omega arith); no = λ n. absurd (n refl) }

@@ -1,6 +1,7 @@
 -- The walk of a row to its place.
 use Rattle.std.proofs.Common.{◌≡◌, ℕ, suc, ◌+◌, ◌<◌, ◌≤◌, List, [], ◌∷◌, ◌++◌, length, append_assoc, sym, ap, ◌∙◌, subst, arith}
 use Rattle.pin_rule.specs.declared.sizes.Sizes.{Sizes}
+use Rattle.slot_store.specs.declared.site.Site.{Site}
 use Rattle.pin_rule.specs.declared.content.Entry.{Entry}
 use Rattle.pin_rule.specs.declared.view.View.{View}
 use Rattle.pin_rule.specs.declared.view.Step.{Step}
@@ -12,8 +13,8 @@ use Rattle.slot_store.proofs.ByWord.{head_in_row}
 use Rattle.slot_store.proofs.Growing.{moves_on}
 use Rattle.slot_store.proofs.Passing.{Meets, own_all, moves_all, met_all, key_all}
 
-module _ (z : Sizes) (v w : View) (key payload : List ℕ) (row steps place : ℕ) (walk : Walking z v w key steps place) where
-  pub placeable : (F : List Entry → List ℕ → Type 0) → OwnsRow v row → HasWrittenAll v row (row_of key payload) → 2 + (length key + length payload) ≤ z.width → F v.log (row_of key payload) → steps < z.places
+module _ (z : Site) (v w : View) (key payload : List ℕ) (row steps place : ℕ) (walk : Walking z v w key steps place) where
+  pub placeable : (F : List Entry → List ℕ → Type 0) → OwnsRow v row → HasWrittenAll v row (row_of key payload) → 2 + (length key + length payload) ≤ z.sizes.width → F v.log (row_of key payload) → steps < z.sizes.places
       → IsPlaceable (F w.log) z w row key payload steps place
   placeable F owns wrote room fits lt = record {
     owns = (owns.0, walk.own ∙ owns.1, owns.2);
@@ -33,7 +34,7 @@ module _ (z : Sizes) (v w : View) (key payload : List ℕ) (row steps place : �
       moves = moves_on v w u walk.added f.added walk.moves f.moves;
       is = (
         won.0,
-        (place, walk.added ++ won.1.0, ap (λ (l : List Step). walk.added ++ l) won.1.1 ∙ sym (append_assoc walk.added won.1.0 (published z 0 place row 0 ∷ []))),
+        (place, walk.added ++ won.1.0, ap (λ (l : List Step). walk.added ++ l) won.1.1 ∙ sym (append_assoc walk.added won.1.0 (published z.sizes z.page place row 0 ∷ []))),
       );
     }
 
@@ -47,5 +48,5 @@ module _ (z : Sizes) (v w : View) (key payload : List ℕ) (row steps place : �
       is = (own_all z v w key steps place walk u x r m same c, (place, r, met_all z v w key steps place walk u x r m same c, key_all z v w key steps place walk u x r m same c yes_it_is));
     }
 
-pub full : (z : Sizes) (v w : View) (key : List ℕ) (row steps place : ℕ) → z.places ≤ steps → Walking z v w key steps place → Places z v w row key placed.Full
+pub full : (z : Site) (v w : View) (key : List ℕ) (row steps place : ℕ) → z.sizes.places ≤ steps → Walking z v w key steps place → Places z v w row key placed.Full
 full z v w key row steps place all walk = record { added = walk.added; moves = walk.moves; is = (walk.own, λ before lt. walk.passed before (omega arith)) }

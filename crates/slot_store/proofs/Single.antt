@@ -3,16 +3,18 @@ use Rattle.std.proofs.Common.{◌≡◌, ℕ, zero, suc, List, [], ◌∷◌, �
 use mathlib.Core.Bool.{cond}
 use Rattle.std.specs.Prelude.{Option, Some, None}
 use Rattle.pin_rule.specs.declared.sizes.Sizes.{Sizes}
+use Rattle.slot_store.specs.declared.site.Site.{Site}
 use Rattle.pin_rule.specs.declared.view.View.{View}
 use Rattle.pin_rule.specs.declared.view.OwnRow.{OwnRow}
 use Rattle.pin_rule.specs.declared.view.EntryFact.{EntryFact}
 use Rattle.pin_rule.specs.declared.view.WordFact.{WordFact}
 use Rattle.pin_rule.specs.Lists.{In}
-use Rattle.pin_rule.specs.Views.{version_at}
-use Rattle.pin_rule.specs.Steps.{met_entry, met_word, version_of, exchanged, own_words, published_words, loaded_place, loaded_row, published, gave_back, after_load_place, after_load_row, after_publish, after_give_back}
+use Rattle.pin_rule.specs.Views.{version_at, version_pinned, version_of_role}
+use Rattle.pin_rule.specs.Steps.{met_entry, met_word, version_of, own_words, published_words, loaded_place, loaded_row, published, gave_back, after_load_place, after_load_row, after_publish, after_give_back}
+use Rattle.pin_rule.specs.Ops.{exchanged}
 use Rattle.pin_rule.specs.Told.{KnowsRow}
 use Rattle.pin_rule.proofs.Lists.{in_right}
-use Rattle.pin_rule.proofs.Learning.{names}
+use Rattle.pin_rule.proofs.KindLoads.{names}
 use Rattle.slot_store.specs.Walks.{IsAtWork, Moves, KnowsAt, Reads}
 
 word_grows : (o : Option ℕ) (ws : List WordFact) (row index n : ℕ) (x : WordFact) → In x ws → In x (met_word o ws row index n)
@@ -25,80 +27,80 @@ entry_grows (Some version) es place zero e i = i
 entry_grows (Some version) es place (suc row) e i = inr i
 
 -- a view that names a row knows it
-pub knows_row : (v : View) (row : ℕ) → version_of v.entries row ≡ Some 0 → KnowsRow v row
-knows_row v row is = let r = names v.entries row 0 is in
+pub knows_row : (z : Site) (v : View) (row : ℕ) → version_of v.entries row ≡ Some z.version → KnowsRow v z.version row
+knows_row z v row is = let r = names v.entries row z.version is in
     (r.0.place, subst (λ (t : ℕ × ℕ). In (let e : EntryFact = record { version = t.0; place = r.0.place; row = t.1 } in e) v.entries) (λ i. (r.3 i, r.2 i)) r.1)
 
-named : (es : List EntryFact) (place row : ℕ) → version_of (record { version = 0; place = place; row = row } ∷ es) row ≡ Some 0
-named es place row = ap (λ b. cond b (Some 0) (version_of es row)) (eq-eqb row row refl)
+named : (z : Site) (es : List EntryFact) (place row : ℕ) → version_of (record { version = z.version; place = place; row = row } ∷ es) row ≡ Some z.version
+named z es place row = ap (λ b. cond b (Some z.version) (version_of es row)) (eq-eqb row row refl)
 
-module _ (z : Sizes) (v : View) (work : IsAtWork z v) where
+module _ (z : Site) (v : View) (work : IsAtWork z v) where
   module _ (row index n : ℕ) where
-    pub moves_row : Moves v (after_load_row v row index n) (loaded_row z row index n ∷ [])
+    pub moves_row : Moves v (after_load_row v row index n) (loaded_row z.sizes row index n ∷ [])
     moves_row = record {
       sizes = refl;
       log = refl;
       share = refl;
-      pins_left = refl;
+      pins_left = refl; log_words = refl;
       pinned = refl;
       steps = ap (λ (y : Sizes). v.steps ++ loaded_row y row index n ∷ []) work.sizes;
       entries = λ _ i. i;
       words = λ x i. word_grows (version_of v.entries row) v.words row index n x i;
     }
 
-    pub reads_row : version_of v.entries row ≡ Some 0 → Reads z (after_load_row v row index n) (loaded_row z row index n ∷ []) row index n
-    reads_row is = (inl refl, subst (λ (o : Option ℕ). In (let x : WordFact = record { version = 0; row = row; index = index; word = n } in x) (met_word o v.words row index n)) (sym is) (inl refl))
+    pub reads_row : version_of v.entries row ≡ Some z.version → Reads z (after_load_row v row index n) (loaded_row z.sizes row index n ∷ []) row index n
+    reads_row is = (inl refl, subst (λ (o : Option ℕ). In (let x : WordFact = record { version = z.version; row = row; index = index; word = n } in x) (met_word o v.words row index n)) (sym is) (inl refl))
 
-  first : version_at v.pinned 0 ≡ Some 0
-  first = ap (λ p. version_at p 0) work.pinned
+  first : version_at v z.page ≡ Some z.version
+  first = ap (λ p. version_pinned p (version_of_role v.role z.page) z.page) work.pinned ∙ ap (λ b. cond b (Some z.version) (version_of_role v.role z.page)) (eq-eqb z.page z.page refl)
 
   module _ (place n : ℕ) where
-    pub moves_place : Moves v (after_load_place v 0 place n) (loaded_place z 0 place n ∷ [])
+    pub moves_place : Moves v (after_load_place v z.page place n) (loaded_place z.sizes z.page place n ∷ [])
     moves_place = record {
       sizes = refl;
       log = refl;
       share = refl;
-      pins_left = refl;
+      pins_left = refl; log_words = refl;
       pinned = refl;
-      steps = ap (λ (y : Sizes). v.steps ++ loaded_place y 0 place n ∷ []) work.sizes;
-      entries = λ e i. entry_grows (version_at v.pinned 0) v.entries place n e i;
+      steps = ap (λ (y : Sizes). v.steps ++ loaded_place y z.page place n ∷ []) work.sizes;
+      entries = λ e i. entry_grows (version_at v z.page) v.entries place n e i;
       words = λ _ i. i;
     }
 
   -- the entries after a row was met at the place
-  pub met_at : (place row : ℕ) → met_entry (version_at v.pinned 0) v.entries place (suc row) ≡ record { version = 0; place = place; row = row } ∷ v.entries
+  pub met_at : (place row : ℕ) → met_entry (version_at v z.page) v.entries place (suc row) ≡ record { version = z.version; place = place; row = row } ∷ v.entries
   met_at place row = ap (λ (o : Option ℕ). met_entry o v.entries place (suc row)) first
 
-  module _ (w : View) (place row : ℕ) (met : w.entries ≡ met_entry (version_at v.pinned 0) v.entries place (suc row)) where
-    pub knows_at : KnowsAt w place row
-    knows_at = subst (λ (es : List EntryFact). In (let e : EntryFact = record { version = 0; place = place; row = row } in e) es) (sym (met ∙ met_at place row)) (inl refl)
+  module _ (w : View) (place row : ℕ) (met : w.entries ≡ met_entry (version_at v z.page) v.entries place (suc row)) where
+    pub knows_at : KnowsAt z w place row
+    knows_at = subst (λ (es : List EntryFact). In (let e : EntryFact = record { version = z.version; place = place; row = row } in e) es) (sym (met ∙ met_at place row)) (inl refl)
 
-    pub names_row : version_of w.entries row ≡ Some 0
-    names_row = ap (λ (es : List EntryFact). version_of es row) (met ∙ met_at place row) ∙ named v.entries place row
+    pub names_row : version_of w.entries row ≡ Some z.version
+    names_row = ap (λ (es : List EntryFact). version_of es row) (met ∙ met_at place row) ∙ named z v.entries place row
 
 published_grow : (o : Option ℕ) (own : Option OwnRow) (ws : List WordFact) (n : ℕ) (x : WordFact) → In x ws → In x (published_words o own ws n)
 published_grow None own ws n x i = i
 published_grow (Some version) own ws zero x i = in_right x (own_words version own) ws i
 published_grow (Some version) own ws (suc n) x i = i
 
-pub moves_publish : (z : Sizes) (v : View) (place row n : ℕ) → v.sizes ≡ z → Moves v (after_publish v 0 place row n) (published z 0 place row n ∷ [])
+pub moves_publish : (z : Site) (v : View) (place row n : ℕ) → v.sizes ≡ z.sizes → Moves v (after_publish v z.page place row n) (published z.sizes z.page place row n ∷ [])
 moves_publish z v place row n sizes = record {
   sizes = refl;
   log = refl;
   share = refl;
-  pins_left = refl;
+  pins_left = refl; log_words = refl;
   pinned = refl;
-  steps = ap (λ (y : Sizes). v.steps ++ published y 0 place row n ∷ []) sizes;
-  entries = λ e i. entry_grows (version_at v.pinned 0) v.entries place (exchanged (suc row) n) e i;
-  words = λ x i. published_grow (version_at v.pinned 0) v.own v.words n x i;
+  steps = ap (λ (y : Sizes). v.steps ++ published y z.page place row n ∷ []) sizes;
+  entries = λ e i. entry_grows (version_at v z.page) v.entries place (exchanged (suc row) n) e i;
+  words = λ x i. published_grow (version_at v z.page) v.own v.words n x i;
 }
 
-pub moves_give_back : (z : Sizes) (v : View) (row : ℕ) → v.sizes ≡ z → Moves v (after_give_back v row) (gave_back z row ∷ [])
+pub moves_give_back : (z : Site) (v : View) (row : ℕ) → v.sizes ≡ z.sizes → Moves v (after_give_back v row) (gave_back z.sizes row ∷ [])
 moves_give_back z v row sizes = record {
   sizes = refl;
   log = refl;
   share = refl;
-  pins_left = refl;
+  pins_left = refl; log_words = refl;
   pinned = refl;
   steps = ap (λ (y : Sizes). v.steps ++ gave_back y row ∷ []) sizes;
   entries = λ _ i. i;

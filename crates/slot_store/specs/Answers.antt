@@ -3,7 +3,7 @@ use Rattle.std.specs.Prelude.{◌≡◌, ◌≢◌, ◌⊎◌, ℕ, suc, ◌<◌
 use Rattle.pin_rule.specs.declared.sizes.Sizes.{Sizes}
 use Rattle.pin_rule.specs.declared.content.Entry.{Entry}
 use Rattle.pin_rule.specs.declared.view.Step.{Step}
-use Rattle.pin_rule.specs.Lists.{In}
+use Rattle.pin_rule.specs.Lists.{Each, In}
 use Rattle.pin_rule.specs.Rows.{on_path}
 use Rattle.pin_rule.specs.Steps.{loaded_place, loaded_row, claimed, wrote_row, published, gave_back}
 use Rattle.slot_store.specs.declared.page.Look.{Look}
@@ -12,6 +12,7 @@ use Rattle.slot_store.specs.declared.page.Put.{Put}
 use Rattle.slot_store.specs.declared.page.Put.TheVariants as put
 use Rattle.slot_store.specs.Meaning.{Meaning, extended}
 use Rattle.slot_store.specs.Keys.{row_of, head_of, TellsKey}
+use Rattle.slot_store.specs.Logs.{IsLogLoad}
 
 module _ (z : Sizes) (page : ℕ) (added : List Step) where
   -- a load of the place, or an exchange there, met the row
@@ -90,3 +91,7 @@ Finds fits m n key look = (added : List Step) × (n ≡ extended m added) × Loo
 
 abbrev pub Publishes : Meaning → Meaning → List ℕ → List ℕ → Put → Type 0
 Publishes m n key payload put = (added : List Step) × (n ≡ extended m added) × PutIs m.sizes m.page added key payload put
+
+-- the call added loads of log words alone
+abbrev pub ReadsLog : Meaning → Meaning → Type 0
+ReadsLog m n = (added : List Step) × (n ≡ extended m added) × Each IsLogLoad added

@@ -24,3 +24,15 @@ extended m added = record m { steps = m.steps ++ added }
 
 abbrev pub meaning_of : View → ℕ → TableId × ℕ → Meaning
 meaning_of v page table = record { sizes = v.sizes; page = page; log = v.log; table = table; share = v.share; pins_left = v.pins_left; own = v.own; steps = v.steps }
+
+-- what a user means that has no pin
+pub record PassMeaning : Type 0 where
+  pub sizes : Sizes
+  pub log : List Entry
+  pub table : TableId × ℕ
+  pub share : ℕ
+  pub pins_left : ℕ
+  pub steps : List Step
+
+abbrev pub pass_meaning : View → TableId × ℕ → PassMeaning
+pass_meaning v table = record { sizes = v.sizes; log = v.log; table = table; share = v.share; pins_left = v.pins_left; steps = v.steps }

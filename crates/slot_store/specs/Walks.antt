@@ -1,6 +1,6 @@
 -- What the parts of a call do to the view.
 use Rattle.std.specs.Prelude.{◌≡◌, ◌≢◌, ℕ, suc, ◌+◌, ◌<◌, ◌≤◌, List, [], ◌∷◌, ◌++◌, length, take, slice_index, Option, Some, None}
-use Rattle.pin_rule.specs.declared.sizes.Sizes.{Sizes}
+use Rattle.slot_store.specs.declared.site.Site.{Site}
 use Rattle.pin_rule.specs.declared.view.View.{View}
 use Rattle.pin_rule.specs.declared.view.OwnRow.{OwnRow}
 use Rattle.pin_rule.specs.declared.view.EntryFact.{EntryFact}
@@ -8,7 +8,8 @@ use Rattle.pin_rule.specs.declared.view.WordFact.{WordFact}
 use Rattle.pin_rule.specs.declared.view.Step.{Step}
 use Rattle.pin_rule.specs.Lists.{In}
 use Rattle.pin_rule.specs.Rows.{on_path}
-use Rattle.pin_rule.specs.Steps.{still, loaded_place, wrote_row, published, claimed, version_of}
+use Rattle.pin_rule.specs.Views.{now}
+use Rattle.pin_rule.specs.Steps.{loaded_place, wrote_row, published, claimed, version_of}
 use Rattle.pin_rule.specs.Told.{KnowsWord}
 use Rattle.pin_rule.specs.Ready.{KnowsOther}
 use Rattle.slot_store.specs.declared.finding.Seen.{Seen}
@@ -20,11 +21,12 @@ use Rattle.slot_store.specs.declared.placing.Placed.TheVariants as placed
 use Rattle.slot_store.specs.Keys.{row_of, head_of, TellsKey}
 use Rattle.slot_store.specs.Answers.{MetRow, ReadWord, IsFound, IsInitial, IsPageFull}
 
--- a user of the table that makes steps
-pub record IsAtWork (z : Sizes) (v : View) : Type 0 where
-  pub sizes : v.sizes ≡ z
+-- a user of the table that makes steps, with the page pinned and the log of its version
+pub record IsAtWork (z : Site) (v : View) : Type 0 where
+  pub sizes : v.sizes ≡ z.sizes
   pub share : v.share ≢ 0
-  pub pinned : v.pinned ≡ still
+  pub pinned : v.pinned ≡ Some record { version = z.version; page = z.page }
+  pub caught_up : z.version ≡ now v
 
 -- w is v after some steps; only its own row may be another
 pub record Moves (v w : View) (added : List Step) : Type 0 where
@@ -32,18 +34,19 @@ pub record Moves (v w : View) (added : List Step) : Type 0 where
   pub log : w.log ≡ v.log
   pub share : w.share ≡ v.share
   pub pins_left : w.pins_left ≡ v.pins_left
+  pub log_words : w.log_words ≡ v.log_words
   pub pinned : w.pinned ≡ v.pinned
   pub steps : w.steps ≡ v.steps ++ added
   pub entries : (e : EntryFact) → In e v.entries → In e w.entries
   pub words : (x : WordFact) → In x v.words → In x w.words
 
-abbrev pub KnowsAt : View → ℕ → ℕ → Type 0
-KnowsAt w place row = In (let e : EntryFact = record { version = 0; place = place; row = row } in e) w.entries
+abbrev pub KnowsAt : Site → View → ℕ → ℕ → Type 0
+KnowsAt z w place row = In (let e : EntryFact = record { version = z.version; place = place; row = row } in e) w.entries
 
-module _ (z : Sizes) (w : View) (added : List Step) where
+module _ (z : Site) (w : View) (added : List Step) where
   -- a word was read, and is known since
   abbrev pub Reads : ℕ → ℕ → ℕ → Type 0
-  Reads row index word = ReadWord z 0 added row index word × KnowsWord w row index word
+  Reads row index word = ReadWord z.sizes z.page added row index word × KnowsWord w z.version row index word
 
   abbrev pub ReadsKey : ℕ → List ℕ → Type 0
   ReadsKey row key = (index : ℕ) → TellsKey key index → Reads row index (slice_index (head_of key) index)
@@ -53,54 +56,54 @@ module _ (z : Sizes) (w : View) (added : List Step) where
 
   -- a row with another key was met at the place
   abbrev pub MeetsOther : List ℕ → ℕ → Type 0
-  MeetsOther key place = (row : ℕ) × MetRow z 0 added place row × KnowsAt w place row × ReadsOther row key
+  MeetsOther key place = (row : ℕ) × MetRow z.sizes z.page added place row × KnowsAt z w place row × ReadsOther row key
 
   abbrev pub Passed : List ℕ → ℕ → Type 0
-  Passed key steps = (before : ℕ) → before < steps → MeetsOther key (on_path z key before)
+  Passed key steps = (before : ℕ) → before < steps → MeetsOther key (on_path z.sizes key before)
 
 -- a row is compared with a key
-pub record Compares (z : Sizes) (v w : View) (row : ℕ) (key : List ℕ) (same : Type 0) : Type 0 where
+pub record Compares (z : Site) (v w : View) (row : ℕ) (key : List ℕ) (same : Type 0) : Type 0 where
   pub added : List Step
   pub moves : Moves v w added
   pub own : w.own ≡ v.own
-  pub version : version_of w.entries row ≡ Some 0
+  pub version : version_of w.entries row ≡ Some z.version
   pub yes : same → ReadsKey z w added row key
   pub no : ¬ same → ReadsOther z w added row key
 
 -- so many places of the path held other keys
-pub record Walking (z : Sizes) (v w : View) (key : List ℕ) (steps place : ℕ) : Type 0 where
+pub record Walking (z : Site) (v w : View) (key : List ℕ) (steps place : ℕ) : Type 0 where
   pub added : List Step
   pub moves : Moves v w added
   pub own : w.own ≡ v.own
   pub passed : Passed z w added key steps
-  pub at : place ≡ on_path z key steps
+  pub at : place ≡ on_path z.sizes key steps
 
-abbrev pub SeenIs : Sizes → View → List Step → List ℕ → Seen → Type 0
-SeenIs z w added key (seen.Same row) = (row < z.rows) × (version_of w.entries row ≡ Some 0) × ((place : ℕ) × In (loaded_place z 0 place (suc row)) added) × ReadsKey z w added row key
-SeenIs z w added key (seen.Empty place) = (step : ℕ) × (step < z.places) × (on_path z key step ≡ place) × In (loaded_place z 0 place 0) added × Passed z w added key step
-SeenIs z w added key seen.Full = Passed z w added key z.places
+abbrev pub SeenIs : Site → View → List Step → List ℕ → Seen → Type 0
+SeenIs z w added key (seen.Same row) = (row < z.sizes.rows) × (version_of w.entries row ≡ Some z.version) × ((place : ℕ) × In (loaded_place z.sizes z.page place (suc row)) added) × ReadsKey z w added row key
+SeenIs z w added key (seen.Empty place) = (step : ℕ) × (step < z.sizes.places) × (on_path z.sizes key step ≡ place) × In (loaded_place z.sizes z.page place 0) added × Passed z w added key step
+SeenIs z w added key seen.Full = Passed z w added key z.sizes.places
 
-pub record Walks (z : Sizes) (v w : View) (key : List ℕ) (s : Seen) : Type 0 where
+pub record Walks (z : Site) (v w : View) (key : List ℕ) (s : Seen) : Type 0 where
   pub added : List Step
   pub moves : Moves v w added
   pub own : w.own ≡ v.own
   pub is : SeenIs z w added key s
 
 -- the payload of a row, which has so many words, is read into a buffer, so many of them so far
-pub record Copies (z : Sizes) (v w : View) (row from size count : ℕ) (buffer : List ℕ) : Type 0 where
+pub record Copies (z : Site) (v w : View) (row from size count : ℕ) (buffer : List ℕ) : Type 0 where
   pub added : List Step
   pub moves : Moves v w added
   pub own : w.own ≡ v.own
-  pub version : version_of w.entries row ≡ Some 0
+  pub version : version_of w.entries row ≡ Some z.version
   pub size_read : Reads z w added row 1 size
   pub words : (i : ℕ) → i < count → Reads z w added row (from + i) (slice_index buffer i)
 
-abbrev pub GlanceIs : Sizes → List Step → (List ℕ → Type 0) → List ℕ → List ℕ → Glance → Type 0
-GlanceIs z added fits key buffer (glance.Found count) = (count ≤ length buffer) × IsFound z 0 added fits key (take count buffer)
-GlanceIs z added fits key buffer (glance.Initial place) = IsInitial z 0 added key place
-GlanceIs z added fits key buffer glance.PageFull = IsPageFull z 0 added key
+abbrev pub GlanceIs : Site → List Step → (List ℕ → Type 0) → List ℕ → List ℕ → Glance → Type 0
+GlanceIs z added fits key buffer (glance.Found count) = (count ≤ length buffer) × IsFound z.sizes z.page added fits key (take count buffer)
+GlanceIs z added fits key buffer (glance.Initial place) = IsInitial z.sizes z.page added key place
+GlanceIs z added fits key buffer glance.PageFull = IsPageFull z.sizes z.page added key
 
-pub record Glances (z : Sizes) (fits : List ℕ → Type 0) (v w : View) (key buffer : List ℕ) (g : Glance) : Type 0 where
+pub record Glances (z : Site) (fits : List ℕ → Type 0) (v w : View) (key buffer : List ℕ) (g : Glance) : Type 0 where
   pub added : List Step
   pub moves : Moves v w added
   pub own : w.own ≡ v.own
@@ -118,54 +121,54 @@ abbrev pub HasWrittenAll : View → ℕ → List ℕ → Type 0
 HasWrittenAll w row words = (index : ℕ) → index < length words → HasWritten w row index (slice_index words index)
 
 -- the rows of a range were claimed one after the other, up to one that was free
-abbrev pub ClaimIs : Sizes → View → List Step → ℕ → ℕ → Option ℕ → Type 0
-ClaimIs z w added from to None = (w.own ≡ None) × ((row : ℕ) → from ≤ row → row < to → In (claimed z row 1) added)
-ClaimIs z w added from to (Some row) = (row < z.rows) × (w.own ≡ Some record { row = row; wrote = [] }) × In (claimed z row 0) added
+abbrev pub ClaimIs : Site → View → List Step → ℕ → ℕ → Option ℕ → Type 0
+ClaimIs z w added from to None = (w.own ≡ None) × ((row : ℕ) → from ≤ row → row < to → In (claimed z.sizes row 1) added)
+ClaimIs z w added from to (Some row) = (row < z.sizes.rows) × (w.own ≡ Some record { row = row; wrote = [] }) × In (claimed z.sizes row 0) added
 
-pub record Claims (z : Sizes) (v w : View) (from to : ℕ) (r : Option ℕ) : Type 0 where
+pub record Claims (z : Site) (v w : View) (from to : ℕ) (r : Option ℕ) : Type 0 where
   pub added : List Step
   pub moves : Moves v w added
   pub is : ClaimIs z w added from to r
 
 -- words are written to an own row, so many of them so far
-pub record Writes (z : Sizes) (v w : View) (row from : ℕ) (words : List ℕ) (count : ℕ) : Type 0 where
+pub record Writes (z : Site) (v w : View) (row from : ℕ) (words : List ℕ) (count : ℕ) : Type 0 where
   pub added : List Step
   pub moves : Moves v w added
   pub owns : OwnsRow w row
   pub earlier : (index word : ℕ) → index < from → HasWritten v row index word → HasWritten w row index word
   pub wrote : (i : ℕ) → i < count → HasWritten w row (from + i) (slice_index words i)
-  pub stores : (i : ℕ) → i < count → In (wrote_row z row (from + i) (slice_index words i)) added
+  pub stores : (i : ℕ) → i < count → In (wrote_row z.sizes row (from + i) (slice_index words i)) added
 
-pub record WritesRow (z : Sizes) (v w : View) (row : ℕ) (words : List ℕ) : Type 0 where
+pub record WritesRow (z : Site) (v w : View) (row : ℕ) (words : List ℕ) : Type 0 where
   pub added : List Step
   pub moves : Moves v w added
   pub owns : OwnsRow w row
   pub wrote : HasWrittenAll w row words
-  pub stores : (index : ℕ) → index < length words → In (wrote_row z row index (slice_index words index)) added
+  pub stores : (index : ℕ) → index < length words → In (wrote_row z.sizes row index (slice_index words index)) added
 
 -- the own row may be published at this place
-pub record IsPlaceable (fits : List ℕ → Type 0) (z : Sizes) (v : View) (row : ℕ) (key payload : List ℕ) (step place : ℕ) : Type 0 where
+pub record IsPlaceable (fits : List ℕ → Type 0) (z : Site) (v : View) (row : ℕ) (key payload : List ℕ) (step place : ℕ) : Type 0 where
   pub owns : OwnsRow v row
   pub wrote : HasWrittenAll v row (row_of key payload)
-  pub room : 2 + (length key + length payload) ≤ z.width
+  pub room : 2 + (length key + length payload) ≤ z.sizes.width
   pub fitting : fits (row_of key payload)
-  pub inside : step < z.places
-  pub at : on_path z key step ≡ place
-  pub passed : (before : ℕ) → before < step → KnowsOther v (slice_index (row_of key payload)) (on_path z key before)
+  pub inside : step < z.sizes.places
+  pub at : on_path z.sizes key step ≡ place
+  pub passed : (before : ℕ) → before < step → KnowsOther v z.version (slice_index (row_of key payload)) (on_path z.sizes key before)
 
 -- the row was published at the place, or another was met there
-pub record Offers (z : Sizes) (v w : View) (place row met : ℕ) : Type 0 where
+pub record Offers (z : Site) (v w : View) (place row met : ℕ) : Type 0 where
   pub added : List Step
   pub moves : Moves v w added
-  pub won : met ≡ 0 → (w.own ≡ None) × ((before : List Step) × (added ≡ before ++ published z 0 place row 0 ∷ []))
-  pub lost : (other : ℕ) → met ≡ suc other → (w.own ≡ v.own) × (other < z.rows) × MetRow z 0 added place other × KnowsAt w place other × (version_of w.entries other ≡ Some 0)
+  pub won : met ≡ 0 → (w.own ≡ None) × ((before : List Step) × (added ≡ before ++ published z.sizes z.page place row 0 ∷ []))
+  pub lost : (other : ℕ) → met ≡ suc other → (w.own ≡ v.own) × (other < z.sizes.rows) × MetRow z.sizes z.page added place other × KnowsAt z w place other × (version_of w.entries other ≡ Some z.version)
 
-abbrev pub PlacedIs : Sizes → View → View → List Step → ℕ → List ℕ → Placed → Type 0
-PlacedIs z v w added row key placed.Here = (w.own ≡ None) × ((place : ℕ) × (before : List Step) × (added ≡ before ++ published z 0 place row 0 ∷ []))
-PlacedIs z v w added row key placed.Already = (w.own ≡ v.own) × ((place : ℕ) × (other : ℕ) × MetRow z 0 added place other × ReadsKey z w added other key)
-PlacedIs z v w added row key placed.Full = (w.own ≡ v.own) × Passed z w added key z.places
+abbrev pub PlacedIs : Site → View → View → List Step → ℕ → List ℕ → Placed → Type 0
+PlacedIs z v w added row key placed.Here = (w.own ≡ None) × ((place : ℕ) × (before : List Step) × (added ≡ before ++ published z.sizes z.page place row 0 ∷ []))
+PlacedIs z v w added row key placed.Already = (w.own ≡ v.own) × ((place : ℕ) × (other : ℕ) × MetRow z.sizes z.page added place other × ReadsKey z w added other key)
+PlacedIs z v w added row key placed.Full = (w.own ≡ v.own) × Passed z w added key z.sizes.places
 
-pub record Places (z : Sizes) (v w : View) (row : ℕ) (key : List ℕ) (p : Placed) : Type 0 where
+pub record Places (z : Site) (v w : View) (row : ℕ) (key : List ℕ) (p : Placed) : Type 0 where
   pub added : List Step
   pub moves : Moves v w added
   pub is : PlacedIs z v w added row key p

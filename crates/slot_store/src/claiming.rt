@@ -4,17 +4,17 @@ ghost use Rattle.std.specs.Prelude.{◌≡◌, ◌≤◌, None};
 ghost use Rattle.pin_rule.specs.Hands.{view_of, table_of};
 ghost use Rattle.slot_store.specs.Walks.{IsAtWork, Claims};
 
+use crate::site::Site;
 use pin_rule::content::Content;
 use pin_rule::hand::Hand;
-use pin_rule::sizes::Sizes;
 
 /// Claims the first free row of a range.
-fn claim_within<C: Content>(hand: &mut Hand<C>, sizes: Sizes, from: u32, to: u32) -> Option<u32>
-    requires work { IsAtWork sizes (view_of hand.old) }
+fn claim_within<C: Content>(hand: &mut Hand<C>, site: Site, from: u32, to: u32) -> Option<u32>
+    requires work { IsAtWork site (view_of hand.old) }
     requires free { (view_of hand.old).own ≡ None }
-    requires rows { to ≤ sizes.rows }
+    requires rows { to ≤ site.sizes.rows }
     ensures table { table_of hand.new ≡ table_of hand.old }
-    ensures claim { Claims sizes (view_of hand.old) (view_of hand.new) from to result }
+    ensures claim { Claims site (view_of hand.old) (view_of hand.new) from to result }
 {
     for row in from..to {
         if hand.claim(row) == 0 {
@@ -26,15 +26,15 @@ fn claim_within<C: Content>(hand: &mut Hand<C>, sizes: Sizes, from: u32, to: u32
 
 /// Claims a free row, and tries them from `next` on, so that the rows below it,
 /// which are mostly in use, come last.
-pub(crate) fn claim_row<C: Content>(hand: &mut Hand<C>, sizes: Sizes, next: u32) -> Option<u32>
-    requires work { IsAtWork sizes (view_of hand.old) }
+pub(crate) fn claim_row<C: Content>(hand: &mut Hand<C>, site: Site, next: u32) -> Option<u32>
+    requires work { IsAtWork site (view_of hand.old) }
     requires free { (view_of hand.old).own ≡ None }
-    requires next { next ≤ sizes.rows }
+    requires next { next ≤ site.sizes.rows }
     ensures table { table_of hand.new ≡ table_of hand.old }
-    ensures claim { Claims sizes (view_of hand.old) (view_of hand.new) 0 sizes.rows result }
+    ensures claim { Claims site (view_of hand.old) (view_of hand.new) 0 site.sizes.rows result }
 {
-    match claim_within(hand, sizes, next, sizes.rows) {
+    match claim_within(hand, site, next, site.sizes.rows) {
         Some(row) => Some(row),
-        None => claim_within(hand, sizes, 0, next),
+        None => claim_within(hand, site, 0, next),
     }
 }

@@ -8,9 +8,9 @@ ghost use Rattle.pin_rule.specs.Told.{KnowsWord, IsTold};
 
 use crate::comparing::has_key;
 use crate::paths::{first_place, next_place};
+use crate::site::Site;
 use pin_rule::content::Content;
 use pin_rule::hand::Hand;
-use pin_rule::sizes::Sizes;
 
 /// Where the walk along a key's path ended.
 pub(crate) enum Seen {
@@ -26,22 +26,22 @@ pub(crate) enum Glance {
     PageFull,
 }
 
-fn walk<C: Content>(hand: &mut Hand<C>, sizes: Sizes, key: &[u64]) -> Seen
-    requires { IsAtWork sizes (view_of hand.old) }
+fn walk<C: Content>(hand: &mut Hand<C>, site: Site, key: &[u64]) -> Seen
+    requires { IsAtWork site (view_of hand.old) }
     ensures table { table_of hand.new ≡ table_of hand.old }
-    ensures walked { Walks sizes (view_of hand.old) (view_of hand.new) key.now result }
+    ensures walked { Walks site (view_of hand.old) (view_of hand.new) key.now result }
 {
-    let mut place = first_place(sizes, key);
-    for _step in 0..sizes.places {
-        let met = hand.load_place(0, place);
+    let mut place = first_place(site.sizes, key);
+    for _step in 0..site.sizes.places {
+        let met = hand.load_place(site.page, place);
         if met == 0 {
             return Seen::Empty { place };
         }
         let row = (met - 1) as u32;
-        if has_key(hand, sizes, row, key) {
+        if has_key(hand, site, row, key) {
             return Seen::Same { row };
         }
-        place = next_place(sizes, place);
+        place = next_place(site.sizes, place);
     }
     Seen::Full
 }
@@ -50,20 +50,20 @@ fn walk<C: Content>(hand: &mut Hand<C>, sizes: Sizes, key: &[u64]) -> Seen
 /// many words it has.
 fn read_payload<C: Content>(
     hand: &mut Hand<C>,
-    sizes: Sizes,
+    site: Site,
     row: u32,
     key: &[u64],
     buffer: &mut [u64],
 ) -> usize
-    requires work { IsAtWork sizes (view_of hand.old) }
-    requires row { row < sizes.rows }
-    requires known { version_of (view_of hand.old).entries row ≡ Some 0 }
-    requires key { KnowsWord (view_of hand.old) row 0 (length key.now) }
-    requires room { sizes.width ≤ length buffer.old }
+    requires work { IsAtWork site (view_of hand.old) }
+    requires row { row < site.sizes.rows }
+    requires known { version_of (view_of hand.old).entries row ≡ Some site.version }
+    requires key { KnowsWord (view_of hand.old) site.version row 0 (length key.now) }
+    requires room { site.sizes.width ≤ length buffer.old }
     ensures table { table_of hand.new ≡ table_of hand.old }
-    ensures read { Copies sizes (view_of hand.old) (view_of hand.new) row (length key.now + 2) result result buffer.new }
+    ensures read { Copies site (view_of hand.old) (view_of hand.new) row (length key.now + 2) result result buffer.new }
     ensures room { result ≤ length buffer.new }
-    ensures told { IsTold (C.fits (view_of hand.new).log) (view_of hand.new) }
+    ensures told { IsTold (C.fits (view_of hand.new).log) (view_of hand.new) site.version }
 {
     let count = hand.load_row(row, 1) as usize;
     let from = key.len() as u32 + 2;
@@ -76,19 +76,19 @@ fn read_payload<C: Content>(
 /// Looks for the key. The payload is left in the buffer.
 pub(crate) fn look<C: Content>(
     hand: &mut Hand<C>,
-    sizes: Sizes,
+    site: Site,
     key: &[u64],
     buffer: &mut [u64],
 ) -> Glance
-    requires work { IsAtWork sizes (view_of hand.old) }
+    requires work { IsAtWork site (view_of hand.old) }
     requires key { 0 < length key.now }
-    requires room { sizes.width ≤ length buffer.old }
+    requires room { site.sizes.width ≤ length buffer.old }
     ensures table { table_of hand.new ≡ table_of hand.old }
-    ensures look { Glances sizes (C.fits (view_of hand.old).log) (view_of hand.old) (view_of hand.new) key.now buffer.new result }
+    ensures look { Glances site (C.fits (view_of hand.old).log) (view_of hand.old) (view_of hand.new) key.now buffer.new result }
 {
-    match walk(hand, sizes, key) {
+    match walk(hand, site, key) {
         Seen::Same { row } => {
-            let count = read_payload(hand, sizes, row, key, buffer);
+            let count = read_payload(hand, site, row, key, buffer);
             Glance::Found { count }
         }
         Seen::Empty { place } => Glance::Initial { place },

@@ -5,14 +5,18 @@
 //! locks, and every answer rests on steps that the call made itself.
 #![tactic(auto)]
 
+mod catching;
 mod claiming;
 mod comparing;
 mod finding;
 pub mod opening;
 pub mod page;
 mod paths;
+pub mod pass;
 pub mod pinned;
+mod pinning;
 mod placing;
+mod site;
 #[cfg(test)]
 mod tests;
 mod using;

@@ -3,7 +3,8 @@ ghost use Rattle.std.specs.Prelude.{◌≡◌, ◌<◌, ◌-◌, ◌+◌, ⊤, l
 ghost use mathlib.Core.Option.{none};
 ghost use Rattle.std.specs.Borrow.{sem, follows_so};
 ghost use Rattle.slot_store.specs.Keys.{row_of};
-ghost use Rattle.slot_store.specs.Answers.{Finds, Publishes};
+ghost use Rattle.slot_store.specs.Logs.{IsEntryOf};
+ghost use Rattle.slot_store.specs.Answers.{Finds, Publishes, ReadsLog};
 
 use pin_rule::content::Content;
 
@@ -46,6 +47,13 @@ pub trait Page<C: Content> {
     /// The number of the page's version.
     fn version(&self) -> u32
         ensures { result ≡ length (means self.now).log };
+
+    /// An entry of the log of the page's version, which is lawful.
+    fn log_entry(&mut self, index: u32) -> [u64; 32]
+        requires { index < length (means self.old).log }
+        ensures entry { IsEntryOf (means self.old).log index result }
+        ensures lawful { C.lawful (means self.new).log }
+        ensures read { ReadsLog (means self.old) (means self.new) };
 
     /// Looks for the row with this key.
     fn find(&mut self, key: &[u64]) -> Look<'_>

@@ -7,9 +7,9 @@ ghost use Rattle.slot_store.specs.Walks.{IsAtWork, OwnsRow, HasWrittenAll, IsPla
 
 use crate::comparing::has_key;
 use crate::paths::{first_place, next_place};
+use crate::site::Site;
 use pin_rule::content::Content;
 use pin_rule::hand::Hand;
-use pin_rule::sizes::Sizes;
 
 /// How the walk of a row to its place ended.
 pub(crate) enum Placed {
@@ -21,46 +21,46 @@ pub(crate) enum Placed {
 /// Publishes the row at a place that is empty. Answers 0 where that was done,
 /// and else the number of the row that stands there plus one. A place that is
 /// known to be taken is loaded alone, which is cheaper than an exchange.
-fn offer<C: Content>(hand: &mut Hand<C>, sizes: Sizes, place: u32, row: u32) -> u64
-    requires work { IsAtWork sizes (view_of hand.old) }
-    requires place { (key : List ℕ) × (payload : List ℕ) × (step : ℕ) × IsPlaceable (C.fits (view_of hand.old).log) sizes (view_of hand.old) row key payload step place }
+fn offer<C: Content>(hand: &mut Hand<C>, site: Site, place: u32, row: u32) -> u64
+    requires work { IsAtWork site (view_of hand.old) }
+    requires place { (key : List ℕ) × (payload : List ℕ) × (step : ℕ) × IsPlaceable (C.fits (view_of hand.old).log) site (view_of hand.old) row key payload step place }
     ensures table { table_of hand.new ≡ table_of hand.old }
-    ensures offer { Offers sizes (view_of hand.old) (view_of hand.new) place row result }
+    ensures offer { Offers site (view_of hand.old) (view_of hand.new) place row result }
 {
-    let met = hand.load_place(0, place);
+    let met = hand.load_place(site.page, place);
     if met != 0 {
         return met;
     }
-    hand.publish(0, place, row)
+    hand.publish(site.page, place, row)
 }
 
 /// Walks along the key's path, past the rows with other keys, and publishes the
 /// row at the first place that is empty.
 pub(crate) fn place_row<C: Content>(
     hand: &mut Hand<C>,
-    sizes: Sizes,
+    site: Site,
     row: u32,
     key: &[u64],
     payload: &[u64],
 ) -> Placed
-    requires work { IsAtWork sizes (view_of hand.old) }
+    requires work { IsAtWork site (view_of hand.old) }
     requires owns { OwnsRow (view_of hand.old) row }
     requires wrote { HasWrittenAll (view_of hand.old) row (row_of key.now payload.now) }
-    requires room { 2 + (length key.now + length payload.now) ≤ sizes.width }
+    requires room { 2 + (length key.now + length payload.now) ≤ site.sizes.width }
     requires fits { C.fits (view_of hand.old).log (row_of key.now payload.now) }
     ensures table { table_of hand.new ≡ table_of hand.old }
-    ensures placed { Places sizes (view_of hand.old) (view_of hand.new) row key.now result }
+    ensures placed { Places site (view_of hand.old) (view_of hand.new) row key.now result }
 {
-    let mut place = first_place(sizes, key);
-    for _step in 0..sizes.places {
-        let met = offer(hand, sizes, place, row);
+    let mut place = first_place(site.sizes, key);
+    for _step in 0..site.sizes.places {
+        let met = offer(hand, site, place, row);
         if met == 0 {
             return Placed::Here;
         }
-        if has_key(hand, sizes, (met - 1) as u32, key) {
+        if has_key(hand, site, (met - 1) as u32, key) {
             return Placed::Already;
         }
-        place = next_place(sizes, place);
+        place = next_place(site.sizes, place);
     }
     Placed::Full
 }

@@ -5,18 +5,18 @@ ghost use Rattle.pin_rule.specs.Hands.{view_of, table_of};
 ghost use Rattle.slot_store.specs.Keys.{row_of};
 ghost use Rattle.slot_store.specs.Walks.{IsAtWork, OwnsRow, Writes, WritesRow};
 
+use crate::site::Site;
 use pin_rule::content::Content;
 use pin_rule::hand::Hand;
-use pin_rule::sizes::Sizes;
 
 /// Writes words from an index of the row on.
-fn write_words<C: Content>(hand: &mut Hand<C>, sizes: Sizes, row: u32, from: u32, words: &[u64])
-    requires work { IsAtWork sizes (view_of hand.old) }
-    requires row { row < sizes.rows }
+fn write_words<C: Content>(hand: &mut Hand<C>, site: Site, row: u32, from: u32, words: &[u64])
+    requires work { IsAtWork site (view_of hand.old) }
+    requires row { row < site.sizes.rows }
     requires owns { OwnsRow (view_of hand.old) row }
-    requires room { from + length words.now ≤ sizes.width }
+    requires room { from + length words.now ≤ site.sizes.width }
     ensures table { table_of hand.new ≡ table_of hand.old }
-    ensures wrote { Writes sizes (view_of hand.old) (view_of hand.new) row from words.now (length words.now) }
+    ensures wrote { Writes site (view_of hand.old) (view_of hand.new) row from words.now (length words.now) }
 {
     for i in 0..words.len() {
         hand.write_row(row, from + i as u32, words[i]);
@@ -27,20 +27,20 @@ fn write_words<C: Content>(hand: &mut Hand<C>, sizes: Sizes, row: u32, from: u32
 /// payload.
 pub(crate) fn write_whole<C: Content>(
     hand: &mut Hand<C>,
-    sizes: Sizes,
+    site: Site,
     row: u32,
     key: &[u64],
     payload: &[u64],
 )
-    requires work { IsAtWork sizes (view_of hand.old) }
-    requires row { row < sizes.rows }
+    requires work { IsAtWork site (view_of hand.old) }
+    requires row { row < site.sizes.rows }
     requires owns { OwnsRow (view_of hand.old) row }
-    requires room { 2 + (length key.now + length payload.now) ≤ sizes.width }
+    requires room { 2 + (length key.now + length payload.now) ≤ site.sizes.width }
     ensures table { table_of hand.new ≡ table_of hand.old }
-    ensures wrote { WritesRow sizes (view_of hand.old) (view_of hand.new) row (row_of key.now payload.now) }
+    ensures wrote { WritesRow site (view_of hand.old) (view_of hand.new) row (row_of key.now payload.now) }
 {
     let lengths = [key.len() as u64, payload.len() as u64];
-    write_words(hand, sizes, row, 0, &lengths);
-    write_words(hand, sizes, row, 2, key);
-    write_words(hand, sizes, row, key.len() as u32 + 2, payload);
+    write_words(hand, site, row, 0, &lengths);
+    write_words(hand, site, row, 2, key);
+    write_words(hand, site, row, key.len() as u32 + 2, payload);
 }

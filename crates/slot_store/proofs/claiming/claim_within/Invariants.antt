@@ -6,5 +6,5 @@ use Rattle.slot_store.proofs.claiming.claim_within.Given as goal
 abbrev pub invariant-loop-row : goal.invariant-loop-row
 invariant-loop-row g l = record {
   table : table_of l.hand ≡ table_of l.fn.hand;
-  taking : Taking l.fn.sizes (view_of l.fn.hand) (view_of l.hand) l.fn.from l.row;
+  taking : Taking l.fn.site (view_of l.fn.hand) (view_of l.hand) l.fn.from l.row;
 }

@@ -6,6 +6,6 @@ use Rattle.slot_store.proofs.comparing.has_key.Given as goal
 abbrev pub invariant-loop-i : goal.invariant-loop-i
 invariant-loop-i g l = record {
   table : table_of l.hand ≡ table_of l.fn.hand;
-  room : 2 + length l.key ≤ l.fn.sizes.width;
-  reading : Reading l.fn.sizes (view_of l.fn.hand) (view_of l.hand) l.fn.row l.fn.key (l.i + 2);
+  room : 2 + length l.key ≤ l.fn.site.sizes.width;
+  reading : Reading l.fn.site (view_of l.fn.hand) (view_of l.hand) l.fn.row l.fn.key (l.i + 2);
 }

@@ -7,9 +7,9 @@ use Rattle.slot_store.proofs.finding.read_payload.Given as goal
 abbrev pub invariant-loop-i : goal.invariant-loop-i
 invariant-loop-i g l = record {
   table : table_of l.hand ≡ table_of l.fn.hand;
-  told : IsTold (g.C.Content.fits (view_of l.hand).log) (view_of l.hand);
+  told : IsTold (g.C.Content.fits (view_of l.hand).log) (view_of l.hand) l.fn.site.version;
   from : l.from ≡ length l.key + 2;
-  wide : l.from + l.count ≤ l.fn.sizes.width;
+  wide : l.from + l.count ≤ l.fn.site.sizes.width;
   long : length l.buffer ≡ length l.fn.buffer;
-  copies : Copies l.fn.sizes (view_of l.fn.hand) (view_of l.hand) l.fn.row (length l.key + 2) l.count l.i l.buffer;
+  copies : Copies l.fn.site (view_of l.fn.hand) (view_of l.hand) l.fn.row (length l.key + 2) l.count l.i l.buffer;
 }

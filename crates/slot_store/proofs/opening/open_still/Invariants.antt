@@ -7,9 +7,9 @@ use Rattle.slot_store.proofs.opening.open_still.Given as goal
 
 abbrev pub invariant-loop-made : goal.invariant-loop-made
 invariant-loop-made g l = record {
-  divides : Divides l.fn.sizes (view_of l.hand) l._made;
+  divides : Divides l.fn.sizes (view_of l.hand) l.made l.left;
   users : Each (IsUserOf l.fn.sizes (table_of l.hand)) l.users.items;
-  many : length l.users.items + 1 ≡ l._made;
+  many : length l.users.items + 1 ≡ l.made;
   next : l.next ≤ l.fn.sizes.rows;
   stride : l.stride ≤ l.fn.sizes.rows;
 }

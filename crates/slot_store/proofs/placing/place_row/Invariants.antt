@@ -6,5 +6,5 @@ use Rattle.slot_store.proofs.placing.place_row.Given as goal
 abbrev pub invariant-loop-step : goal.invariant-loop-step
 invariant-loop-step g l = record {
   table : table_of l.hand ≡ table_of l.fn.hand;
-  walking : Walking l.fn.sizes (view_of l.fn.hand) (view_of l.hand) l.key l._step l.place;
+  walking : Walking l.fn.site (view_of l.fn.hand) (view_of l.hand) l.key l._step l.place;
 }
