@@ -1,12 +1,13 @@
 -- A byte behind a text, in its words.
-use Rattle.std.proofs.Common.{◌≡◌, ℕ, ◌+◌, ◌*◌, ◌/◌, ◌%◌, ◌^◌, ◌<◌, ◌≤◌, List, [], ◌∷◌, ◌++◌, length, get_or, set, drop, nat_lt, if◌then◌else◌, sym, ap, ◌∙◌, append-nil, append_assoc, arith}
+use Rattle.std.proofs.Common.{◌≡◌, ℕ, ◌+◌, ◌*◌, ◌/◌, ◌%◌, ◌^◌, ◌<◌, ◌≤◌, List, [], ◌∷◌, ◌++◌, length, get_or, set, drop, nat_lt, if◌then◌else◌, sym, ap, ◌∙◌}
+use Rattle.std.proofs.Common.{append-nil, append_assoc, arith}
 use Rattle.std.specs.List.{fold}
 use Rattle.std.specs.Prelude.{bit_or}
 use Rattle.std.proofs.Math.Numerals.{one-add}
 use Rattle.std.proofs.lemmas.List.{length_push}
 use Rattle.std.proofs.lemmas.Bool.{lt-ltb}
 use Rattle.grammar_text.specs.declared.limits.TheConstants.{EDIT_LIMIT}
-use Rattle.edit_entry.specs.Entries.{words_of, words_for, bytes_of, length_in, text_in}
+use Rattle.edit_entry.specs.Entries.{packed_words, words_for, bytes_of, length_in, text_in}
 use Rattle.edit_entry.proofs.EntryBytes.{Bytes, packed_found, put_byte, take_bytes, bytes_of_bytes}
 
 -- a text in words is a list of bytes
@@ -50,15 +51,17 @@ pushed-go text byte of short is =
     let len = length text in
     let q = len / 8 in
     let high = byte * 2 ^ (len % 8 * 8) % 2 ^ 64 in
-    let ws = words_of 31 text in
+    let ws = packed_words 31 text in
     ap (λ at. put_at (len ∷ ws) at high len) (one-add q)
     ∙ ap (λ others. (len + 1) ∷ others) (put_byte 31 text byte q (len % 8) (omega arith) (omega arith) (omega arith) of is)
-    ∙ ap (λ first. first ∷ words_of 31 (text ++ byte ∷ [])) (sym (length_push text byte))
+    ∙ ap (λ first. first ∷ packed_words 31 (text ++ byte ∷ [])) (sym (length_push text byte))
 
-pub pushed_closes : (words text : List ℕ) (byte : ℕ) → words ≡ words_for text → Bytes text → length text < 248 → byte < 256 → Closes (pushed words byte) (text ++ byte ∷ [])
+pub pushed_closes : (words text : List ℕ) (byte : ℕ) → words ≡ words_for text → Bytes text → length text < 248 → byte < 256
+    → Closes (pushed words byte) (text ++ byte ∷ [])
 pushed_closes words text byte packed of short is =
     let grown : length (text ++ byte ∷ []) ≡ length text + 1 = length_push text byte in
-    closes (pushed words byte) (text ++ byte ∷ []) (ap (λ ws. pushed ws byte) packed ∙ pushed-go text byte of short is) (joined_bytes text byte of is) (omega arith)
+    closes (pushed words byte) (text ++ byte ∷ []) (ap (λ ws. pushed ws byte) packed ∙ pushed-go text byte of short is) (joined_bytes text byte of is)
+        (omega arith)
 
 -- ---- a whole text
 

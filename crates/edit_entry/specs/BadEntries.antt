@@ -19,8 +19,8 @@ refusal_of bad_edit.NoMemory = NoMemory
 refusal_of why = Text why
 
 -- the first word is no length of a text
-abbrev pub IsTooLong : List ℕ → Type 0
-IsTooLong words = EDIT_LIMIT < length_in words
+abbrev pub IsLengthTooLong : List ℕ → Type 0
+IsLengthTooLong words = EDIT_LIMIT < length_in words
 
 -- the text is a line, and no edit for this reason
 abbrev pub IsNoEdit : List ℕ → BadEdit → Type 0
@@ -36,9 +36,9 @@ pub record IsCanonical (words : List ℕ) : Type 0 where
 
 -- why words are no entry: the first of three causes
 abbrev pub IsRefusedFor : List ℕ → BadEntry → Type 0
-IsRefusedFor words (Length word) = (word ≡ length_in words) × IsTooLong words
-IsRefusedFor words (Text why) = ¬ IsTooLong words × IsNoEdit (text_in words) why
-IsRefusedFor words NotCanonical = ¬ IsTooLong words × ((why : BadEdit) → ¬ IsNoEdit (text_in words) why) × ¬ IsCanonical words
+IsRefusedFor words (Length word) = (word ≡ length_in words) × IsLengthTooLong words
+IsRefusedFor words (Text why) = ¬ IsLengthTooLong words × IsNoEdit (text_in words) why
+IsRefusedFor words NotCanonical = ¬ IsLengthTooLong words × ((why : BadEdit) → ¬ IsNoEdit (text_in words) why) × ¬ IsCanonical words
 IsRefusedFor words NoMemory = ⊥
 
 -- an error comes for its cause, and want of memory for none
@@ -46,5 +46,5 @@ abbrev pub HasCause : List ℕ → BadEntry → Type 0
 HasCause words e = (e ≡ NoMemory) ⊎ IsRefusedFor words e
 
 -- what a call gave is this, or memory ran out
-abbrev pub Gives : Result Edit BadEntry → Result Edit BadEntry → Type 0
-Gives given answer = (given ≡ answer) ⊎ (given ≡ Err NoMemory)
+abbrev pub IsDecoded : Result Edit BadEntry → Result Edit BadEntry → Type 0
+IsDecoded given answer = (given ≡ answer) ⊎ (given ≡ Err NoMemory)

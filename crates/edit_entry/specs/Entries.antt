@@ -6,13 +6,13 @@ use Rattle.grammar_text.specs.declared.edit.Edit.{Edit}
 use Rattle.grammar_text.specs.Canonical.{canonical}
 
 -- so many words of eight bytes each, the first byte lowest, and zeros behind the last
-unfoldable pub words_of : ℕ → List ℕ → List ℕ
-words_of zero bytes = []
-words_of (suc count) bytes = from_le_bytes w64 bytes ∷ words_of count (drop 8 bytes)
+unfoldable pub packed_words : ℕ → List ℕ → List ℕ
+packed_words zero bytes = []
+packed_words (suc count) bytes = from_le_bytes w64 bytes ∷ packed_words count (drop 8 bytes)
 
 -- the length of a text, and its bytes
 unfoldable pub words_for : List ℕ → List ℕ
-words_for text = length text ∷ words_of 31 text
+words_for text = length text ∷ packed_words 31 text
 
 -- the words of an edit
 abbrev pub entry_of : Edit → List ℕ

@@ -7,7 +7,7 @@ ghost use Rattle.grammar_text.specs.declared.limits.TheConstants.{EDIT_LIMIT};
 ghost use Rattle.grammar_text.specs.Limits.{IsSound};
 ghost use Rattle.edit_entry.specs.declared.bad_entry.BadEntry.{BadEntry as ABadEntry};
 ghost use Rattle.edit_entry.specs.Entries.{bytes_of, length_in, text_in, entry_of};
-ghost use Rattle.edit_entry.specs.BadEntries.{IsRefusedFor, Gives, HasCause};
+ghost use Rattle.edit_entry.specs.BadEntries.{IsRefusedFor, IsDecoded, HasCause};
 
 use crate::NoMemory;
 use crate::bad_entry::BadEntry;
@@ -68,11 +68,11 @@ pub fn decode(alloc: Global, words: &[u64; 32]) -> Result<Edit, BadEntry>
     // The words are the entry of what is given, which is sound.
     ensures found { IfOk result (λ edit. IsSound edit × (words.now ≡ entry_of edit)) }
     // The edit is given whose entry the words are, unless memory runs out.
-    ensures only { (edit : AnEdit) → IsSound edit → words.now ≡ entry_of edit → Gives result (Ok edit) }
+    ensures only { (edit : AnEdit) → IsSound edit → words.now ≡ entry_of edit → IsDecoded result (Ok edit) }
     // An error comes for its cause.
     ensures exact { IfErr result (HasCause words.now) }
     // Where there is a cause, its error comes, unless memory runs out.
-    ensures refused { (e : ABadEntry) → IsRefusedFor words.now e → Gives result (Err e) }
+    ensures refused { (e : ABadEntry) → IsRefusedFor words.now e → IsDecoded result (Err e) }
 {
     let len = words[0];
     if len > TEXT_LIMIT {

@@ -27,7 +27,8 @@ use Rattle.edit_log.specs.Kept.{AreUses, AreLiteralTables}
 use Rattle.edit_log.specs.Replicas.{AreFreshFor, ArePositionsOfSymbol, IsFresh, adds, drops}
 use Rattle.edit_log.proofs.After.{symbols_stay_rule, rules_dropped}
 pub use Rattle.edit_log.proofs.LiveByUses.{numbers_in}
-use Rattle.edit_log.proofs.LiveByUses.{live_literal, live_named, literal_has, has_is_literal, lists_same, counted_beyond, counted_push, sum_without, found_there}
+use Rattle.edit_log.proofs.LiveByUses.{live_literal, live_named, literal_has, has_is_literal, lists_same, counted_beyond, counted_push, sum_without}
+use Rattle.edit_log.proofs.LiveByUses.{found_there}
 use Rattle.edit_log.proofs.LiveByUses.{same_length}
 use Rattle.edit_log.proofs.LiveAfter.{live_added, live_dropped}
 

@@ -1,6 +1,7 @@
 //! The numbers of the live rules under each left side.
 
-ghost use Rattle.std.specs.Prelude.{◌≡◌, ◌<◌, ◌≤◌, ◌==◌, ◌++◌, ◌∷◌, [], ℕ, length, map, filter, not, slice_get, Some, if◌then◌else◌, Contains, vec_len, vec_capacity};
+ghost use Rattle.std.specs.Prelude.{◌≡◌, ◌<◌, ◌≤◌, ◌==◌, ◌++◌, ◌∷◌, [], ℕ, length, map, filter, not, slice_get, Some, if◌then◌else◌, Contains, vec_len};
+ghost use Rattle.std.specs.Prelude.{vec_capacity};
 ghost use Rattle.std.specs.List.Sorted.{IsStrictlyIncreasing};
 ghost use Rattle.edit_log.specs.Lists.{under};
 ghost use Rattle.edit_log.specs.Rows.{lefts_in, uses_in, literals_in};

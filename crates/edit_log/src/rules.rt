@@ -1,6 +1,7 @@
 //! The live rules in the order of their numbers.
 
-ghost use Rattle.std.specs.Prelude.{◌≡◌, ◌<◌, ◌≤◌, ◌+◌, ◌==◌, ◌++◌, ◌∷◌, [], length, filter, find, not, option_map, slice_get, Some, IfSome, vec_len, vec_capacity, Contains};
+ghost use Rattle.std.specs.Prelude.{◌≡◌, ◌<◌, ◌≤◌, ◌+◌, ◌==◌, ◌++◌, ◌∷◌, [], length, filter, find, not, option_map, slice_get, Some, IfSome, vec_len};
+ghost use Rattle.std.specs.Prelude.{vec_capacity, Contains};
 ghost use Rattle.std.specs.List.{AllByRecursion};
 ghost use Rattle.std.specs.List.Sorted.{IsStrictlySortedBy};
 ghost use Rattle.forest.specs.Orders.{rule_cmp};

@@ -1,6 +1,7 @@
 //! The symbols by their numbers, with a row for each of what is kept of it.
 
-ghost use Rattle.std.specs.Prelude.{◌≡◌, ◌<◌, ◌≤◌, ◌+◌, ◌++◌, ◌∷◌, [], ℕ, length, map, codes, position, slice_get, option_map, None, Some, IfOk, IfSome, OnOk, Vec as AVec};
+ghost use Rattle.std.specs.Prelude.{◌≡◌, ◌<◌, ◌≤◌, ◌+◌, ◌++◌, ◌∷◌, [], ℕ, length, map, codes, position, slice_get, option_map, None, Some, IfOk, IfSome, OnOk};
+ghost use Rattle.std.specs.Prelude.{Vec as AVec};
 ghost use Rattle.std.specs.declared.alloc.Global.{Global as AGlobal};
 ghost use Rattle.forest.specs.declared.rules.RuleId.{RuleId as ARuleId};
 ghost use Rattle.forest.specs.Distinct.{IsDistinct};

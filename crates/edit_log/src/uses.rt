@@ -1,6 +1,7 @@
 //! How often each symbol stands on the right sides of the live rules.
 
-ghost use Rattle.std.specs.Prelude.{◌≡◌, ◌<◌, ◌≤◌, ◌+◌, ◌-◌, ◌^◌, ℕ, List, ◌∷◌, [], ◌↔◌, length, slice_get, slice_set, Some, option_map, IsTrue, IfOk, vec_len, vec_capacity};
+ghost use Rattle.std.specs.Prelude.{◌≡◌, ◌<◌, ◌≤◌, ◌+◌, ◌-◌, ◌^◌, ℕ, List, ◌∷◌, [], ◌↔◌, length, slice_get, slice_set, Some, option_map, IsTrue, IfOk, vec_len};
+ghost use Rattle.std.specs.Prelude.{vec_capacity};
 ghost use Rattle.std.specs.List.{slice_index_or};
 ghost use Rattle.forest.specs.declared.rules.RuleId.{RuleId as ARuleId};
 ghost use Rattle.edit_log.specs.Lookups.{ListsDefinitions};

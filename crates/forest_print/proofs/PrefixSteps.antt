@@ -1,5 +1,6 @@
 -- What was appended where memory ran out is a prefix of the text.
-use Rattle.std.proofs.Common.{◌≡◌, ℕ, zero, suc, ◌<◌, List, [], ◌∷◌, ◌++◌, length, take, drop, slice_index_or, Result, Ok, Err, OnErr, refl, ap, sym, subst, ◌∙◌, append_assoc, append-nil, arith}
+use Rattle.std.proofs.Common.{◌≡◌, ℕ, zero, suc, ◌<◌, List, [], ◌∷◌, ◌++◌, length, take, drop, slice_index_or, Result, Ok, Err, OnErr, refl, ap, sym, subst}
+use Rattle.std.proofs.Common.{◌∙◌, append_assoc, append-nil, arith}
 use Rattle.std.specs.List.{flat_map}
 use Rattle.std.proofs.lemmas.Grind.{flat_map-append}
 use Rattle.std.proofs.lemmas.List.{take-append-drop}
@@ -10,7 +11,8 @@ pub stops_before : (old new text : List ℕ) → new ≡ old → AppendsPrefix o
 stops_before old new text kept = record { prefix = []; rest = text; parts = refl; appended = kept ∙ sym (append-nil old) }
 
 -- a part of the text was begun, after what stands before it
-pub stops_in : (old mid new before part after text : List ℕ) → mid ≡ old ++ before → AppendsPrefix mid new part → text ≡ before ++ (part ++ after) → AppendsPrefix old new text
+pub stops_in : (old mid new before part after text : List ℕ) → mid ≡ old ++ before → AppendsPrefix mid new part → text ≡ before ++ (part ++ after)
+    → AppendsPrefix old new text
 stops_in old mid new before part after text begun stopped is = record {
   prefix = before ++ stopped.prefix;
   rest = stopped.rest ++ after;
@@ -28,7 +30,8 @@ stops_same old new text other stopped is = subst (AppendsPrefix old new) (sym is
 
 -- the last part of the text was begun
 pub stops_last : (old mid new before part text : List ℕ) → mid ≡ old ++ before → AppendsPrefix mid new part → text ≡ before ++ part → AppendsPrefix old new text
-stops_last old mid new before part text begun stopped is = stops_in old mid new before part [] text begun stopped (is ∙ ap (λ p. before ++ p) (sym (append-nil part)))
+stops_last old mid new before part text begun stopped is = stops_in old mid new before part [] text begun stopped
+    (is ∙ ap (λ p. before ++ p) (sym (append-nil part)))
 
 -- of texts that stand one after the other, those before this place were appended, and no more
 pub stops_between : {X : Type 0} (f : X → List ℕ) (xs : List X) (i : ℕ) (old mid new : List ℕ) → mid ≡ old ++ flat_map f (take i xs) → new ≡ mid

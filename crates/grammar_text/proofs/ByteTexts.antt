@@ -12,7 +12,7 @@ use Rattle.grammar_text.specs.declared.edit.Edit.{Edit}
 use Rattle.grammar_text.specs.declared.edit.Edit.TheVariants.{AddRule, DropRule, AddToken, DropToken, AddSkip, DropSkip}
 use Rattle.grammar_text.specs.Names.{is_letter, is_name_byte, begins_with_letter, IsName}
 use Rattle.grammar_text.specs.Pieces.{AreBytes}
-use Rattle.grammar_text.specs.Spelling.{keyword_of, words_of, SpellsByte, SpellsBytes, SpellsSymbol, SpellsSymbols, SpellsExpression, BeginsWith, Spells}
+use Rattle.grammar_text.specs.Spelling.{keyword_of, edit_words, SpellsByte, SpellsBytes, SpellsSymbol, SpellsSymbols, IsExpressionText, BeginsWith, Spells}
 use Rattle.grammar_text.specs.Canonical.{escaped, symbol_text, spaced, symbols_text, rule_text, definition_text, canonical}
 
 -- ---- lists of bytes
@@ -75,7 +75,8 @@ escaped_bytes byte small = escaped-go (eqb byte 34) (eqb byte 92) (eqb byte 10) 
 some_small : (a b : ℕ) → a < 256 → Some a ≡ Some b → b < 256
 some_small a b small e = let same : a ≡ b = cc in omega arith
 
-unescaped-go : (quote slash line tab : Bool) (byte : ℕ) → cond quote (Some 34) (cond slash (Some 92) (cond line (Some 10) (cond tab (Some 9) None))) ≡ Some byte → byte < 256
+unescaped-go : (quote slash line tab : Bool) (byte : ℕ) → cond quote (Some 34) (cond slash (Some 92) (cond line (Some 10) (cond tab (Some 9) None))) ≡ Some byte
+    → byte < 256
 unescaped-go true slash line tab byte e = some_small 34 byte (omega arith) e
 unescaped-go false true line tab byte e = some_small 92 byte (omega arith) e
 unescaped-go false false true tab byte e = some_small 10 byte (omega arith) e
@@ -92,7 +93,8 @@ literal_bytes : (text bytes : List ℕ) → SpellsBytes text bytes → AreBytes 
 literal_bytes text [] spelled of = tt
 literal_bytes text (byte ∷ bytes) spelled of =
     let both = parted spelled.0 spelled.1 (subst (λ (t : List ℕ). AreBytes t) spelled.4 of) in
-    joined (escaped byte) (flat_map escaped bytes) (escaped_bytes byte (spelled_byte spelled.0 byte spelled.2 both.0)) (literal_bytes spelled.1 bytes spelled.3 both.1)
+    joined (escaped byte) (flat_map escaped bytes) (escaped_bytes byte (spelled_byte spelled.0 byte spelled.2 both.0))
+        (literal_bytes spelled.1 bytes spelled.3 both.1)
 
 -- ---- symbols
 
@@ -108,7 +110,8 @@ symbols_bytes text [] spelled of = tt
 symbols_bytes text (symbol ∷ symbols) spelled of =
     let whole = parted spelled.0 (spelled.1 ++ spelled.2) (subst (λ (t : List ℕ). AreBytes t) spelled.6 of) in
     let both = parted spelled.1 spelled.2 whole.1 in
-    (omega arith, joined (symbol_text symbol) (symbols_text symbols) (symbol_bytes spelled.1 symbol spelled.4 both.0) (symbols_bytes spelled.2 symbols spelled.5 both.1))
+    (omega arith, joined (symbol_text symbol) (symbols_text symbols) (symbol_bytes spelled.1 symbol spelled.4 both.0)
+        (symbols_bytes spelled.2 symbols spelled.5 both.1))
 
 -- ---- the forms of an edit
 
@@ -118,10 +121,12 @@ spaced_bytes piece of = (omega arith, of)
 rule_bytes : (text : List ℕ) (rule : RuleText) → IsName rule.left → SpellsSymbols text rule.right → AreBytes text → AreBytes (rule_text rule)
 rule_bytes text rule named spelled of =
     joined (spaced rule.left ++ spaced (codes "::=")) (symbols_text rule.right)
-    (joined (spaced rule.left) (spaced (codes "::=")) (spaced_bytes rule.left (name_bytes rule.left named)) (omega arith, (omega arith, (omega arith, (omega arith, tt)))))
+    (joined (spaced rule.left) (spaced (codes "::=")) (spaced_bytes rule.left (name_bytes rule.left named)) (omega arith,
+        (omega arith, (omega arith, (omega arith, tt)))))
     (symbols_bytes text rule.right spelled of)
 
-definition_bytes : (text : List ℕ) (definition : DefText) → IsName definition.name → SpellsExpression text definition.expression → AreBytes text → AreBytes (definition_text definition)
+definition_bytes : (text : List ℕ) (definition : DefText) → IsName definition.name → IsExpressionText text definition.expression → AreBytes text
+    → AreBytes (definition_text definition)
 definition_bytes text definition named spelled of =
     joined (spaced definition.name ++ spaced (codes "=")) (spaced definition.expression)
     (joined (spaced definition.name) (spaced (codes "=")) (spaced_bytes definition.name (name_bytes definition.name named)) (omega arith, (omega arith, tt)))
@@ -136,7 +141,7 @@ begins_bytes text (word ∷ words) rest begins of =
 rest_bytes : (line : List ℕ) (edit : Edit) (spelled : Spells line edit) → AreBytes line → AreBytes spelled.rest
 rest_bytes line edit spelled of =
     let whole = parted spelled.blanks (keyword_of edit ++ spelled.behind) (subst (λ (t : List ℕ). AreBytes t) spelled.begins of) in
-    begins_bytes spelled.behind (words_of edit) spelled.rest spelled.words (parted (keyword_of edit) spelled.behind whole.1).1
+    begins_bytes spelled.behind (edit_words edit) spelled.rest spelled.words (parted (keyword_of edit) spelled.behind whole.1).1
 
 drop_bytes : (bytes : List ℕ) → AreBytes bytes → AreBytes (codes "drop" ++ bytes)
 drop_bytes bytes of = (omega arith, (omega arith, (omega arith, (omega arith, of))))
@@ -152,12 +157,18 @@ skip_word bytes of = (omega arith, (omega arith, (omega arith, (omega arith, of)
 
 pub canonical_bytes : (line : List ℕ) (edit : Edit) → Spells line edit → AreBytes line → AreBytes (canonical edit)
 unfolding canonical
-canonical_bytes line (AddRule rule) spelled of = rule_word (rule_text rule) (rule_bytes spelled.rest rule spelled.named spelled.tail (rest_bytes line (AddRule rule) spelled of))
+canonical_bytes line (AddRule rule) spelled of = rule_word (rule_text rule) (rule_bytes spelled.rest rule spelled.named spelled.tail
+    (rest_bytes line (AddRule rule) spelled of))
 canonical_bytes line (DropRule rule) spelled of =
-    drop_bytes (spaced (codes "rule") ++ rule_text rule) (omega arith, rule_word (rule_text rule) (rule_bytes spelled.rest rule spelled.named spelled.tail (rest_bytes line (DropRule rule) spelled of)))
+    drop_bytes (spaced (codes "rule") ++ rule_text rule) (omega arith, rule_word (rule_text rule) (rule_bytes spelled.rest rule spelled.named spelled.tail
+        (rest_bytes line (DropRule rule) spelled of)))
 canonical_bytes line (AddToken definition) spelled of =
-    token_word (definition_text definition) (definition_bytes spelled.rest definition spelled.named spelled.tail (rest_bytes line (AddToken definition) spelled of))
-canonical_bytes line (DropToken name) spelled of = drop_bytes (spaced (codes "token") ++ spaced name) (omega arith, token_word (spaced name) (spaced_bytes name (name_bytes name spelled.named)))
+    token_word (definition_text definition) (definition_bytes spelled.rest definition spelled.named spelled.tail
+        (rest_bytes line (AddToken definition) spelled of))
+canonical_bytes line (DropToken name) spelled of = drop_bytes (spaced (codes "token") ++ spaced name)
+    (omega arith, token_word (spaced name) (spaced_bytes name (name_bytes name spelled.named)))
 canonical_bytes line (AddSkip definition) spelled of =
-    skip_word (definition_text definition) (definition_bytes spelled.rest definition spelled.named spelled.tail (rest_bytes line (AddSkip definition) spelled of))
-canonical_bytes line (DropSkip name) spelled of = drop_bytes (spaced (codes "skip") ++ spaced name) (omega arith, skip_word (spaced name) (spaced_bytes name (name_bytes name spelled.named)))
+    skip_word (definition_text definition) (definition_bytes spelled.rest definition spelled.named spelled.tail
+        (rest_bytes line (AddSkip definition) spelled of))
+canonical_bytes line (DropSkip name) spelled of = drop_bytes (spaced (codes "skip") ++ spaced name)
+    (omega arith, skip_word (spaced name) (spaced_bytes name (name_bytes name spelled.named)))

@@ -1,5 +1,6 @@
 -- A line is never refused because memory ran out, and only for its length where all its parts are read.
-use Rattle.std.proofs.Common.{◌≡◌, ℕ, zero, suc, Bool, true, false, cond, if◌then◌else◌, nat_lt, ◌<◌, ◌↔◌, List, length, drop, Option, Some, None, Result, Ok, Err, refl, sym, subst}
+use Rattle.std.proofs.Common.{◌≡◌, ℕ, zero, suc, Bool, true, false, cond, if◌then◌else◌, nat_lt, ◌<◌, ◌↔◌, List, length, drop, Option, Some, None, Result, Ok}
+use Rattle.std.proofs.Common.{Err, refl, sym, subst}
 use Rattle.std.proofs.lemmas.Bool.{ltb-true, lt-ltb}
 use Rattle.std.specs.Prelude.{codes}
 use Rattle.std.specs.Str.{bytes_eq}
@@ -12,7 +13,8 @@ use Rattle.grammar_text.specs.Pieces.{Place, start_of, trimmed, piece_of, blank_
 use Rattle.grammar_text.specs.Spelling.{Spells}
 use Rattle.grammar_text.specs.Canonical.{canonical}
 use Rattle.grammar_text.specs.Limits.{Room, the_limits, PartsFit, IsTooLong}
-use Rattle.grammar_text.specs.Reading.{◌>>=◌, piece_at, piece_end, word_at, name_at, literal_at, literal_from, is_quoted, symbol_at, symbols_at, rule_at, expression_at, definition_at, last_name_at, dropped_at, edit_at, edit_of}
+use Rattle.grammar_text.specs.Reading.{◌>>=◌, piece_at, piece_end, word_at, name_at, literal_at, literal_from, is_quoted, symbol_from, symbols_at, rule_at}
+use Rattle.grammar_text.specs.Reading.{expression_at, definition_at, last_name_at, dropped_at, edit_at, edit_of}
 use Rattle.grammar_text.proofs.EditLaws.{edit_takes}
 use Rattle.grammar_text.proofs.EditReads.{edit_again}
 
@@ -53,8 +55,8 @@ literal_tells : (place : Place) (read : Option (List ℕ × List ℕ)) → Tells
 literal_tells place None = tt
 literal_tells place (Some found) = choice_tells (is_empty found.0) _ _ tt (choice_tells (blank_led found.1) _ _ tt tt)
 
-symbol_tells : (room : Room) (place : Place) → Tells (symbol_at room place)
-unfolding symbol_at
+symbol_tells : (room : Room) (place : Place) → Tells (symbol_from room place)
+unfolding symbol_from
 symbol_tells room place =
     choice_tells (is_quoted place.left) _ _ (literal_tells place (literal_at room.literal (drop 1 place.left)))
     (choice_tells (is_name (piece_of place.left)) _ _ tt tt)
@@ -64,7 +66,7 @@ unfolding symbols_at
 symbols_tell room zero place = choice_tells (is_empty (trimmed place.left)) _ _ tt tt
 symbols_tell room (suc count) place =
     choice_tells (is_empty (trimmed place.left)) _ _ tt
-    (bind_tells (symbol_at room (piece_at place)) _ (symbol_tells room (piece_at place)) (λ first.
+    (bind_tells (symbol_from room (piece_at place)) _ (symbol_tells room (piece_at place)) (λ first.
     bind_tells (symbols_at room count first.1) _ (symbols_tell room count first.1) (λ others. tt)))
 
 rule_tells : (room : Room) (place : Place) → Tells (rule_at room place)

@@ -1,5 +1,6 @@
 -- Reading an edit: what is read is spelled so.
-use Rattle.std.proofs.Common.{◌≡◌, ℕ, Bool, true, false, cond, ltb, List, [], ◌∷◌, ◌++◌, length, Result, Ok, Err, refl, sym, ap, subst, ◌∙◌, ◌⊎◌, inl, inr, arith}
+use Rattle.std.proofs.Common.{◌≡◌, ℕ, Bool, true, false, cond, ltb, List, [], ◌∷◌, ◌++◌, length, Result, Ok, Err, refl, sym, ap, subst, ◌∙◌, ◌⊎◌, inl, inr}
+use Rattle.std.proofs.Common.{arith}
 use Rattle.std.specs.Prelude.{codes}
 use Rattle.std.specs.Str.{bytes_eq}
 use Rattle.std.proofs.lemmas.Bool.{ltb-false}
@@ -13,10 +14,11 @@ use Rattle.grammar_text.specs.declared.edit.Edit.{Edit}
 use Rattle.grammar_text.specs.declared.edit.Edit.TheVariants.{AddRule, DropRule, AddToken, DropToken, AddSkip, DropSkip}
 use Rattle.grammar_text.specs.Names.{IsName}
 use Rattle.grammar_text.specs.Pieces.{Place, start_of, offset_of, trimmed, piece_of, behind_piece, blank_led, is_empty}
-use Rattle.grammar_text.specs.Spelling.{AreBlanks, keyword_of, name_of, words_of, SpellsExpression, SpellsTail, BeginsWith, Spells}
+use Rattle.grammar_text.specs.Spelling.{AreBlanks, keyword_of, edited_name, edit_words, IsExpressionText, SpellsTail, BeginsWith, Spells}
 use Rattle.grammar_text.specs.Canonical.{canonical}
 use Rattle.grammar_text.specs.Limits.{Room, the_limits, PartsFit, IsWithinLimits}
-use Rattle.grammar_text.specs.Reading.{◌>>=◌, at, word_at, name_at, symbols_at, rule_at, expression_at, definition_at, last_name_at, dropped_at, edit_at, edit_of}
+use Rattle.grammar_text.specs.Reading.{◌>>=◌, at, word_at, name_at, symbols_at, rule_at, expression_at, definition_at, last_name_at, dropped_at, edit_at}
+use Rattle.grammar_text.specs.Reading.{edit_of}
 use Rattle.grammar_text.proofs.Gaps.{leads, gapped, blanks_from_empty, trimmed-trimmed, piece_splits, behind_led}
 use Rattle.grammar_text.proofs.Words.{bind_ok, guard_ok, unless_ok, done, ok_is, Takes, takes_word, word_takes, name_takes}
 use Rattle.grammar_text.proofs.SymbolLaws.{some_bytes, ReadsSymbols, symbols_take}
@@ -26,8 +28,8 @@ use Rattle.grammar_text.proofs.SymbolLaws.{some_bytes, ReadsSymbols, symbols_tak
 -- the text is what is behind the keyword of this edit
 pub record ReadsBehind (room : Room) (text : List ℕ) (edit : Edit) : Type 0 where
   pub rest : List ℕ
-  pub words : BeginsWith text (words_of edit) rest
-  pub named : IsName (name_of edit)
+  pub words : BeginsWith text (edit_words edit) rest
+  pub named : IsName (edited_name edit)
   pub tail : SpellsTail rest edit
   pub parts : PartsFit room edit
 
@@ -41,8 +43,10 @@ pub record ReadsRule (room : Room) (text : List ℕ) (rule : RuleText) : Type 0 
 pub rule_takes : (room : Room) (place : Place) (rule : RuleText) → blank_led place.left ≡ true → rule_at room place ≡ Ok rule → ReadsRule room place.left rule
 unfolding rule_at
 rule_takes room place rule led e =
-    let a = bind_ok (name_at place) (λ left. word_at (codes "::=") left.1 >>= λ behind. symbols_at room room.right behind >>= λ right. Ok (record { left = left.0; right = right })) rule e in
-    let b = bind_ok (word_at (codes "::=") a.0.1) (λ behind. symbols_at room room.right behind >>= λ right. Ok (record { left = a.0.0; right = right })) rule a.2 in
+    let a = bind_ok (name_at place) (λ left. word_at (codes "::=") left.1 >>= λ behind. symbols_at room room.right behind >>= λ right. Ok (record { left =
+        left.0; right = right })) rule e in
+    let b = bind_ok (word_at (codes "::=") a.0.1) (λ behind. symbols_at room room.right behind >>= λ right. Ok (record { left = a.0.0; right =
+        right })) rule a.2 in
     let c = bind_ok (symbols_at room room.right b.0) (λ right. Ok (record { left = a.0.0; right = right })) rule b.2 in
     let name = name_takes place a.0.0 a.0.1 led a.1 in
     let arrow = word_takes (codes "::=") a.0.1 b.0 (omega arith) name.0.led b.1 in
@@ -55,27 +59,31 @@ rule_takes room place rule led e =
     } in
     subst (λ (r : RuleText). ReadsRule room place.left r) (ok_is made rule c.2) whole
 
-expression_takes : (place : Place) (expression : List ℕ) → blank_led place.left ≡ true → expression_at place ≡ Ok expression → SpellsExpression place.left expression
+expression_takes : (place : Place) (expression : List ℕ) → blank_led place.left ≡ true → expression_at place ≡ Ok expression
+    → IsExpressionText place.left expression
 unfolding expression_at
 expression_takes place expression led e =
     let next = trimmed place.left in
     let g = unless_ok (is_empty next) _ (done next) expression e in
     let before = gapped place.left led g.0 in
-    let whole : SpellsExpression place.left next = (before.gap, before.is_gap, some_bytes next g.0, trimmed-trimmed place.left, before.parts) in
-    subst (λ (x : List ℕ). SpellsExpression place.left x) (ok_is next expression g.1) whole
+    let whole : IsExpressionText place.left next = (before.gap, before.is_gap, some_bytes next g.0, trimmed-trimmed place.left, before.parts) in
+    subst (λ (x : List ℕ). IsExpressionText place.left x) (ok_is next expression g.1) whole
 
 -- the text is a name, `=` and an expression
 pub record ReadsDefinition (text : List ℕ) (definition : DefText) : Type 0 where
   pub rest : List ℕ
   pub words : BeginsWith text (definition.name ∷ codes "=" ∷ []) rest
   pub named : IsName definition.name
-  pub tail : SpellsExpression rest definition.expression
+  pub tail : IsExpressionText rest definition.expression
 
-definition_takes : (place : Place) (definition : DefText) → blank_led place.left ≡ true → definition_at place ≡ Ok definition → ReadsDefinition place.left definition
+definition_takes : (place : Place) (definition : DefText) → blank_led place.left ≡ true → definition_at place ≡ Ok definition
+    → ReadsDefinition place.left definition
 unfolding definition_at
 definition_takes place definition led e =
-    let a = bind_ok (name_at place) (λ name. word_at (codes "=") name.1 >>= λ behind. expression_at behind >>= λ expression. Ok (record { name = name.0; expression = expression })) definition e in
-    let b = bind_ok (word_at (codes "=") a.0.1) (λ behind. expression_at behind >>= λ expression. Ok (record { name = a.0.0; expression = expression })) definition a.2 in
+    let a = bind_ok (name_at place) (λ name. word_at (codes "=") name.1 >>= λ behind. expression_at behind >>= λ expression. Ok (record { name = name.0;
+        expression = expression })) definition e in
+    let b = bind_ok (word_at (codes "=") a.0.1) (λ behind. expression_at behind >>= λ expression. Ok (record { name = a.0.0; expression =
+        expression })) definition a.2 in
     let c = bind_ok (expression_at b.0) (λ expression. Ok (record { name = a.0.0; expression = expression })) definition b.2 in
     let name = name_takes place a.0.0 a.0.1 led a.1 in
     let equals = word_takes (codes "=") a.0.1 b.0 (omega arith) name.0.led b.1 in
@@ -146,7 +154,8 @@ drop_token name = DropToken name
 abbrev drop_skip : List ℕ → Edit
 drop_skip name = DropSkip name
 
-add_rule_takes : (room : Room) (place : Place) (edit : Edit) → blank_led place.left ≡ true → (rule_at room place >>= λ rule. Ok (add_rule rule)) ≡ Ok edit → ReadsEdit room (codes "rule") place.left edit
+add_rule_takes : (room : Room) (place : Place) (edit : Edit) → blank_led place.left ≡ true → (rule_at room place >>= λ rule. Ok (add_rule rule)) ≡ Ok edit
+    → ReadsEdit room (codes "rule") place.left edit
 add_rule_takes room place edit led e =
     let a = bind_ok (rule_at room place) (λ rule. Ok (add_rule rule)) edit e in
     let rule = rule_takes room place a.0 led a.1 in
@@ -156,7 +165,8 @@ add_rule_takes room place edit led e =
     } in
     subst (λ (x : Edit). ReadsEdit room (codes "rule") place.left x) (ok_is (AddRule a.0) edit a.2) whole
 
-add_token_takes : (room : Room) (place : Place) (edit : Edit) → blank_led place.left ≡ true → (definition_at place >>= λ definition. Ok (add_token definition)) ≡ Ok edit → ReadsEdit room (codes "token") place.left edit
+add_token_takes : (room : Room) (place : Place) (edit : Edit) → blank_led place.left ≡ true → (definition_at place >>= λ definition. Ok (add_token definition))
+    ≡ Ok edit → ReadsEdit room (codes "token") place.left edit
 add_token_takes room place edit led e =
     let a = bind_ok (definition_at place) (λ definition. Ok (add_token definition)) edit e in
     let read = definition_takes place a.0 led a.1 in
@@ -166,7 +176,8 @@ add_token_takes room place edit led e =
     } in
     subst (λ (x : Edit). ReadsEdit room (codes "token") place.left x) (ok_is (AddToken a.0) edit a.2) whole
 
-add_skip_takes : (room : Room) (place : Place) (edit : Edit) → blank_led place.left ≡ true → (definition_at place >>= λ definition. Ok (add_skip definition)) ≡ Ok edit → ReadsEdit room (codes "skip") place.left edit
+add_skip_takes : (room : Room) (place : Place) (edit : Edit) → blank_led place.left ≡ true → (definition_at place >>= λ definition. Ok (add_skip definition))
+    ≡ Ok edit → ReadsEdit room (codes "skip") place.left edit
 add_skip_takes room place edit led e =
     let a = bind_ok (definition_at place) (λ definition. Ok (add_skip definition)) edit e in
     let read = definition_takes place a.0 led a.1 in
@@ -178,37 +189,44 @@ add_skip_takes room place edit led e =
 
 -- ---- behind `drop`
 
-drop_rule_takes : (room : Room) (text : List ℕ) (place : Place) (edit : Edit) → Takes text (codes "rule") place.left → (rule_at room place >>= λ rule. Ok (drop_rule rule)) ≡ Ok edit → ReadsEdit room (codes "drop") text edit
+drop_rule_takes : (room : Room) (text : List ℕ) (place : Place) (edit : Edit) → Takes text (codes "rule") place.left
+    → (rule_at room place >>= λ rule. Ok (drop_rule rule)) ≡ Ok edit → ReadsEdit room (codes "drop") text edit
 drop_rule_takes room text place edit word e =
     let a = bind_ok (rule_at room place) (λ rule. Ok (drop_rule rule)) edit e in
     let rule = rule_takes room place a.0 word.led a.1 in
     let whole : ReadsEdit room (codes "drop") text (DropRule a.0) = record {
       keyword = refl;
-      behind = record { rest = rule.rest; words = (word.gap, place.left, word.is_gap, rule.words, word.parts); named = rule.named; tail = rule.right.spelled; parts = (rule.right.short, rule.right.fits) };
+      behind = record { rest = rule.rest; words = (word.gap, place.left, word.is_gap, rule.words, word.parts); named = rule.named; tail = rule.right.spelled;
+          parts = (rule.right.short, rule.right.fits) };
     } in
     subst (λ (x : Edit). ReadsEdit room (codes "drop") text x) (ok_is (DropRule a.0) edit a.2) whole
 
-drop_token_takes : (room : Room) (text : List ℕ) (place : Place) (edit : Edit) → Takes text (codes "token") place.left → (last_name_at place >>= λ name. Ok (drop_token name)) ≡ Ok edit → ReadsEdit room (codes "drop") text edit
+drop_token_takes : (room : Room) (text : List ℕ) (place : Place) (edit : Edit) → Takes text (codes "token") place.left
+    → (last_name_at place >>= λ name. Ok (drop_token name)) ≡ Ok edit → ReadsEdit room (codes "drop") text edit
 drop_token_takes room text place edit word e =
     let a = bind_ok (last_name_at place) (λ name. Ok (drop_token name)) edit e in
     let name = last_name_takes place a.0 word.led a.1 in
     let whole : ReadsEdit room (codes "drop") text (DropToken a.0) = record {
       keyword = refl;
-      behind = record { rest = name.rest; words = (word.gap, place.left, word.is_gap, name.words, word.parts); named = name.named; tail = name.tail; parts = tt };
+      behind = record { rest = name.rest; words = (word.gap, place.left, word.is_gap, name.words, word.parts); named = name.named; tail = name.tail; parts =
+          tt };
     } in
     subst (λ (x : Edit). ReadsEdit room (codes "drop") text x) (ok_is (DropToken a.0) edit a.2) whole
 
-drop_skip_takes : (room : Room) (text : List ℕ) (place : Place) (edit : Edit) → Takes text (codes "skip") place.left → (last_name_at place >>= λ name. Ok (drop_skip name)) ≡ Ok edit → ReadsEdit room (codes "drop") text edit
+drop_skip_takes : (room : Room) (text : List ℕ) (place : Place) (edit : Edit) → Takes text (codes "skip") place.left
+    → (last_name_at place >>= λ name. Ok (drop_skip name)) ≡ Ok edit → ReadsEdit room (codes "drop") text edit
 drop_skip_takes room text place edit word e =
     let a = bind_ok (last_name_at place) (λ name. Ok (drop_skip name)) edit e in
     let name = last_name_takes place a.0 word.led a.1 in
     let whole : ReadsEdit room (codes "drop") text (DropSkip a.0) = record {
       keyword = refl;
-      behind = record { rest = name.rest; words = (word.gap, place.left, word.is_gap, name.words, word.parts); named = name.named; tail = name.tail; parts = tt };
+      behind = record { rest = name.rest; words = (word.gap, place.left, word.is_gap, name.words, word.parts); named = name.named; tail = name.tail; parts =
+          tt };
     } in
     subst (λ (x : Edit). ReadsEdit room (codes "drop") text x) (ok_is (DropSkip a.0) edit a.2) whole
 
-dropped_takes : (room : Room) (place : Place) (edit : Edit) → blank_led place.left ≡ true → dropped_at room place ≡ Ok edit → ReadsEdit room (codes "drop") place.left edit
+dropped_takes : (room : Room) (place : Place) (edit : Edit) → blank_led place.left ≡ true → dropped_at room place ≡ Ok edit
+    → ReadsEdit room (codes "drop") place.left edit
 unfolding dropped_at
 dropped_takes room place edit led e =
     let next = trimmed place.left in
@@ -228,12 +246,14 @@ dropped_takes room place edit led e =
 keyword_pieces : (text word : List ℕ) → bytes_eq (piece_of text) word ≡ true → text ≡ word ++ behind_piece text
 keyword_pieces text word is = sym (piece_splits text) ∙ ap (λ (k : List ℕ). k ++ behind_piece text) ((bytes_eq-Decides (piece_of text) word).0 is)
 
-spelled_line : (room : Room) (line keyword : List ℕ) (edit : Edit) → trimmed line ≡ keyword ++ behind_piece (trimmed line) → ReadsEdit room keyword (behind_piece (trimmed line)) edit → Spells line edit × PartsFit room edit
+spelled_line : (room : Room) (line keyword : List ℕ) (edit : Edit) → trimmed line ≡ keyword ++ behind_piece (trimmed line)
+    → ReadsEdit room keyword (behind_piece (trimmed line)) edit → Spells line edit × PartsFit room edit
 spelled_line room line keyword edit pieces read =
     let before = leads line in
     let begins : line ≡ before.gap ++ (keyword_of edit ++ behind_piece (trimmed line)) =
     before.parts ∙ ap (λ (t : List ℕ). before.gap ++ t) (pieces ∙ ap (λ (k : List ℕ). k ++ behind_piece (trimmed line)) (sym read.keyword)) in
-    (record { blanks = before.gap; behind = behind_piece (trimmed line); rest = read.behind.rest; begins = begins; blank = before.blank; words = read.behind.words; named = read.behind.named; tail = read.behind.tail }, read.behind.parts)
+    (record { blanks = before.gap; behind = behind_piece (trimmed line); rest = read.behind.rest; begins = begins; blank = before.blank; words =
+        read.behind.words; named = read.behind.named; tail = read.behind.tail }, read.behind.parts)
 
 pub edit_takes : (room : Room) (place : Place) (edit : Edit) → edit_at room place ≡ Ok edit → Spells place.left edit × PartsFit room edit
 unfolding edit_at
@@ -244,7 +264,8 @@ edit_takes room place edit e =
     elim (chosen (bytes_eq (piece_of next) (codes "rule")) _ _ edit e) [
       | inl rule ↦ spelled_line room place.left (codes "rule") edit (keyword_pieces next (codes "rule") rule.0) (add_rule_takes room behind edit led rule.1)
       | inr r ↦ elim (chosen (bytes_eq (piece_of next) (codes "token")) _ _ edit r.1) [
-        | inl token ↦ spelled_line room place.left (codes "token") edit (keyword_pieces next (codes "token") token.0) (add_token_takes room behind edit led token.1)
+        | inl token ↦ spelled_line room place.left (codes "token") edit (keyword_pieces next (codes "token") token.0)
+            (add_token_takes room behind edit led token.1)
         | inr t ↦ elim (chosen (bytes_eq (piece_of next) (codes "skip")) _ _ edit t.1) [
           | inl skip ↦ spelled_line room place.left (codes "skip") edit (keyword_pieces next (codes "skip") skip.0) (add_skip_takes room behind edit led skip.1)
           | inr s ↦

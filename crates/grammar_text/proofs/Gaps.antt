@@ -22,8 +22,10 @@ pub record Leads (text rest : List ℕ) : Type 0 where
   pub blank : AreBlanks gap
   pub parts : text ≡ gap ++ rest
 
-leads-go : (blank : Bool) (byte : ℕ) (bytes : List ℕ) → is_blank byte ≡ blank → Leads bytes (trimmed bytes) → Leads (byte ∷ bytes) (cond blank (trimmed bytes) (byte ∷ bytes))
-leads-go true byte bytes is later = record { gap = byte ∷ later.gap; blank = and_from (is_blank byte) (list_all is_blank later.gap) is later.blank; parts = ap (λ (t : List ℕ). byte ∷ t) later.parts }
+leads-go : (blank : Bool) (byte : ℕ) (bytes : List ℕ) → is_blank byte ≡ blank → Leads bytes (trimmed bytes)
+    → Leads (byte ∷ bytes) (cond blank (trimmed bytes) (byte ∷ bytes))
+leads-go true byte bytes is later = record { gap = byte ∷ later.gap; blank = and_from (is_blank byte) (list_all is_blank later.gap) is later.blank; parts =
+    ap (λ (t : List ℕ). byte ∷ t) later.parts }
 leads-go false byte bytes is later = record { gap = []; blank = refl; parts = refl }
 
 pub leads : (text : List ℕ) → Leads text (trimmed text)
@@ -48,7 +50,8 @@ gapped (byte ∷ bytes) led more =
     } in
     subst (λ (t : List ℕ). Gapped (byte ∷ bytes) t) (sym same) whole
 
-blanks-go : (blank : Bool) (byte : ℕ) (bytes : List ℕ) → is_blank byte ≡ blank → (is_empty (trimmed bytes) ≡ true → AreBlanks bytes) → is_empty (cond blank (trimmed bytes) (byte ∷ bytes)) ≡ true → AreBlanks (byte ∷ bytes)
+blanks-go : (blank : Bool) (byte : ℕ) (bytes : List ℕ) → is_blank byte ≡ blank → (is_empty (trimmed bytes) ≡ true → AreBlanks bytes)
+    → is_empty (cond blank (trimmed bytes) (byte ∷ bytes)) ≡ true → AreBlanks (byte ∷ bytes)
 blanks-go true byte bytes is later none = and_from (is_blank byte) (list_all is_blank bytes) is (later none)
 blanks-go false byte bytes is later none = absurd cc
 
@@ -68,7 +71,8 @@ pub piece_splits : (text : List ℕ) → piece_of text ++ behind_piece text ≡ 
 piece_splits [] = refl
 piece_splits (byte ∷ bytes) = piece-go (is_blank byte) byte bytes (piece_splits bytes)
 
-led-go : (blank : Bool) (byte : ℕ) (bytes : List ℕ) → is_blank byte ≡ blank → blank_led (behind_piece bytes) ≡ true → blank_led (cond blank (byte ∷ bytes) (behind_piece bytes)) ≡ true
+led-go : (blank : Bool) (byte : ℕ) (bytes : List ℕ) → is_blank byte ≡ blank → blank_led (behind_piece bytes) ≡ true
+    → blank_led (cond blank (byte ∷ bytes) (behind_piece bytes)) ≡ true
 led-go true byte bytes is later = is
 led-go false byte bytes is later = later
 

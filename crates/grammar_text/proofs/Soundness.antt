@@ -1,5 +1,6 @@
 -- The canonical text of an edit that a line spells is a line that spells it.
-use Rattle.std.proofs.Common.{◌≡◌, ℕ, suc, ◌+◌, ◌*◌, ◌<◌, ◌≤◌, ◌^◌, Bool, true, false, cond, eqb, not, List, [], ◌∷◌, ◌++◌, length, refl, sym, ap, subst, ◌∙◌, append_assoc, length-append, arith}
+use Rattle.std.proofs.Common.{◌≡◌, ℕ, suc, ◌+◌, ◌*◌, ◌<◌, ◌≤◌, ◌^◌, Bool, true, false, cond, eqb, not, List, [], ◌∷◌, ◌++◌, length, refl, sym, ap, subst, ◌∙◌}
+use Rattle.std.proofs.Common.{append_assoc, length-append, arith}
 use Rattle.std.specs.Prelude.{codes, Some}
 use Rattle.std.specs.List.{flat_map, list_all}
 use Rattle.std.proofs.lemmas.Bool.{and_parts, and_from, eqb-true}
@@ -14,7 +15,7 @@ use Rattle.grammar_text.specs.declared.edit.Edit.TheVariants.{AddRule, DropRule,
 use Rattle.grammar_text.specs.declared.limits.TheConstants.{LINE_LIMIT}
 use Rattle.grammar_text.specs.Names.{IsName}
 use Rattle.grammar_text.specs.Pieces.{IsLine, AreBytes}
-use Rattle.grammar_text.specs.Spelling.{keyword_of, words_of, SpellsByte, SpellsBytes, SpellsSymbol, SpellsSymbols, SpellsExpression, BeginsWith, Spells}
+use Rattle.grammar_text.specs.Spelling.{keyword_of, edit_words, SpellsByte, SpellsBytes, SpellsSymbol, SpellsSymbols, IsExpressionText, BeginsWith, Spells}
 use Rattle.grammar_text.specs.Canonical.{escaped, symbol_text, spaced, symbols_text, rule_text, definition_text, canonical}
 use Rattle.grammar_text.specs.Limits.{the_limits, RightFits, PartsFit, IsWithinLimits, IsSound}
 use Rattle.grammar_text.proofs.NameBytes.{name_facts, name-line}
@@ -34,7 +35,8 @@ escaped-go false false false false byte q s l t = (rw (q, s) refl, refl)
 escaped_spells : (bytes : List ℕ) → SpellsBytes (flat_map escaped bytes) bytes
 escaped_spells [] = refl
 escaped_spells (byte ∷ bytes) =
-    (escaped byte, flat_map escaped bytes, escaped-go (eqb byte 34) (eqb byte 92) (eqb byte 10) (eqb byte 9) byte refl refl refl refl, escaped_spells bytes, refl)
+    (escaped byte, flat_map escaped bytes, escaped-go (eqb byte 34) (eqb byte 92) (eqb byte 10) (eqb byte 9) byte refl refl refl refl, escaped_spells bytes,
+        refl)
 
 symbol_spells : (piece : List ℕ) (symbol : Symbol) → SpellsSymbol piece symbol → SpellsSymbol (symbol_text symbol) symbol
 symbol_spells piece (Named name) spelled = (refl, spelled.1)
@@ -47,7 +49,8 @@ space = 32 ∷ []
 symbols_spell : (text : List ℕ) (symbols : List Symbol) → SpellsSymbols text symbols → SpellsSymbols (symbols_text symbols) symbols
 symbols_spell text [] spelled = refl
 symbols_spell text (symbol ∷ symbols) spelled =
-    (space, symbol_text symbol, symbols_text symbols, (refl, omega arith), symbol_spells spelled.1 symbol spelled.4, symbols_spell spelled.2 symbols spelled.5, refl)
+    (space, symbol_text symbol, symbols_text symbols, (refl, omega arith), symbol_spells spelled.1 symbol spelled.4, symbols_spell spelled.2 symbols spelled.5,
+        refl)
 
 -- ---- rules and definitions
 
@@ -69,7 +72,7 @@ definition_begins definition = (
   append_assoc (spaced definition.name) (spaced (codes "=")) (spaced definition.expression),
 )
 
-expression_spells : (text expression : List ℕ) → SpellsExpression text expression → SpellsExpression (spaced expression) expression
+expression_spells : (text expression : List ℕ) → IsExpressionText text expression → IsExpressionText (spaced expression) expression
 expression_spells text expression spelled = (space, (refl, omega arith), spelled.2, spelled.3, refl)
 
 -- a word, one space before it, and what follows
@@ -148,7 +151,8 @@ joined : (a b : List ℕ) → IsLine a → IsLine b → IsLine (a ++ b)
 joined a b line_a line_b = list_all-append (λ byte. not (eqb byte 10)) a b ∙ and_from _ _ line_a line_b
 
 parted : (a b : List ℕ) → IsLine (a ++ b) → IsLine a × IsLine b
-parted a b line = and_parts (list_all (λ byte. not (eqb byte 10)) a) (list_all (λ byte. not (eqb byte 10)) b) (sym (list_all-append (λ byte. not (eqb byte 10)) a b) ∙ line)
+parted a b line = and_parts (list_all (λ byte. not (eqb byte 10)) a) (list_all (λ byte. not (eqb byte 10)) b)
+    (sym (list_all-append (λ byte. not (eqb byte 10)) a b) ∙ line)
 
 escaped-line-go : (quote slash line tab : Bool) (byte : ℕ) → eqb byte 10 ≡ line
     → IsLine (cond quote (92 ∷ 34 ∷ []) (cond slash (92 ∷ 92 ∷ []) (cond line (92 ∷ 110 ∷ []) (cond tab (92 ∷ 116 ∷ []) (byte ∷ [])))))
@@ -160,7 +164,8 @@ escaped-line-go false false false false byte l = rw l refl
 
 escaped_line : (bytes : List ℕ) → IsLine (flat_map escaped bytes)
 escaped_line [] = refl
-escaped_line (byte ∷ bytes) = joined (escaped byte) (flat_map escaped bytes) (escaped-line-go (eqb byte 34) (eqb byte 92) (eqb byte 10) (eqb byte 9) byte refl) (escaped_line bytes)
+escaped_line (byte ∷ bytes) = joined (escaped byte) (flat_map escaped bytes) (escaped-line-go (eqb byte 34) (eqb byte 92) (eqb byte 10) (eqb byte 9) byte refl)
+    (escaped_line bytes)
 
 symbol_line : (piece : List ℕ) (symbol : Symbol) → SpellsSymbol piece symbol → IsLine (symbol_text symbol)
 symbol_line piece (Named name) spelled = name-line name spelled.1
@@ -168,15 +173,18 @@ symbol_line piece (Literal bytes) spelled = joined (flat_map escaped bytes) (34 
 
 symbols_line : (text : List ℕ) (symbols : List Symbol) → SpellsSymbols text symbols → IsLine (symbols_text symbols)
 symbols_line text [] spelled = refl
-symbols_line text (symbol ∷ symbols) spelled = joined (symbol_text symbol) (symbols_text symbols) (symbol_line spelled.1 symbol spelled.4) (symbols_line spelled.2 symbols spelled.5)
+symbols_line text (symbol ∷ symbols) spelled = joined (symbol_text symbol) (symbols_text symbols) (symbol_line spelled.1 symbol spelled.4)
+    (symbols_line spelled.2 symbols spelled.5)
 
 rule_line : (text : List ℕ) (rule : RuleText) → IsName rule.left → SpellsSymbols text rule.right → IsLine (rule_text rule)
 rule_line text rule named spelled =
-    joined (rule.left ++ spaced (codes "::=")) (symbols_text rule.right) (joined rule.left (spaced (codes "::=")) (name-line rule.left named) refl) (symbols_line text rule.right spelled)
+    joined (rule.left ++ spaced (codes "::=")) (symbols_text rule.right) (joined rule.left (spaced (codes "::=")) (name-line rule.left named) refl)
+        (symbols_line text rule.right spelled)
 
 definition_line : (definition : DefText) → IsName definition.name → IsLine definition.expression → IsLine (definition_text definition)
 definition_line definition named expression =
-    joined (definition.name ++ spaced (codes "=")) (spaced definition.expression) (joined definition.name (spaced (codes "=")) (name-line definition.name named) refl) expression
+    joined (definition.name ++ spaced (codes "=")) (spaced definition.expression)
+        (joined definition.name (spaced (codes "=")) (name-line definition.name named) refl) expression
 
 begins_line : (text : List ℕ) (words : List (List ℕ)) (rest : List ℕ) → BeginsWith text words rest → IsLine text → IsLine rest
 begins_line text [] rest begins line = subst (λ (t : List ℕ). IsLine t) begins line
@@ -187,9 +195,10 @@ begins_line text (word ∷ words) rest begins line =
 rest_line : (line : List ℕ) (edit : Edit) (spelled : Spells line edit) → IsLine line → IsLine spelled.rest
 rest_line line edit spelled is =
     let whole : IsLine (spelled.blanks ++ (keyword_of edit ++ spelled.behind)) = subst (λ (t : List ℕ). IsLine t) spelled.begins is in
-    begins_line spelled.behind (words_of edit) spelled.rest spelled.words (parted (keyword_of edit) spelled.behind (parted spelled.blanks (keyword_of edit ++ spelled.behind) whole).1).1
+    begins_line spelled.behind (edit_words edit) spelled.rest spelled.words (parted (keyword_of edit) spelled.behind (parted spelled.blanks (keyword_of edit
+        ++ spelled.behind) whole).1).1
 
-expression_line : (text expression : List ℕ) → SpellsExpression text expression → IsLine text → IsLine expression
+expression_line : (text expression : List ℕ) → IsExpressionText text expression → IsLine text → IsLine expression
 expression_line text expression spelled line = (parted spelled.0 expression (subst (λ (t : List ℕ). IsLine t) spelled.4 line)).1
 
 canonical_line : (line : List ℕ) (edit : Edit) → IsLine line → Spells line edit → IsLine (canonical edit)
@@ -204,7 +213,8 @@ canonical_line line (AddSkip definition) is spelled =
 canonical_line line (DropSkip name) is spelled = name-line name spelled.named
 
 pub is_sound : (line : List ℕ) (edit : Edit) → IsLine line → AreBytes line → Spells line edit → IsWithinLimits edit → IsSound edit
-is_sound line edit is bytes spelled within = record { line = canonical_line line edit is spelled; bytes = canonical_bytes line edit spelled bytes; spelled = canonical_spells line edit spelled; within = within }
+is_sound line edit is bytes spelled within = record { line = canonical_line line edit is spelled; bytes = canonical_bytes line edit spelled bytes; spelled =
+    canonical_spells line edit spelled; within = within }
 
 -- ---- how long it is
 
@@ -218,34 +228,42 @@ begins_len text (word ∷ words) rest begins =
 
 rest_len : (line : List ℕ) (edit : Edit) (spelled : Spells line edit) → length spelled.rest ≤ length line
 rest_len line edit spelled =
-    let later : length spelled.rest ≤ length spelled.behind = begins_len spelled.behind (words_of edit) spelled.rest spelled.words in
-    let whole : length line ≡ length spelled.blanks + length (keyword_of edit ++ spelled.behind) = ap length spelled.begins ∙ length-append spelled.blanks (keyword_of edit ++ spelled.behind) in
-    let behind : length (keyword_of edit ++ spelled.behind) ≡ length (keyword_of edit) + length spelled.behind = length-append (keyword_of edit) spelled.behind in
+    let later : length spelled.rest ≤ length spelled.behind = begins_len spelled.behind (edit_words edit) spelled.rest spelled.words in
+    let whole : length line ≡ length spelled.blanks + length (keyword_of edit ++ spelled.behind) = ap length spelled.begins ∙ length-append spelled.blanks
+        (keyword_of edit ++ spelled.behind) in
+    let behind : length (keyword_of edit ++ spelled.behind) ≡ length (keyword_of edit) + length spelled.behind =
+        length-append (keyword_of edit) spelled.behind in
     omega arith
 
-rule_len : (text : List ℕ) (rule : RuleText) → IsName rule.left → SpellsSymbols text rule.right → RightFits the_limits rule.right → length (rule_text rule) ≤ 2000
+rule_len : (text : List ℕ) (rule : RuleText) → IsName rule.left → SpellsSymbols text rule.right → RightFits the_limits rule.right
+    → length (rule_text rule) ≤ 2000
 rule_len text rule named spelled fits =
     let name : length rule.left ≤ 32 = (name_facts rule.left named).short in
     let right : length (symbols_text rule.right) ≤ 67 * length rule.right = symbols_len text rule.right spelled fits.1 in
     let few : length rule.right ≤ 16 = fits.0 in
     let arrow = spaced (codes "::=") in
     let front : length (rule.left ++ arrow) ≡ length rule.left + 4 = length-append rule.left arrow in
-    let whole : length ((rule.left ++ arrow) ++ symbols_text rule.right) ≡ length (rule.left ++ arrow) + length (symbols_text rule.right) = length-append (rule.left ++ arrow) (symbols_text rule.right) in
+    let whole : length ((rule.left ++ arrow) ++ symbols_text rule.right) ≡ length (rule.left ++ arrow) + length (symbols_text rule.right) =
+        length-append (rule.left ++ arrow) (symbols_text rule.right) in
     omega arith
 
-definition_len : (text : List ℕ) (definition : DefText) → IsName definition.name → SpellsExpression text definition.expression → length (definition_text definition) ≤ length text + 40
+definition_len : (text : List ℕ) (definition : DefText) → IsName definition.name → IsExpressionText text definition.expression
+    → length (definition_text definition) ≤ length text + 40
 definition_len text definition named spelled =
     let name : length definition.name ≤ 32 = (name_facts definition.name named).short in
     let equals = spaced (codes "=") in
     let front : length (definition.name ++ equals) ≡ length definition.name + 2 = length-append definition.name equals in
-    let whole : length ((definition.name ++ equals) ++ spaced definition.expression) ≡ length (definition.name ++ equals) + suc (length definition.expression) = length-append (definition.name ++ equals) (spaced definition.expression) in
+    let whole : length ((definition.name ++ equals) ++ spaced definition.expression) ≡ length (definition.name ++ equals) + suc (length definition.expression) =
+        length-append (definition.name ++ equals) (spaced definition.expression) in
     let gapped : length text ≡ length spelled.0 + length definition.expression = ap length spelled.4 ∙ length-append spelled.0 definition.expression in
     omega arith
 
 pub canonical_len : (line : List ℕ) (edit : Edit) → length line ≤ LINE_LIMIT → Spells line edit → PartsFit the_limits edit → length (canonical edit) < 2 ^ 32
 unfolding canonical
-canonical_len line (AddRule rule) le spelled fits = let short : length (rule_text rule) ≤ 2000 = rule_len spelled.rest rule spelled.named spelled.tail fits in omega arith
-canonical_len line (DropRule rule) le spelled fits = let short : length (rule_text rule) ≤ 2000 = rule_len spelled.rest rule spelled.named spelled.tail fits in omega arith
+canonical_len line (AddRule rule) le spelled fits = let short : length (rule_text rule) ≤ 2000 = rule_len spelled.rest rule spelled.named spelled.tail fits in
+    omega arith
+canonical_len line (DropRule rule) le spelled fits = let short : length (rule_text rule) ≤ 2000 = rule_len spelled.rest rule spelled.named spelled.tail fits in
+    omega arith
 canonical_len line (AddToken definition) le spelled fits =
     let short : length (definition_text definition) ≤ length spelled.rest + 40 = definition_len spelled.rest definition spelled.named spelled.tail in
     let within : length spelled.rest ≤ length line = rest_len line (AddToken definition) spelled in

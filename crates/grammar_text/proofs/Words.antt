@@ -47,15 +47,18 @@ more-since (byte ∷ bytes) word is some = refl
 pub takes_piece : (text : List ℕ) → blank_led text ≡ true → is_empty (trimmed text) ≡ false → Takes text (piece_of (trimmed text)) (behind_piece (trimmed text))
 takes_piece text led more =
     let before = gapped text led more in
-    record { gap = before.gap; is_gap = before.is_gap; parts = before.parts ∙ ap (λ (t : List ℕ). before.gap ++ t) (sym (piece_splits (trimmed text))); led = behind_led (trimmed text) }
+    record { gap = before.gap; is_gap = before.is_gap; parts = before.parts ∙ ap (λ (t : List ℕ). before.gap ++ t) (sym (piece_splits (trimmed text))); led =
+        behind_led (trimmed text) }
 
-pub takes_word : (text word : List ℕ) → 0 < length word → blank_led text ≡ true → bytes_eq (piece_of (trimmed text)) word ≡ true → Takes text word (behind_piece (trimmed text))
+pub takes_word : (text word : List ℕ) → 0 < length word → blank_led text ≡ true → bytes_eq (piece_of (trimmed text)) word ≡ true
+    → Takes text word (behind_piece (trimmed text))
 takes_word text word some led same =
     let next = trimmed text in
     let is : piece_of next ≡ word = (bytes_eq-Decides (piece_of next) word).0 same in
     subst (λ (w : List ℕ). Takes text w (behind_piece next)) is (takes_piece text led (more-since next word is some))
 
-pub word_takes : (word : List ℕ) (place behind : Place) → 0 < length word → blank_led place.left ≡ true → word_at word place ≡ Ok behind → Takes place.left word behind.left
+pub word_takes : (word : List ℕ) (place behind : Place) → 0 < length word → blank_led place.left ≡ true → word_at word place ≡ Ok behind
+    → Takes place.left word behind.left
 unfolding word_at
 word_takes word place behind some led e =
     let next = trimmed place.left in
@@ -65,7 +68,8 @@ word_takes word place behind some led e =
 abbrev named : List ℕ → Place → List ℕ × Place
 named name place = (name, place)
 
-pub name_takes : (place : Place) (name : List ℕ) (behind : Place) → blank_led place.left ≡ true → name_at place ≡ Ok (name, behind) → Takes place.left name behind.left × IsName name
+pub name_takes : (place : Place) (name : List ℕ) (behind : Place) → blank_led place.left ≡ true → name_at place ≡ Ok (name, behind)
+    → Takes place.left name behind.left × IsName name
 unfolding name_at
 name_takes place name behind led e =
     let next = trimmed place.left in

@@ -1,5 +1,6 @@
 -- Reading a line from left to right, up to the first wrong piece.
-use Rattle.std.specs.Prelude.{◌≡◌, ℕ, zero, suc, Bool, false, ◌==◌, nat_lt, List, [], ◌∷◌, length, drop, Option, Some, None, Result, Ok, Err, if◌then◌else◌, codes}
+use Rattle.std.specs.Prelude.{◌≡◌, ℕ, zero, suc, Bool, false, ◌==◌, nat_lt, List, [], ◌∷◌, length, drop, Option, Some, None, Result, Ok, Err, if◌then◌else◌}
+use Rattle.std.specs.Prelude.{codes}
 use Rattle.std.specs.Option.{option_map, option_map_or}
 use Rattle.std.specs.Str.{bytes_eq}
 use Rattle.grammar_text.specs.declared.limits.TheConstants.{EDIT_LIMIT}
@@ -23,18 +24,18 @@ abbrev pub ◌>>=◌ : {A B : Type 0} → Result A BadEdit → (A → Result B B
 (Err e) >>= f = Err e
 
 -- A refusal is the one that reading meets first, unless memory ran out.
-abbrev pub Fails : {A : Type 0} → BadEdit → Result A BadEdit → Type 0
-Fails NoMemory read = Unit {0}
-Fails (Shape offset) read = read ≡ Err (Shape offset)
-Fails (BadName offset) read = read ≡ Err (BadName offset)
-Fails (BadLiteral offset) read = read ≡ Err (BadLiteral offset)
-Fails (TooManySymbols offset) read = read ≡ Err (TooManySymbols offset)
-Fails (TooLong offset) read = read ≡ Err (TooLong offset)
+abbrev pub IsRefusal : {A : Type 0} → BadEdit → Result A BadEdit → Type 0
+IsRefusal NoMemory read = Unit {0}
+IsRefusal (Shape offset) read = read ≡ Err (Shape offset)
+IsRefusal (BadName offset) read = read ≡ Err (BadName offset)
+IsRefusal (BadLiteral offset) read = read ≡ Err (BadLiteral offset)
+IsRefusal (TooManySymbols offset) read = read ≡ Err (TooManySymbols offset)
+IsRefusal (TooLong offset) read = read ≡ Err (TooLong offset)
 
 -- What a call returned is what reading gives, unless memory ran out.
-abbrev pub Gives : {A : Type 0} → Result A BadEdit → Result A BadEdit → Type 0
-Gives (Ok x) read = read ≡ Ok x
-Gives (Err e) read = Fails e read
+abbrev pub IsRead : {A : Type 0} → Result A BadEdit → Result A BadEdit → Type 0
+IsRead (Ok x) read = read ≡ Ok x
+IsRead (Err e) read = IsRefusal e read
 
 -- the same line with these bytes left
 abbrev pub at : Place → List ℕ → Place
@@ -72,19 +73,19 @@ byte_at (first ∷ letter ∷ rest) =
     if first == 92 then option_map (λ byte. (byte, rest)) (unescaped letter) else Some (first, letter ∷ rest)
 
 -- what is left behind the closing quote
-abbrev pub closed : List ℕ → Option (List ℕ)
-closed [] = None
-closed (first ∷ rest) = if first == 34 then Some rest else None
+abbrev pub behind_quote : List ℕ → Option (List ℕ)
+behind_quote [] = None
+behind_quote (first ∷ rest) = if first == 34 then Some rest else None
 
 -- this byte in front of what was read
-abbrev pub with_byte : ℕ → Option (List ℕ × List ℕ) → Option (List ℕ × List ℕ)
-with_byte byte read = option_map (λ found. (byte ∷ found.0, found.1)) read
+abbrev pub led_by : ℕ → Option (List ℕ × List ℕ) → Option (List ℕ × List ℕ)
+led_by byte read = option_map (λ found. (byte ∷ found.0, found.1)) read
 
 -- the bytes up to a literal's closing quote, as many as there is room for, and what is left behind it
 unfoldable pub literal_at : ℕ → List ℕ → Option (List ℕ × List ℕ)
-literal_at zero text = option_map (λ rest. ([], rest)) (closed text)
+literal_at zero text = option_map (λ rest. ([], rest)) (behind_quote text)
 literal_at (suc room) text =
-    option_map_or (λ next. with_byte next.0 (literal_at room next.1)) (byte_at text) (option_map (λ rest. ([], rest)) (closed text))
+    option_map_or (λ next. led_by next.0 (literal_at room next.1)) (byte_at text) (option_map (λ rest. ([], rest)) (behind_quote text))
 
 -- a literal that begins at this place, from what was read behind its opening quote
 abbrev pub literal_from : Place → Option (List ℕ × List ℕ) → Result (Symbol × Place) BadEdit
@@ -98,8 +99,8 @@ is_quoted [] = false
 is_quoted (first ∷ others) = first == 34
 
 -- the symbol that begins at this place, and the place behind it
-unfoldable pub symbol_at : Room → Place → Result (Symbol × Place) BadEdit
-symbol_at room place =
+unfoldable pub symbol_from : Room → Place → Result (Symbol × Place) BadEdit
+symbol_from room place =
     if is_quoted place.left then literal_from place (literal_at room.literal (drop 1 place.left)) else
     if is_name (piece_of place.left) then Ok (Named (piece_of place.left), piece_end place) else Err (BadName (offset_of place))
 
@@ -111,7 +112,7 @@ symbols_at room zero place =
 symbols_at room (suc count) place =
     let next = piece_at place in
     if is_empty next.left then Ok [] else
-    (symbol_at room next >>= λ first. symbols_at room count first.1 >>= λ others. Ok (first.0 ∷ others))
+    (symbol_from room next >>= λ first. symbols_at room count first.1 >>= λ others. Ok (first.0 ∷ others))
 
 -- ---- what stands behind the keyword
 

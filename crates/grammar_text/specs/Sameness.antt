@@ -40,8 +40,10 @@ pub rule_eq-decides : (a b : RuleText) → Decides (rule_eq a b) (a ≡ b)
 rule_eq-decides a b =
     let left = bytes_eq-Decides a.left b.left in
     let right = symbols_eq-decides a.right b.right in (
-      λ e. let both = and_parts (bytes_eq a.left b.left) (symbols_eq a.right b.right) e in ap (λ l. rule l a.right) (left.0 both.0) ∙ ap (λ r. rule b.left r) (right.0 both.1),
-      λ e. and_from (bytes_eq a.left b.left) (symbols_eq a.right b.right) (left.1 (ap (λ (r : RuleText). r.left) e)) (right.1 (ap (λ (r : RuleText). r.right) e)),
+      λ e. let both = and_parts (bytes_eq a.left b.left) (symbols_eq a.right b.right) e in
+          ap (λ l. rule l a.right) (left.0 both.0) ∙ ap (λ r. rule b.left r) (right.0 both.1),
+      λ e. and_from (bytes_eq a.left b.left) (symbols_eq a.right b.right) (left.1 (ap (λ (r : RuleText). r.left) e))
+          (right.1 (ap (λ (r : RuleText). r.right) e)),
     )
 
 abbrev pub definition_eq : DefText → DefText → Bool
@@ -54,8 +56,10 @@ pub definition_eq-decides : (a b : DefText) → Decides (definition_eq a b) (a �
 definition_eq-decides a b =
     let name = bytes_eq-Decides a.name b.name in
     let expression = bytes_eq-Decides a.expression b.expression in (
-      λ e. let both = and_parts (bytes_eq a.name b.name) (bytes_eq a.expression b.expression) e in ap (λ n. definition n a.expression) (name.0 both.0) ∙ ap (λ x. definition b.name x) (expression.0 both.1),
-      λ e. and_from (bytes_eq a.name b.name) (bytes_eq a.expression b.expression) (name.1 (ap (λ (d : DefText). d.name) e)) (expression.1 (ap (λ (d : DefText). d.expression) e)),
+      λ e. let both = and_parts (bytes_eq a.name b.name) (bytes_eq a.expression b.expression) e in
+          ap (λ n. definition n a.expression) (name.0 both.0) ∙ ap (λ x. definition b.name x) (expression.0 both.1),
+      λ e. and_from (bytes_eq a.name b.name) (bytes_eq a.expression b.expression) (name.1 (ap (λ (d : DefText). d.name) e))
+          (expression.1 (ap (λ (d : DefText). d.expression) e)),
     )
 
 -- what a symbol gives to a hash: which kind it is, and its bytes

@@ -50,7 +50,8 @@ SpellsSymbol piece (Literal bytes) = (inner : List ℕ) × SpellsBytes inner byt
 -- the text is these symbols, blanks before each of them and maybe at the end
 abbrev pub SpellsSymbols : List ℕ → List Symbol → Type 0
 SpellsSymbols text [] = AreBlanks text
-SpellsSymbols text (symbol ∷ symbols) = (gap piece rest : List ℕ) × IsGap gap × SpellsSymbol piece symbol × SpellsSymbols rest symbols × (text ≡ gap ++ (piece ++ rest))
+SpellsSymbols text (symbol ∷ symbols) = (gap piece rest : List ℕ) × IsGap gap × SpellsSymbol piece symbol × SpellsSymbols rest symbols ×
+    (text ≡ gap ++ (piece ++ rest))
 
 -- ---- the forms of an edit
 
@@ -64,34 +65,34 @@ keyword_of (AddSkip definition) = codes "skip"
 keyword_of (DropSkip name) = codes "drop"
 
 -- the name that the edit gives a rule to, or a definition
-abbrev pub name_of : Edit → List ℕ
-name_of (AddRule rule) = rule.left
-name_of (DropRule rule) = rule.left
-name_of (AddToken definition) = definition.name
-name_of (DropToken name) = name
-name_of (AddSkip definition) = definition.name
-name_of (DropSkip name) = name
+abbrev pub edited_name : Edit → List ℕ
+edited_name (AddRule rule) = rule.left
+edited_name (DropRule rule) = rule.left
+edited_name (AddToken definition) = definition.name
+edited_name (DropToken name) = name
+edited_name (AddSkip definition) = definition.name
+edited_name (DropSkip name) = name
 
 -- the pieces behind the first, up to the symbols or the expression
-abbrev pub words_of : Edit → List (List ℕ)
-words_of (AddRule rule) = rule.left ∷ codes "::=" ∷ []
-words_of (DropRule rule) = codes "rule" ∷ rule.left ∷ codes "::=" ∷ []
-words_of (AddToken definition) = definition.name ∷ codes "=" ∷ []
-words_of (DropToken name) = codes "token" ∷ name ∷ []
-words_of (AddSkip definition) = definition.name ∷ codes "=" ∷ []
-words_of (DropSkip name) = codes "skip" ∷ name ∷ []
+abbrev pub edit_words : Edit → List (List ℕ)
+edit_words (AddRule rule) = rule.left ∷ codes "::=" ∷ []
+edit_words (DropRule rule) = codes "rule" ∷ rule.left ∷ codes "::=" ∷ []
+edit_words (AddToken definition) = definition.name ∷ codes "=" ∷ []
+edit_words (DropToken name) = codes "token" ∷ name ∷ []
+edit_words (AddSkip definition) = definition.name ∷ codes "=" ∷ []
+edit_words (DropSkip name) = codes "skip" ∷ name ∷ []
 
 -- the text is an expression up to its very end: it begins behind blanks, with a byte that is none
-abbrev pub SpellsExpression : List ℕ → List ℕ → Type 0
-SpellsExpression text expression = (gap : List ℕ) × IsGap gap × (0 < length expression) × (trimmed expression ≡ expression) × (text ≡ gap ++ expression)
+abbrev pub IsExpressionText : List ℕ → List ℕ → Type 0
+IsExpressionText text expression = (gap : List ℕ) × IsGap gap × (0 < length expression) × (trimmed expression ≡ expression) × (text ≡ gap ++ expression)
 
 -- the text is what follows the words
 abbrev pub SpellsTail : List ℕ → Edit → Type 0
 SpellsTail text (AddRule rule) = SpellsSymbols text rule.right
 SpellsTail text (DropRule rule) = SpellsSymbols text rule.right
-SpellsTail text (AddToken definition) = SpellsExpression text definition.expression
+SpellsTail text (AddToken definition) = IsExpressionText text definition.expression
 SpellsTail text (DropToken name) = AreBlanks text
-SpellsTail text (AddSkip definition) = SpellsExpression text definition.expression
+SpellsTail text (AddSkip definition) = IsExpressionText text definition.expression
 SpellsTail text (DropSkip name) = AreBlanks text
 
 -- the text begins with these pieces, blanks before each of them, and goes on with the rest
@@ -106,6 +107,6 @@ pub record Spells (line : List ℕ) (edit : Edit) : Type 0 where
   pub rest : List ℕ
   pub begins : line ≡ blanks ++ (keyword_of edit ++ behind)
   pub blank : AreBlanks blanks
-  pub words : BeginsWith behind (words_of edit) rest
-  pub named : IsName (name_of edit)
+  pub words : BeginsWith behind (edit_words edit) rest
+  pub named : IsName (edited_name edit)
   pub tail : SpellsTail rest edit

@@ -4,7 +4,7 @@ ghost use Rattle.std.specs.Prelude.{◌≡◌, List, ℕ, IfOk, Option};
 ghost use Rattle.std.specs.Option.{option_map, option_copied};
 ghost use Rattle.grammar_text.specs.declared.limits.TheConstants.{LITERAL_LIMIT};
 ghost use Rattle.grammar_text.specs.Spelling.{unescaped};
-ghost use Rattle.grammar_text.specs.Reading.{byte_at, closed, literal_at};
+ghost use Rattle.grammar_text.specs.Reading.{byte_at, behind_quote, literal_at};
 
 use crate::limits::LITERAL_LIMIT;
 use crate::text::Text;
@@ -36,7 +36,7 @@ fn byte_of(text: &[u8]) -> Option<(u8, &[u8])>
 
 /// What is left behind the closing quote.
 fn closed(text: &[u8]) -> Option<&[u8]>
-    ensures { option_copied result ≡ closed text.now }
+    ensures { option_copied result ≡ behind_quote text.now }
 {
     match text {
         [b'"', rest @ ..] => Some(rest),

@@ -6,7 +6,8 @@ ghost use Rattle.grammar_text.specs.declared.edit.Edit.{Edit as AnEdit};
 ghost use Rattle.grammar_text.specs.Pieces.{IsLine};
 ghost use Rattle.grammar_text.specs.Spelling.{Spells};
 ghost use Rattle.grammar_text.specs.Limits.{IsWithinLimits, IsSound, the_limits};
-ghost use Rattle.grammar_text.specs.Reading.{Gives, word_at, name_at, literal_from, literal_at, symbol_at, symbols_at, rule_at, expression_at, definition_at, last_name_at, dropped_at, edit_at, edit_of};
+ghost use Rattle.grammar_text.specs.Reading.{IsRead, word_at, name_at, literal_from, literal_at, symbol_from, symbols_at, rule_at, expression_at};
+ghost use Rattle.grammar_text.specs.Reading.{definition_at, last_name_at, dropped_at, edit_at, edit_of};
 
 use crate::bad_edit::BadEdit;
 use crate::cursor::Cursor;
@@ -23,7 +24,7 @@ use std::alloc::Global;
 /// The place behind a word that must come next.
 #[tactic(auto, unfolding(crate::specs::Reading::word_at))]
 fn word<'a>(place: &Cursor<'a>, word: &[u8]) -> Result<Cursor<'a>, BadEdit>
-    ensures { Gives result (word_at word.now place.now) }
+    ensures { IsRead result (word_at word.now place.now) }
 {
     let next = place.trimmed();
     let (piece, behind) = next.split_piece();
@@ -38,7 +39,7 @@ fn word<'a>(place: &Cursor<'a>, word: &[u8]) -> Result<Cursor<'a>, BadEdit>
 /// A name that must come next, and the place behind it.
 #[tactic(auto, unfolding(crate::specs::Reading::name_at))]
 fn name<'a>(alloc: Global, place: &Cursor<'a>) -> Result<(Name, Cursor<'a>), BadEdit>
-    ensures { Gives result (name_at place.now) }
+    ensures { IsRead result (name_at place.now) }
 {
     let next = place.trimmed();
     if next.is_at_end() {
@@ -62,7 +63,7 @@ fn literal<'a>(
     text: &'a [u8],
 ) -> Result<(Symbol, Cursor<'a>), BadEdit>
     requires { length text.now ≤ length place.now.left }
-    ensures { Gives result (literal_from place.now (literal_at LITERAL_LIMIT text.now)) }
+    ensures { IsRead result (literal_from place.now (literal_at LITERAL_LIMIT text.now)) }
 {
     let Some((bytes, rest)) = literal_of(alloc, text)? else {
         return Err(BadEdit::BadLiteral {
@@ -84,9 +85,9 @@ fn literal<'a>(
 }
 
 /// The symbol that begins at this place, and the place behind it.
-#[tactic(auto, unfolding(crate::specs::Reading::symbol_at))]
+#[tactic(auto, unfolding(crate::specs::Reading::symbol_from))]
 fn symbol<'a>(alloc: Global, place: &Cursor<'a>) -> Result<(Symbol, Cursor<'a>), BadEdit>
-    ensures { Gives result (symbol_at the_limits place.now) }
+    ensures { IsRead result (symbol_from the_limits place.now) }
 {
     if let [b'"', text @ ..] = place.left() {
         return literal(alloc, place, text);
@@ -102,7 +103,7 @@ fn symbol<'a>(alloc: Global, place: &Cursor<'a>) -> Result<(Symbol, Cursor<'a>),
 
 /// The symbols up to the line's end.
 fn symbols(alloc: Global, place: &Cursor<'_>) -> Result<Symbols, BadEdit>
-    ensures { Gives result (symbols_at the_limits SYMBOL_LIMIT place.now) }
+    ensures { IsRead result (symbols_at the_limits SYMBOL_LIMIT place.now) }
 {
     let mut symbols = Vec::new(alloc);
     let mut next = place.trimmed();
@@ -122,7 +123,7 @@ fn symbols(alloc: Global, place: &Cursor<'_>) -> Result<Symbols, BadEdit>
 /// A name, `::=` and the symbols up to the line's end.
 #[tactic(auto, unfolding(crate::specs::Reading::rule_at))]
 fn rule(alloc: Global, place: &Cursor<'_>) -> Result<RuleText, BadEdit>
-    ensures { Gives result (rule_at the_limits place.now) }
+    ensures { IsRead result (rule_at the_limits place.now) }
 {
     let (left, behind) = name(alloc, place)?;
     let behind = word(&behind, b"::=")?;
@@ -133,7 +134,7 @@ fn rule(alloc: Global, place: &Cursor<'_>) -> Result<RuleText, BadEdit>
 /// The rest of the line from its first byte that is no blank.
 #[tactic(auto, unfolding(crate::specs::Reading::expression_at))]
 fn expression(alloc: Global, place: &Cursor<'_>) -> Result<Text, BadEdit>
-    ensures { Gives result (expression_at place.now) }
+    ensures { IsRead result (expression_at place.now) }
 {
     let next = place.trimmed();
     if next.is_at_end() {
@@ -147,7 +148,7 @@ fn expression(alloc: Global, place: &Cursor<'_>) -> Result<Text, BadEdit>
 /// A name, `=` and an expression.
 #[tactic(auto, unfolding(crate::specs::Reading::definition_at))]
 fn definition(alloc: Global, place: &Cursor<'_>) -> Result<DefText, BadEdit>
-    ensures { Gives result (definition_at place.now) }
+    ensures { IsRead result (definition_at place.now) }
 {
     let (name, behind) = name(alloc, place)?;
     let behind = word(&behind, b"=")?;
@@ -158,7 +159,7 @@ fn definition(alloc: Global, place: &Cursor<'_>) -> Result<DefText, BadEdit>
 /// A name, and nothing else.
 #[tactic(auto, unfolding(crate::specs::Reading::last_name_at))]
 fn last_name(alloc: Global, place: &Cursor<'_>) -> Result<Name, BadEdit>
-    ensures { Gives result (last_name_at place.now) }
+    ensures { IsRead result (last_name_at place.now) }
 {
     let (name, behind) = name(alloc, place)?;
     let next = behind.trimmed();
@@ -173,7 +174,7 @@ fn last_name(alloc: Global, place: &Cursor<'_>) -> Result<Name, BadEdit>
 /// An edit that drops something, behind its first piece.
 #[tactic(auto, unfolding(crate::specs::Reading::dropped_at))]
 fn dropped(alloc: Global, place: &Cursor<'_>) -> Result<Edit, BadEdit>
-    ensures { Gives result (dropped_at the_limits place.now) }
+    ensures { IsRead result (dropped_at the_limits place.now) }
 {
     let next = place.trimmed();
     let (word, behind) = next.split_piece();
@@ -193,7 +194,7 @@ fn dropped(alloc: Global, place: &Cursor<'_>) -> Result<Edit, BadEdit>
 /// An edit of any length, by its first piece.
 #[tactic(auto, unfolding(crate::specs::Reading::edit_at))]
 fn edit(alloc: Global, place: &Cursor<'_>) -> Result<Edit, BadEdit>
-    ensures { Gives result (edit_at the_limits place.now) }
+    ensures { IsRead result (edit_at the_limits place.now) }
 {
     let next = place.trimmed();
     let (word, behind) = next.split_piece();
@@ -216,7 +217,7 @@ fn edit(alloc: Global, place: &Cursor<'_>) -> Result<Edit, BadEdit>
 #[tactic(auto, unfolding(crate::specs::Reading::edit_of))]
 fn edit_of(alloc: Global, line: &[u8]) -> Result<Edit, BadEdit>
     requires { length line.now ≤ LINE_LIMIT }
-    ensures { Gives result (edit_of line.now) }
+    ensures { IsRead result (edit_of line.now) }
 {
     let edit = edit(alloc, &Cursor::new(line))?;
     if written_len(&edit) > EDIT_LIMIT {
@@ -240,9 +241,9 @@ pub fn read_edit(alloc: Global, line: &[u8]) -> Result<Edit, BadEdit>
     ensures found { IfOk result (λ edit. Spells line.now edit × IsWithinLimits edit) }
     ensures sound { IfOk result IsSound }
     // What is spelled so within the limits is read, unless memory runs out.
-    ensures only { (edit : AnEdit) → Spells line.now edit → IsWithinLimits edit → Gives result (Ok edit) }
+    ensures only { (edit : AnEdit) → Spells line.now edit → IsWithinLimits edit → IsRead result (Ok edit) }
     // Which error it is.
-    ensures exact { Gives result (edit_of line.now) }
+    ensures exact { IsRead result (edit_of line.now) }
 {
     edit_of(alloc, line)
 }

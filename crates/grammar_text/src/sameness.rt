@@ -5,7 +5,8 @@ ghost use Rattle.std.specs.Str.{bytes_eq};
 ghost use Rattle.std.specs.Cmp.{decided, partial_equiv_from_equiv};
 ghost use Rattle.std.specs.Hash as fed;
 ghost use Rattle.std.proofs.lemmas.Slice.Eq.{bytes_eq-Decides};
-ghost use Rattle.grammar_text.specs.Sameness.{symbol_eq, symbol_eq-decides, symbols_eq, symbols_eq-decides, rule_eq, rule_eq-decides, definition_eq, definition_eq-decides, symbol_fed};
+ghost use Rattle.grammar_text.specs.Sameness.{symbol_eq, symbol_eq-decides, symbols_eq, symbols_eq-decides, rule_eq, rule_eq-decides, definition_eq};
+ghost use Rattle.grammar_text.specs.Sameness.{definition_eq-decides, symbol_fed};
 
 use crate::edit::{DefText, RuleText};
 use crate::name::Name;

@@ -1,11 +1,14 @@
 -- An expression within the limits matches a word that is not empty, and so has a first position.
-use Rattle.std.proofs.Common.{◌≡◌, ℕ, ◌<◌, ◌==◌, ◌&&◌, Bool, nat_lt, List, [], ◌∷◌, ◌++◌, length, map, IsTrue, slice_index_or, refl, sym, ◌∙◌, ap, subst, inl, inr, arith, append-nil, length-append}
+use Rattle.std.proofs.Common.{◌≡◌, ℕ, ◌<◌, ◌==◌, ◌&&◌, Bool, nat_lt, List, [], ◌∷◌, ◌++◌, length, map, IsTrue, slice_index_or, refl, sym, ◌∙◌, ap, subst, inl}
+use Rattle.std.proofs.Common.{inr, arith, append-nil, length-append}
 use Rattle.std.specs.List.{AllByRecursion, AllZip}
 use Rattle.std.proofs.lemmas.Bool.{eq-eqb, and_parts, ltb-true, or_left}
 use Rattle.regex_ast.specs.Bytes.{has, only, bytes_where, complement, numbers_from}
 use Rattle.regex_ast.specs.Expressions.{Expression, class, classes_of}
 use Rattle.regex_ast.specs.Matching.{Matches, IsMarkedWord, IsMarkedLiteral}
-use Rattle.regex_ast.specs.Spelling.{Cut, AreCuts, pieces_of, IsPiece, atom, escape, dot, members, others, opening, closing, bar, star_sign, plus_sign, maybe_sign, AreMembers, no_member, one_more, SpellsChoice, SpellsBranch, SpellsFactor, one_branch, more_branches, one_factor, more_factors, one_class, group, starred, repeated, optional}
+use Rattle.regex_ast.specs.Spelling.{Cut, AreCutTexts, pieces_of, IsPiece, atom, escape, dot, members, others, opening, closing, bar, star_sign, plus_sign}
+use Rattle.regex_ast.specs.Spelling.{maybe_sign, AreMembers, no_member, one_more, SpellsChoice, SpellsBranch, SpellsFactor, one_branch, more_branches}
+use Rattle.regex_ast.specs.Spelling.{one_factor, more_factors, one_class, group, starred, repeated, optional}
 use Rattle.regex_ast.specs.Refusals.{NoPlace, IsEmptyClass, SpellsWithinLimits}
 use Rattle.regex_ast.proofs.SetLemmas.{has-bytes_where, has_byte}
 use Rattle.regex_ast.proofs.MarkLemmas.{marked, AreAt-own}
@@ -53,7 +56,7 @@ later : (c : Cut) (cuts : List Cut) → NoPlace IsEmptyClass (c ∷ cuts) → No
 later c cuts none before cut after e empty = none (c ∷ before) cut after (ap (λ cs. c ∷ cs) e) empty
 
 -- each is a piece, and none is a class without a byte
-full_pieces : (cuts : List Cut) → AreCuts cuts → NoPlace IsEmptyClass cuts
+full_pieces : (cuts : List Cut) → AreCutTexts cuts → NoPlace IsEmptyClass cuts
     → AllByRecursion (λ p. (t : List ℕ) × IsPiece t p × (IsEmptyClass [] (t, p) → ⊥)) (pieces_of cuts)
 full_pieces [] are none = tt
 full_pieces (c ∷ cuts) are none = ((c.0, are.0, λ e. none [] c cuts refl e), full_pieces cuts are.1 (later c cuts none))

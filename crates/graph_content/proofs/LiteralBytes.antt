@@ -6,7 +6,7 @@ use Rattle.grammar_text.specs.declared.symbol.Symbol.TheVariants.{Named, Literal
 use Rattle.grammar_text.specs.declared.edit.Edit.{Edit}
 use Rattle.grammar_text.specs.declared.edit.Edit.TheVariants.{AddRule, DropRule, AddToken, DropToken, AddSkip, DropSkip}
 use Rattle.grammar_text.specs.Pieces.{AreBytes}
-use Rattle.grammar_text.specs.Spelling.{keyword_of, words_of, SpellsByte, SpellsBytes, SpellsSymbol, SpellsSymbols, BeginsWith, Spells}
+use Rattle.grammar_text.specs.Spelling.{keyword_of, edit_words, SpellsByte, SpellsBytes, SpellsSymbol, SpellsSymbols, BeginsWith, Spells}
 use Rattle.grammar_text.specs.Canonical.{canonical}
 use Rattle.grammar_text.specs.Limits.{the_limits, SymbolFits, IsSound}
 use Rattle.edit_log.specs.Symbols.{symbols_of}
@@ -66,7 +66,7 @@ begins_bytes text (word ∷ words) rest begins of =
 rest_bytes : (line : List ℕ) (edit : Edit) (spelled : Spells line edit) → AreBytes line → AreBytes spelled.rest
 rest_bytes line edit spelled of =
     let whole = parted spelled.blanks (keyword_of edit ++ spelled.behind) (subst (λ (t : List ℕ). AreBytes t) spelled.begins of) in
-    begins_bytes spelled.behind (words_of edit) spelled.rest spelled.words (parted (keyword_of edit) spelled.behind whole.1).1
+    begins_bytes spelled.behind (edit_words edit) spelled.rest spelled.words (parted (keyword_of edit) spelled.behind whole.1).1
 
 -- the symbols of an edit that can be written
 pub solid_edit : (edit : Edit) → IsSound edit → AllByRecursion IsSolid (symbols_of edit)

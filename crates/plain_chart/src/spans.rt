@@ -1,5 +1,6 @@
 //! Sets of spans.
-ghost use Rattle.std.specs.Prelude.{◌≡◌, ◌<◌, ◌+◌, ◌*◌, ◌↔◌, ℕ, List, [], ◌∷◌, ◌++◌, IsTrue, IfOk, IfSome, IfNone, OnOk, OnErr, Contains, Some, slice_get, length};
+ghost use Rattle.std.specs.Prelude.{◌≡◌, ◌<◌, ◌+◌, ◌*◌, ◌↔◌, ℕ, List, [], ◌∷◌, ◌++◌, IsTrue, IfOk, IfSome, IfNone, OnOk, OnErr, Contains, Some, slice_get};
+ghost use Rattle.std.specs.Prelude.{length};
 ghost use Rattle.plain_chart.specs.Tables.{IsTableAt, KeepsTables};
 ghost use Rattle.plain_chart.specs.Span.{span};
 ghost use Rattle.plain_chart.specs.declared.limits.TheConstants.{PLACES};

@@ -1,8 +1,10 @@
 -- The classes of an expression are those of its text.
-use Rattle.std.proofs.Common.{◌≡◌, ℕ, ◌+◌, ◌<◌, ◌≤◌, false, if◌then◌else◌, List, [], ◌∷◌, ◌++◌, refl, sym, ap, ◌∙◌, subst, append_assoc, arith, inl, inr, count_by}
+use Rattle.std.proofs.Common.{◌≡◌, ℕ, ◌+◌, ◌<◌, ◌≤◌, false, if◌then◌else◌, List, [], ◌∷◌, ◌++◌, refl, sym, ap, ◌∙◌, subst, append_assoc, arith, inl, inr}
+use Rattle.std.proofs.Common.{count_by}
 use Rattle.std.proofs.lemmas.Bool.{cases_lt}
 use Rattle.regex_ast.specs.Expressions.{Expression, class_count}
-use Rattle.regex_ast.specs.Spelling.{Cut, pieces_of, SpellsChoice, SpellsBranch, SpellsFactor, one_branch, more_branches, one_factor, more_factors, one_class, group, starred, repeated, optional}
+use Rattle.regex_ast.specs.Spelling.{Cut, pieces_of, SpellsChoice, SpellsBranch, SpellsFactor, one_branch, more_branches, one_factor, more_factors, one_class}
+use Rattle.regex_ast.specs.Spelling.{group, starred, repeated, optional}
 use Rattle.regex_ast.specs.Refusals.{is_class, IsOneTooMany, NoPlace, SpellsWithinLimits}
 use Rattle.regex_ast.specs.declared.lexer.Piece.{Piece}
 use Rattle.regex_ast.specs.declared.lexer.Piece.TheVariants.{OneOf, Open, Close, Bar, StarSign, PlusSign, MaybeSign}
@@ -46,20 +48,24 @@ mutual
   choice_count (more_branches {ps} {qs} {a} {b} h k) = omega (arith, choice_count h, branch_count k, classes_in-append ps (Bar ∷ qs))
 
 others_few : (cuts done : List Cut) (c : Cut) → is_class c ≡ false → count_by is_class done ≤ 200 → NoPlace IsOneTooMany (done ++ (c ∷ cuts))
-    → (count_by is_class (done ++ c ∷ []) ≤ 200 → NoPlace IsOneTooMany ((done ++ c ∷ []) ++ cuts) → count_by is_class (done ++ c ∷ []) + classes_in (pieces_of cuts) ≤ 200)
+    → (count_by is_class (done ++ c ∷ []) ≤ 200 → NoPlace IsOneTooMany ((done ++ c ∷ []) ++ cuts) → count_by is_class (done ++ c ∷ []) + classes_in
+        (pieces_of cuts) ≤ 200)
     → count_by is_class done + classes_in (pieces_of cuts) ≤ 200
 others_few cuts done c other few none rest =
-    let same : count_by is_class (done ++ c ∷ []) ≡ count_by is_class done + 0 = count-snoc is_class done c ∙ ap (λ x. count_by is_class done + (if x then 1 else 0)) other in
+    let same : count_by is_class (done ++ c ∷ []) ≡ count_by is_class done + 0 = count-snoc is_class done c ∙ ap
+        (λ x. count_by is_class done + (if x then 1 else 0)) other in
     omega (arith, rest (omega arith) (subst (NoPlace IsOneTooMany) (sym (append_assoc done (c ∷ []) cuts)) none))
 
 -- no class is one too many, so there are few
-few_classes : (cuts done : List Cut) → count_by is_class done ≤ 200 → NoPlace IsOneTooMany (done ++ cuts) → count_by is_class done + classes_in (pieces_of cuts) ≤ 200
+few_classes : (cuts done : List Cut) → count_by is_class done ≤ 200 → NoPlace IsOneTooMany (done ++ cuts)
+    → count_by is_class done + classes_in (pieces_of cuts) ≤ 200
 few_classes [] done few none = omega arith
 few_classes ((t, OneOf set) ∷ cuts) done few none =
     let here : count_by is_class (done ++ (t, OneOf set) ∷ []) ≡ count_by is_class done + 1 = count-snoc is_class done (t, OneOf set) in
     let below : count_by is_class done < 200 =
     elim (cases_lt (count_by is_class done) 200) [ inl h ↦ h | inr h ↦ absurd (none done (t, OneOf set) cuts refl (refl, h)) ] in
-    omega (arith, few_classes cuts (done ++ (t, OneOf set) ∷ []) (omega arith) (subst (NoPlace IsOneTooMany) (sym (append_assoc done ((t, OneOf set) ∷ []) cuts)) none))
+    omega (arith, few_classes cuts (done ++ (t, OneOf set) ∷ []) (omega arith) (subst (NoPlace IsOneTooMany)
+        (sym (append_assoc done ((t, OneOf set) ∷ []) cuts)) none))
 few_classes ((t, Open) ∷ cuts) done few none = others_few cuts done (t, Open) refl few none (few_classes cuts (done ++ (t, Open) ∷ []))
 few_classes ((t, Close) ∷ cuts) done few none = others_few cuts done (t, Close) refl few none (few_classes cuts (done ++ (t, Close) ∷ []))
 few_classes ((t, Bar) ∷ cuts) done few none = others_few cuts done (t, Bar) refl few none (few_classes cuts (done ++ (t, Bar) ∷ []))

@@ -1,5 +1,6 @@
 -- The positions that are computed part by part are those of the marked words.
-use Rattle.std.proofs.Common.{◌≡◌, ℕ, ◌+◌, ◌<◌, ◌≤◌, Bool, true, false, ◌||◌, ◌&&◌, List, [], ◌∷◌, ◌++◌, refl, sym, ap, ◌∙◌, subst, ◌⊎◌, inl, inr, arith, append_assoc, append-nil}
+use Rattle.std.proofs.Common.{◌≡◌, ℕ, ◌+◌, ◌<◌, ◌≤◌, Bool, true, false, ◌||◌, ◌&&◌, List, [], ◌∷◌, ◌++◌, refl, sym, ap, ◌∙◌, subst, ◌⊎◌, inl, inr, arith}
+use Rattle.std.proofs.Common.{append_assoc, append-nil}
 use Rattle.std.specs.List.{concat, AllByRecursion}
 use Rattle.std.proofs.lemmas.Bool.{eqb-true, eq-eqb, and_parts, and_from, or_cases, false≢true}
 use Rattle.regex_ast.specs.Expressions.{Expression, class, sequence, choice, star, plus, maybe, class_count}
@@ -33,7 +34,8 @@ snoc-append (x ∷ u) v (y ∷ w) p e =
 
 -- a pair in a join stands in one part, or across them
 pub pair-append : (u v f : List ℕ) (q p : ℕ) (r : List ℕ) → f ++ q ∷ p ∷ r ≡ u ++ v
-    → ((s : List ℕ) × (t : List ℕ) × (s ++ q ∷ p ∷ t ≡ u)) ⊎ (((s : List ℕ) × (s ++ q ∷ [] ≡ u)) × ((t : List ℕ) × (p ∷ t ≡ v)) ⊎ ((s : List ℕ) × (t : List ℕ) × (s ++ q ∷ p ∷ t ≡ v)))
+    → ((s : List ℕ) × (t : List ℕ) × (s ++ q ∷ p ∷ t ≡ u)) ⊎ (((s : List ℕ) × (s ++ q ∷ [] ≡ u)) × ((t : List ℕ) × (p ∷ t ≡ v)) ⊎ ((s : List ℕ) × (t : List ℕ)
+        × (s ++ q ∷ p ∷ t ≡ v)))
 pair-append [] v f q p r e = inr (inr (f, r, e))
 pair-append (x ∷ u) v [] q p r e =
     let h : q ≡ x = cc in let k : p ∷ r ≡ u ++ v = cc in
@@ -86,7 +88,8 @@ first_in_pieces P (u ∷ ws) p w all e =
       | inr n ↦ (n.0, subst P (sym n.1) all.0)
     ]
 
-pub last_in_pieces : (P : List ℕ → Type 0) (ws : List (List ℕ)) (w : List ℕ) (p : ℕ) → AllByRecursion P ws → w ++ p ∷ [] ≡ concat ws → (t : List ℕ) × P (t ++ p ∷ [])
+pub last_in_pieces : (P : List ℕ → Type 0) (ws : List (List ℕ)) (w : List ℕ) (p : ℕ) → AllByRecursion P ws → w ++ p ∷ [] ≡ concat ws
+    → (t : List ℕ) × P (t ++ p ∷ [])
 last_in_pieces P [] w p all e = absurd (snoc_nil w p e)
 last_in_pieces P (u ∷ ws) w p all e =
     elim (snoc-append u (concat ws) w p e) [
@@ -120,7 +123,8 @@ pub nullable-true : (n : ℕ) (e : Expression) → MarksFrom n e [] → nullable
 nullable-true n (class set) h = absurd (subst Nil h tt)
 nullable-true n (sequence a b) h =
     let parts = nil-append h.0 h.1 h.4 in
-    and_from (nullable a) (nullable b) (nullable-true n a (subst (MarksFrom n a) (sym parts.0) h.2)) (nullable-true (n + class_count a) b (subst (MarksFrom (n + class_count a) b) (sym parts.1) h.3))
+    and_from (nullable a) (nullable b) (nullable-true n a (subst (MarksFrom n a) (sym parts.0) h.2))
+        (nullable-true (n + class_count a) b (subst (MarksFrom (n + class_count a) b) (sym parts.1) h.3))
 nullable-true n (choice a b) (inl h) = or_left (nullable a) (nullable b) (nullable-true n a h)
 nullable-true n (choice a b) (inr h) = or_right (nullable a) (nullable b) (nullable-true (n + class_count a) b h)
 nullable-true n (star a) h = refl
@@ -142,7 +146,8 @@ pub firsts-true : (n : ℕ) (e : Expression) (p : ℕ) (w : List ℕ) → MarksF
 firsts-true n (class set) p w h = let k : p ≡ n = cc in eq-eqb p n k
 firsts-true n (sequence a b) p w h =
     elim (cons-append h.0 h.1 p w h.4) [
-      | inl k ↦ or_right (firsts n a p) _ (and_from (nullable a) _ (nullable-true n a (subst (MarksFrom n a) (sym k.0) h.2)) (firsts-true (n + class_count a) b p w (subst (MarksFrom (n + class_count a) b) (sym k.1) h.3)))
+      | inl k ↦ or_right (firsts n a p) _ (and_from (nullable a) _ (nullable-true n a (subst (MarksFrom n a) (sym k.0) h.2))
+          (firsts-true (n + class_count a) b p w (subst (MarksFrom (n + class_count a) b) (sym k.1) h.3)))
       | inr k ↦ or_left (firsts n a p) _ (firsts-true n a p k.0 (subst (MarksFrom n a) (sym k.1) h.2))
     ]
 firsts-true n (choice a b) p w (inl h) = or_left (firsts n a p) _ (firsts-true n a p w h)
@@ -157,7 +162,8 @@ from-firsts n (class set) p h = ([], ap (λ k. k ∷ []) (eqb-true p n h))
 from-firsts n (sequence a b) p h =
     elim (or_cases (firsts n a p) _ h) [
       | inl k ↦ (let x = from-firsts n a p k in let y = some_word (n + class_count a) b in (x.0 ++ y.0, (p ∷ x.0, y.0, x.1, y.1, refl)))
-      | inr k ↦ (let parts = and_parts (nullable a) _ k in let y = from-firsts (n + class_count a) b p parts.1 in (y.0, ([], p ∷ y.0, from-nullable n a parts.0, y.1, refl)))
+      | inr k ↦ (let parts = and_parts (nullable a) _ k in let y = from-firsts (n + class_count a) b p parts.1 in (y.0, ([], p ∷ y.0, from-nullable n a parts.0,
+          y.1, refl)))
     ]
 from-firsts n (choice a b) p h =
     elim (or_cases (firsts n a p) _ h) [
@@ -173,7 +179,8 @@ pub lasts-true : (n : ℕ) (e : Expression) (p : ℕ) (w : List ℕ) → MarksFr
 lasts-true n (class set) p w h = eq-eqb p n (only_last w p n h)
 lasts-true n (sequence a b) p w h =
     elim (snoc-append h.0 h.1 w p h.4) [
-      | inl k ↦ or_right (lasts (n + class_count a) b p) _ (and_from (nullable b) _ (nullable-true (n + class_count a) b (subst (MarksFrom (n + class_count a) b) (sym k.0) h.3)) (lasts-true n a p w (subst (MarksFrom n a) (sym k.1) h.2)))
+      | inl k ↦ or_right (lasts (n + class_count a) b p) _ (and_from (nullable b) _ (nullable-true (n + class_count a) b
+          (subst (MarksFrom (n + class_count a) b) (sym k.0) h.3)) (lasts-true n a p w (subst (MarksFrom n a) (sym k.1) h.2)))
       | inr k ↦ or_left (lasts (n + class_count a) b p) _ (lasts-true (n + class_count a) b p k.0 (subst (MarksFrom (n + class_count a) b) (sym k.1) h.3))
     ]
 lasts-true n (choice a b) p w (inl h) = or_left (lasts n a p) _ (lasts-true n a p w h)
@@ -187,8 +194,10 @@ pub from-lasts : (n : ℕ) (e : Expression) (p : ℕ) → lasts n e p ≡ true �
 from-lasts n (class set) p h = ([], ap (λ k. k ∷ []) (eqb-true p n h))
 from-lasts n (sequence a b) p h =
     elim (or_cases (lasts (n + class_count a) b p) _ h) [
-      | inl k ↦ (let x = some_word n a in let y = from-lasts (n + class_count a) b p k in (x.0 ++ y.0, (x.0, y.0 ++ p ∷ [], x.1, y.1, append_assoc x.0 y.0 (p ∷ []))))
-      | inr k ↦ (let parts = and_parts (nullable b) _ k in let x = from-lasts n a p parts.1 in (x.0, (x.0 ++ p ∷ [], [], x.1, from-nullable (n + class_count a) b parts.0, sym (append-nil (x.0 ++ p ∷ [])))))
+      | inl k ↦ (let x = some_word n a in let y = from-lasts (n + class_count a) b p k in (x.0 ++ y.0, (x.0, y.0 ++ p ∷ [], x.1, y.1,
+          append_assoc x.0 y.0 (p ∷ []))))
+      | inr k ↦ (let parts = and_parts (nullable b) _ k in let x =
+          from-lasts n a p parts.1 in (x.0, (x.0 ++ p ∷ [], [], x.1, from-nullable (n + class_count a) b parts.0, sym (append-nil (x.0 ++ p ∷ [])))))
     ]
 from-lasts n (choice a b) p h =
     elim (or_cases (lasts n a p) _ h) [
@@ -210,11 +219,14 @@ pub follows-true : (n : ℕ) (e : Expression) (q p : ℕ) (f r : List ℕ) → M
 follows-true n (class set) q p f r h = absurd (pair_one f q p r n h)
 follows-true n (sequence a b) q p f r h =
     elim (pair-append h.0 h.1 f q p r h.4) [
-      | inl k ↦ or_left (follows n a q p || follows (n + class_count a) b q p) _ (or_left (follows n a q p) _ (follows-true n a q p k.0 k.1 (subst (MarksFrom n a) (sym k.2) h.2)))
+      | inl k ↦ or_left (follows n a q p || follows (n + class_count a) b q p) _
+          (or_left (follows n a q p) _ (follows-true n a q p k.0 k.1 (subst (MarksFrom n a) (sym k.2) h.2)))
       | inr m ↦ elim m [
         | inl k ↦ or_right (follows n a q p || follows (n + class_count a) b q p) _
-            (and_from (lasts n a q) _ (lasts-true n a q k.0.0 (subst (MarksFrom n a) (sym k.0.1) h.2)) (firsts-true (n + class_count a) b p k.1.0 (subst (MarksFrom (n + class_count a) b) (sym k.1.1) h.3)))
-        | inr k ↦ or_left (follows n a q p || follows (n + class_count a) b q p) _ (or_right (follows n a q p) _ (follows-true (n + class_count a) b q p k.0 k.1 (subst (MarksFrom (n + class_count a) b) (sym k.2) h.3)))
+            (and_from (lasts n a q) _ (lasts-true n a q k.0.0 (subst (MarksFrom n a) (sym k.0.1) h.2)) (firsts-true (n + class_count a) b p k.1.0
+                (subst (MarksFrom (n + class_count a) b) (sym k.1.1) h.3)))
+        | inr k ↦ or_left (follows n a q p || follows (n + class_count a) b q p) _ (or_right (follows n a q p) _ (follows-true (n + class_count a) b q p k.0 k.1
+            (subst (MarksFrom (n + class_count a) b) (sym k.2) h.3)))
       ]
     ]
 follows-true n (choice a b) q p f r (inl h) = or_left (follows n a q p) _ (follows-true n a q p f r h)

@@ -1,5 +1,6 @@
 -- Words and marked words.
-use Rattle.std.proofs.Common.{◌≡◌, ℕ, ◌+◌, List, [], ◌∷◌, ◌++◌, length, IsTrue, slice_index_or, refl, sym, ap, ◌∙◌, subst, inl, inr, append_assoc, append-nil, length-append}
+use Rattle.std.proofs.Common.{◌≡◌, ℕ, ◌+◌, List, [], ◌∷◌, ◌++◌, length, IsTrue, slice_index_or, refl, sym, ap, ◌∙◌, subst, inl, inr, append_assoc, append-nil}
+use Rattle.std.proofs.Common.{length-append}
 use Rattle.std.specs.List.{concat, AllByRecursion, AllZip}
 use Rattle.regex_ast.specs.Bytes.{has}
 use Rattle.regex_ast.specs.Expressions.{Expression, class, sequence, choice, star, plus, maybe, class_count, classes_of}
@@ -15,7 +16,8 @@ AllZip-join cs [] n (x ∷ u) v h k = absurd h
 AllZip-join cs (p ∷ m) n [] v h k = absurd h
 AllZip-join cs (p ∷ m) n (x ∷ u) v h k = (h.0, AllZip-join cs m n u v h.1 k)
 
-pub AllZip-part : (cs : List (List ℕ)) (m n w : List ℕ) → AllZip (Holds cs) (m ++ n) w → (u : List ℕ) × (v : List ℕ) × AllZip (Holds cs) m u × AllZip (Holds cs) n v × (w ≡ u ++ v)
+pub AllZip-part : (cs : List (List ℕ)) (m n w : List ℕ) → AllZip (Holds cs) (m ++ n) w → (u : List ℕ) × (v : List ℕ) × AllZip (Holds cs) m u × AllZip
+    (Holds cs) n v × (w ≡ u ++ v)
 AllZip-part cs [] n w h = ([], w, tt, h, refl)
 AllZip-part cs (p ∷ m) n [] h = absurd h
 AllZip-part cs (p ∷ m) n (x ∷ w) h =
@@ -47,11 +49,14 @@ at_length (f ∷ front) set back = at_length front set back
 
 two_at : (a b : Expression) → ((front back : List (List ℕ)) → AreAt (front ++ (classes_of a ++ back)) (length front) a)
     → ((front back : List (List ℕ)) → AreAt (front ++ (classes_of b ++ back)) (length front) b)
-    → (front back : List (List ℕ)) → AreAt (front ++ ((classes_of a ++ classes_of b) ++ back)) (length front) a × AreAt (front ++ ((classes_of a ++ classes_of b) ++ back)) (length front + class_count a) b
+    → (front back : List (List ℕ)) → AreAt (front ++ ((classes_of a ++ classes_of b) ++ back)) (length front) a × AreAt
+        (front ++ ((classes_of a ++ classes_of b) ++ back)) (length front + class_count a) b
 two_at a b one two front back = (
   subst (λ cs. AreAt cs (length front) a) (ap (λ t. front ++ t) (sym (append_assoc (classes_of a) (classes_of b) back))) (one front (classes_of b ++ back)),
-  subst (λ n. AreAt (front ++ ((classes_of a ++ classes_of b) ++ back)) n b) (length-append front (classes_of a) ∙ ap (λ n. length front + n) (length-classes_of a))
-      (subst (λ cs. AreAt cs (length (front ++ classes_of a)) b) (append_assoc front (classes_of a) (classes_of b ++ back) ∙ ap (λ t. front ++ t) (sym (append_assoc (classes_of a) (classes_of b) back)))
+  subst (λ n. AreAt (front ++ ((classes_of a ++ classes_of b) ++ back)) n b) (length-append front (classes_of a)
+      ∙ ap (λ n. length front + n) (length-classes_of a))
+      (subst (λ cs. AreAt cs (length (front ++ classes_of a)) b) (append_assoc front (classes_of a) (classes_of b ++ back)
+          ∙ ap (λ t. front ++ t) (sym (append_assoc (classes_of a) (classes_of b) back)))
       (two (front ++ classes_of a) back)),
 )
 
@@ -66,7 +71,8 @@ classes_at (maybe a) front back = classes_at a front back
 pub AreAt-own : (e : Expression) → AreAt (classes_of e) 0 e
 AreAt-own e = subst (λ cs. AreAt cs 0 e) (append-nil (classes_of e)) (classes_at e [] [])
 
-one_byte_word : (cs : List (List ℕ)) (n : ℕ) (set : List ℕ) → slice_index_or cs n [] ≡ set → (w : List ℕ) → AllZip (Holds cs) (n ∷ []) w → (b : ℕ) × IsTrue (has set b) × (w ≡ b ∷ [])
+one_byte_word : (cs : List (List ℕ)) (n : ℕ) (set : List ℕ) → slice_index_or cs n [] ≡ set → (w : List ℕ) → AllZip (Holds cs) (n ∷ []) w
+    → (b : ℕ) × IsTrue (has set b) × (w ≡ b ∷ [])
 one_byte_word cs n set at [] k = absurd k
 one_byte_word cs n set at (b ∷ []) k = (b, subst (λ s. IsTrue (has s b)) at k.0, refl)
 one_byte_word cs n set at (b ∷ c ∷ w) k = absurd k.1

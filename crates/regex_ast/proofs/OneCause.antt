@@ -1,22 +1,24 @@
 -- A text spells one expression within the limits, or has one cause why it does not.
-use Rattle.std.proofs.Common.{◌≡◌, ℕ, ◌+◌, ◌<◌, ◌≤◌, zero, suc, Option, Some, None, Result, Ok, Err, List, [], ◌∷◌, ◌++◌, refl, sym, ap, ◌∙◌, subst, append_assoc, arith, length, take, get_or, ◌⊎◌, inl, inr}
+use Rattle.std.proofs.Common.{◌≡◌, ℕ, ◌+◌, ◌<◌, ◌≤◌, zero, suc, Option, Some, None, Result, Ok, Err, List, [], ◌∷◌, ◌++◌, refl, sym, ap, ◌∙◌, subst}
+use Rattle.std.proofs.Common.{append_assoc, arith, length, take, get_or, ◌⊎◌, inl, inr}
 use Rattle.std.proofs.lemmas.Bool.{cases_lt}
 use Rattle.regex_ast.specs.Expressions.{Expression}
-use Rattle.regex_ast.specs.Spelling.{Cut, text_of, SpellsExpression}
+use Rattle.regex_ast.specs.Spelling.{Cut, cuts_text, SpellsExpression}
 use Rattle.regex_ast.specs.Refusals.{HasContinuation, IsBrokenAt, IsEmptyClass, IsTooDeep, IsOneTooMany, IsFirstPlace, SpellsWithinLimits, IsCause}
-use Rattle.regex_ast.specs.Nests.{State, reading, finished, after_byte, after_bytes, first_state, judged, judged_if_whole, answer_of, Stops}
+use Rattle.regex_ast.specs.Nests.{State, reading, nest_end, after_byte, after_bytes, first_state, judged, judged_if_whole, answer_of, Stops}
 use Rattle.regex_ast.specs.declared.bad_regex.BadRegex.{BadRegex}
 use Rattle.regex_ast.specs.declared.bad_regex.BadRegex.TheVariants.{Shape, EmptyClass, TooDeep, TooManyPositions, NoMemory}
 use Rattle.regex_ast.specs.declared.findings.Findings.{Findings}
 use Rattle.regex_ast.specs.declared.lexer.Mode.TheVariants.{Between, Escaped, Opened, Inside}
-use Rattle.regex_ast.proofs.ReadLemmas.{FoundAt, spelled_read, some_same, none_some, ok_err, err_same, mode_nest, no_place_found, only_answer, found_answer, refused_answer, stop_is_cause, stops_here, goes_on, take_whole}
+use Rattle.regex_ast.proofs.ReadLemmas.{FoundAt, spelled_read, some_same, none_some, ok_err, err_same, mode_nest, no_place_found, only_answer, found_answer}
+use Rattle.regex_ast.proofs.ReadLemmas.{refused_answer, stop_is_cause, stops_here, goes_on, take_whole}
 
 -- a text spells one expression
 pub one_expression : (text : List ℕ) (a b : Expression) → SpellsExpression text a → SpellsExpression text b → a ≡ b
 one_expression text a b of_a of_b =
     let r = spelled_read text of_a.0 a of_a.1 in
     let s = spelled_read text of_b.0 b of_b.1 in
-    some_same (sym r.4 ∙ ap finished (mode_nest (some_same (sym r.3 ∙ s.3))) ∙ s.4)
+    some_same (sym r.4 ∙ ap nest_end (mode_nest (some_same (sym r.3 ∙ s.3))) ∙ s.4)
 
 -- ---- one first place
 
@@ -41,7 +43,7 @@ unfolding FoundAt
 place_found Bad cuts at None none place = absurd (none place.0 place.1 place.2 place.3 place.4)
 place_found Bad cuts at (Some other) first place =
     elim (two_places place.0 first.0 place.2 first.2 place.1 first.1 (sym place.3 ∙ first.3)) [
-      | inl same ↦ ap Some (first.6 ∙ ap (λ cuts. length (text_of cuts)) (sym same) ∙ sym place.6)
+      | inl same ↦ ap Some (first.6 ∙ ap (λ cuts. length (cuts_text cuts)) (sym same) ∙ sym place.6)
       | inr (inl before) ↦ absurd (first.5 place.0 place.1 before.0 before.1 place.4)
       | inr (inr behind) ↦ absurd (place.5 first.0 first.1 behind.0 behind.1 first.4)
     ]
@@ -194,7 +196,7 @@ whole_tells None f end = tt
 whole_tells (Some e) f end = judged_tells f.empty f.deep f.many e
 
 answer_tells : (s : State) (end : ℕ) → Tells (answer_of s end)
-answer_tells (reading Between s f start) end = whole_tells (finished s) f end
+answer_tells (reading Between s f start) end = whole_tells (nest_end s) f end
 answer_tells (reading Escaped s f start) end = tt
 answer_tells (reading Opened s f start) end = tt
 answer_tells (reading (Inside negated set place) s f start) end = tt

@@ -1,8 +1,9 @@
 -- The stack of the reader holds what the pieces spell.
 use Rattle.std.proofs.Common.{◌≡◌, ℕ, Option, Some, None, option_and_then, List, [], ◌∷◌, ◌++◌, refl, sym, ap, ◌∙◌, subst, append_assoc, append-nil}
 use Rattle.regex_ast.specs.Expressions.{Expression, class, sequence, choice, star, plus, maybe}
-use Rattle.regex_ast.specs.Spelling.{Cut, pieces_of, AreCuts, closing, SpellsChoice, SpellsBranch, SpellsFactor, one_branch, more_branches, one_factor, more_factors, one_class, group, starred, repeated, optional}
-use Rattle.regex_ast.specs.Nests.{Layer, Nest, levels, joined, settled, chosen, whole, signed, put, finished}
+use Rattle.regex_ast.specs.Spelling.{Cut, pieces_of, AreCutTexts, closing, SpellsChoice, SpellsBranch, SpellsFactor, one_branch, more_branches, one_factor}
+use Rattle.regex_ast.specs.Spelling.{more_factors, one_class, group, starred, repeated, optional}
+use Rattle.regex_ast.specs.Nests.{Layer, Nest, levels, joined, settled, chosen, level_whole, signed, put, nest_end}
 use Rattle.regex_ast.specs.declared.lexer.Piece.{Piece}
 use Rattle.regex_ast.specs.declared.lexer.Piece.TheVariants.{OneOf, Open, Close, Bar, StarSign, PlusSign, MaybeSign}
 
@@ -29,7 +30,8 @@ puts_then ps qs s t h = puts-append ps qs s ∙ ap (λ o. option_and_then (λ u.
 
 -- ---- what is spelled is put
 mutual
-  pub factor_put : {ps : List Piece} {e : Expression} → SpellsFactor ps e → (o : List Layer) (c b f : Option Expression) → puts (levels o c b f) ps ≡ Some (levels o c (settled b f) (Some e))
+  pub factor_put : {ps : List Piece} {e : Expression} → SpellsFactor ps e → (o : List Layer) (c b f : Option Expression)
+      → puts (levels o c b f) ps ≡ Some (levels o c (settled b f) (Some e))
   factor_put one_class o c b f = refl
   factor_put (group {ps} {e} h) o c b f =
       let r = choice_put h ((c, settled b f) ∷ o) in
@@ -46,15 +48,17 @@ mutual
       (Some (joined r.0 r.1), b, puts_then ps qs (levels o c None None) _ r.2 ∙ factor_put k o c r.0 (Some r.1), ap (λ z. sequence z b) r.3)
 
   pub choice_put : {ps : List Piece} {e : Expression} → SpellsChoice ps e → (o : List Layer)
-      → (c : Option Expression) × (b : Option Expression) × (f : Expression) × (puts (levels o None None None) ps ≡ Some (levels o c b (Some f))) × (whole c b f ≡ e)
+      → (c : Option Expression) × (b : Option Expression) × (f : Expression) × (puts (levels o None None None) ps ≡ Some (levels o c b (Some f))) ×
+          (level_whole c b f ≡ e)
   choice_put (one_branch {ps} {e} h) o = let r = branch_put h o None in (None, r.0, r.1, r.2, r.3)
   choice_put (more_branches {ps} {qs} {a} {b} h k) o =
       let r = choice_put h o in
-      let s = branch_put k o (Some (whole r.0 r.1 r.2)) in
-      (Some (whole r.0 r.1 r.2), s.0, s.1, puts_then ps (Bar ∷ qs) (levels o None None None) _ r.3 ∙ s.2, ap (λ z. choice z (joined s.0 s.1)) r.4 ∙ ap (λ z. choice a z) s.3)
+      let s = branch_put k o (Some (level_whole r.0 r.1 r.2)) in
+      (Some (level_whole r.0 r.1 r.2), s.0, s.1, puts_then ps (Bar ∷ qs) (levels o None None None) _ r.3 ∙ s.2, ap (λ z. choice z (joined s.0 s.1)) r.4
+          ∙ ap (λ z. choice a z) s.3)
 
--- the whole text of an expression
-pub spelled_put : {ps : List Piece} {e : Expression} → SpellsChoice ps e → (t : Nest) × (puts bottom ps ≡ Some t) × (finished t ≡ Some e)
+-- the level_whole text of an expression
+pub spelled_put : {ps : List Piece} {e : Expression} → SpellsChoice ps e → (t : Nest) × (puts bottom ps ≡ Some t) × (nest_end t ≡ Some e)
 spelled_put h = let r = choice_put h [] in (levels [] r.0 r.1 (Some r.2), r.3, ap Some r.4)
 
 -- ---- what is put is spelled
@@ -79,7 +83,8 @@ HoldsOuter ps (l ∷ o) = (qs : List Piece) × (rs : List Piece) × HoldsOuter q
 
 -- the pieces put on the stack
 abbrev pub Holds : List Piece → Nest → Type 0
-Holds ps (levels o c b f) = (xs : List Piece) × (ys : List Piece) × (zs : List Piece) × HoldsOuter xs o × HoldsLayer ys c b × HoldsFactor zs f × (ps ≡ xs ++ (ys ++ zs))
+Holds ps (levels o c b f) = (xs : List Piece) × (ys : List Piece) × (zs : List Piece) × HoldsOuter xs o × HoldsLayer ys c b × HoldsFactor zs f ×
+    (ps ≡ xs ++ (ys ++ zs))
 
 branch_more : (ps zs : List Piece) (b : Option Expression) (e : Expression) → HoldsBranch ps b → SpellsFactor zs e → SpellsBranch (ps ++ zs) (joined b e)
 branch_more ps zs None e h k = subst (λ t. SpellsBranch (t ++ zs) e) (sym h) (one_factor k)
@@ -93,9 +98,11 @@ choice_more : (ps rs : List Piece) (c : Option Expression) (e : Expression) → 
 choice_more ps rs None e h k = subst (λ t. SpellsChoice (t ++ rs) e) (sym h) (one_branch k)
 choice_more ps rs (Some c) e h k = subst (λ t. SpellsChoice t (choice c e)) (sym (ap (λ t. t ++ rs) h.2 ∙ append_assoc h.0 (Bar ∷ []) rs)) (more_branches h.1 k)
 
-layer_whole : (ys zs : List Piece) (c b : Option Expression) (e : Expression) → HoldsLayer ys c b → SpellsFactor zs e → SpellsChoice (ys ++ zs) (whole c b e)
+layer_whole : (ys zs : List Piece) (c b : Option Expression) (e : Expression) → HoldsLayer ys c b → SpellsFactor zs e
+    → SpellsChoice (ys ++ zs) (level_whole c b e)
 layer_whole ys zs c b e h k =
-    subst (λ t. SpellsChoice t (whole c b e)) (sym (ap (λ t. t ++ zs) h.4 ∙ append_assoc h.0 h.1 zs)) (choice_more h.0 (h.1 ++ zs) c (joined b e) h.2 (branch_more h.1 zs b e h.3 k))
+    subst (λ t. SpellsChoice t (level_whole c b e)) (sym (ap (λ t. t ++ zs) h.4 ∙ append_assoc h.0 h.1 zs))
+        (choice_more h.0 (h.1 ++ zs) c (joined b e) h.2 (branch_more h.1 zs b e h.3 k))
 
 last_moved : (xs ys zs : List Piece) (p : Piece) → (xs ++ (ys ++ zs)) ++ p ∷ [] ≡ xs ++ ((ys ++ zs) ++ p ∷ [])
 last_moved xs ys zs p = append_assoc xs (ys ++ zs) (p ∷ [])
@@ -105,7 +112,8 @@ last_in xs ys zs p = append_assoc xs (ys ++ zs) (p ∷ []) ∙ ap (λ t. xs ++ t
 
 grouped : (qs rs in' : List Piece) → ((qs ++ (rs ++ Open ∷ [])) ++ in') ++ Close ∷ [] ≡ qs ++ (rs ++ (Open ∷ (in' ++ Close ∷ [])))
 grouped qs rs in' =
-    append_assoc (qs ++ (rs ++ Open ∷ [])) in' (Close ∷ []) ∙ append_assoc qs (rs ++ Open ∷ []) (in' ++ Close ∷ []) ∙ ap (λ t. qs ++ t) (append_assoc rs (Open ∷ []) (in' ++ Close ∷ []))
+    append_assoc (qs ++ (rs ++ Open ∷ [])) in' (Close ∷ []) ∙ append_assoc qs (rs ++ Open ∷ []) (in' ++ Close ∷ []) ∙ ap (λ t. qs ++ t)
+        (append_assoc rs (Open ∷ []) (in' ++ Close ∷ []))
 
 no_layer : HoldsLayer [] None None
 no_layer = ([], [], refl, refl, refl)
@@ -121,9 +129,11 @@ signed_holds sign p rule ps (levels o c b (Some e)) h = (h.0, h.1, h.2 ++ p ∷ 
 
 -- one more piece
 piece_holds : (ps : List Piece) (p : Piece) (s : Nest) → Holds ps s → IfPut (ps ++ p ∷ []) (put p s)
-piece_holds ps (OneOf set) (levels o c b f) h = (h.0, h.1 ++ h.2, OneOf set ∷ [], h.3, layer_settled h.1 h.2 c b f h.4 h.5, one_class, ap (λ t. t ++ OneOf set ∷ []) h.6 ∙ last_moved h.0 h.1 h.2 (OneOf set))
+piece_holds ps (OneOf set) (levels o c b f) h = (h.0, h.1 ++ h.2, OneOf set ∷ [], h.3, layer_settled h.1 h.2 c b f h.4 h.5, one_class,
+    ap (λ t. t ++ OneOf set ∷ []) h.6 ∙ last_moved h.0 h.1 h.2 (OneOf set))
 piece_holds ps Open (levels o c b f) h =
-    (ps ++ Open ∷ [], [], [], (h.0, h.1 ++ h.2, h.3, layer_settled h.1 h.2 c b f h.4 h.5, ap (λ t. t ++ Open ∷ []) h.6 ∙ last_moved h.0 h.1 h.2 Open), no_layer, refl, sym (append-nil (ps ++ Open ∷ [])))
+    (ps ++ Open ∷ [], [], [], (h.0, h.1 ++ h.2, h.3, layer_settled h.1 h.2 c b f h.4 h.5, ap (λ t. t ++ Open ∷ []) h.6 ∙ last_moved h.0 h.1 h.2 Open), no_layer,
+        refl, sym (append-nil (ps ++ Open ∷ [])))
 piece_holds ps Close (levels [] c b f) h = tt
 piece_holds ps Close (levels (l ∷ o) c b None) h = tt
 piece_holds ps Close (levels (l ∷ o) c b (Some e)) h = (
@@ -164,22 +174,25 @@ all_hold : (ps done : List Piece) (s t : Nest) → Holds done s → puts s ps �
 all_hold [] done s t h e = let k : s ≡ t = cc in subst (λ l. Holds l t) (sym (append-nil done)) (subst (λ u. Holds done u) k h)
 all_hold (p ∷ ps) done s t h e = hold_on ps done p t (λ u k e'. all_hold ps (done ++ p ∷ []) u t k e') (put p s) (piece_holds done p s h) e
 
--- what is finished is spelled
-pub finished_spelled : (ps : List Piece) (t : Nest) (e : Expression) → puts bottom ps ≡ Some t → finished t ≡ Some e → SpellsChoice ps e
+-- what is nest_end is spelled
+pub finished_spelled : (ps : List Piece) (t : Nest) (e : Expression) → puts bottom ps ≡ Some t → nest_end t ≡ Some e → SpellsChoice ps e
 finished_spelled ps t e h k = go t (all_hold ps [] bottom t ([], [], [], refl, no_layer, refl, refl) h) k where
-  go : (t : Nest) → Holds ps t → finished t ≡ Some e → SpellsChoice ps e
+  go : (t : Nest) → Holds ps t → nest_end t ≡ Some e → SpellsChoice ps e
   go (levels [] c b None) h k = absurd (nothing k)
   go (levels [] c b (Some f)) h k =
-      let same : whole c b f ≡ e = cc in
-      subst (λ x. SpellsChoice ps x) same (subst (λ l. SpellsChoice l (whole c b f)) (sym (h.6 ∙ ap (λ t. t ++ (h.1 ++ h.2)) h.3)) (layer_whole h.1 h.2 c b f h.4 h.5))
+      let same : level_whole c b f ≡ e = cc in
+      subst (λ x. SpellsChoice ps x) same (subst (λ l. SpellsChoice l (level_whole c b f)) (sym (h.6 ∙ ap (λ t. t ++ (h.1 ++ h.2)) h.3))
+          (layer_whole h.1 h.2 c b f h.4 h.5))
   go (levels (l ∷ o) c b f) h k = absurd (nothing k)
 
--- ---- each stack can be finished
-close_all : (o : List Layer) (c b : Option Expression) (f : Expression) → (cuts : List Cut) × (t : Nest) × (e : Expression) × AreCuts cuts × (puts (levels o c b (Some f)) (pieces_of cuts) ≡ Some t) × (finished t ≡ Some e)
-close_all [] c b f = ([], levels [] c b (Some f), whole c b f, tt, refl, refl)
+-- ---- each stack can be nest_end
+close_all : (o : List Layer) (c b : Option Expression) (f : Expression) → (cuts : List Cut) × (t : Nest) × (e : Expression) × AreCutTexts cuts ×
+    (puts (levels o c b (Some f)) (pieces_of cuts) ≡ Some t) × (nest_end t ≡ Some e)
+close_all [] c b f = ([], levels [] c b (Some f), level_whole c b f, tt, refl, refl)
 close_all (l ∷ o) c b f =
-    let r = close_all o l.0 l.1 (whole c b f) in
+    let r = close_all o l.0 l.1 (level_whole c b f) in
     ((41 ∷ [], Close) ∷ r.0, r.1, r.2, (closing, r.3), r.4, r.5)
 
-pub can_finish : (s : Nest) (set : List ℕ) → (cuts : List Cut) × (t : Nest) × (e : Expression) × AreCuts cuts × (puts s (OneOf set ∷ pieces_of cuts) ≡ Some t) × (finished t ≡ Some e)
+pub can_finish : (s : Nest) (set : List ℕ) → (cuts : List Cut) × (t : Nest) × (e : Expression) × AreCutTexts cuts × (puts s (OneOf set ∷ pieces_of cuts)
+    ≡ Some t) × (nest_end t ≡ Some e)
 can_finish (levels o c b f) set = close_all o c (settled b f) (class set)

@@ -1,5 +1,6 @@
 -- What is in a set of bytes.
-use Rattle.std.proofs.Common.{◌≡◌, ℕ, suc, zero, ◌+◌, ◌-◌, ◌*◌, ◌^◌, ◌<◌, ◌≤◌, ◌/◌, ◌%◌, max, Bool, true, false, ◌||◌, ◌&&◌, ◌==◌, not, nat_le, nat_lt, List, [], ◌∷◌, filter, length, get_or, slice_index, refl, sym, ap, ◌∙◌, arith, bit_or, w64, inl, inr, subst, slice_set as set}
+use Rattle.std.proofs.Common.{◌≡◌, ℕ, suc, zero, ◌+◌, ◌-◌, ◌*◌, ◌^◌, ◌<◌, ◌≤◌, ◌/◌, ◌%◌, max, Bool, true, false, ◌||◌, ◌&&◌, ◌==◌, not, nat_le, nat_lt, List}
+use Rattle.std.proofs.Common.{[], ◌∷◌, filter, length, get_or, slice_index, refl, sym, ap, ◌∙◌, arith, bit_or, w64, inl, inr, subst, slice_set as set}
 use Rattle.std.specs.Int.{bit_at}
 use Rattle.std.proofs.lemmas.Bool.Decides.{nat_tests}
 use Rattle.std.proofs.lemmas.Bool.{cases_lt, cases_eq, eq-eqb, ne_eqb, le-ltb, eqb-false, eqb-true, and_parts}
@@ -64,7 +65,8 @@ by_word P a b c d (suc (suc (suc zero))) h = d
 by_word P a b c d (suc (suc (suc (suc i)))) h = absurd (omega arith)
 
 -- what holds of each bit of each word holds of each byte
-by_bit : (P : ℕ → ℕ → Type 0) → ((r : ℕ) → r < 64 → P 0 r) → ((r : ℕ) → r < 64 → P 1 r) → ((r : ℕ) → r < 64 → P 2 r) → ((r : ℕ) → r < 64 → P 3 r) → (b : ℕ) → b < 256 → P (b / 64) (b % 64)
+by_bit : (P : ℕ → ℕ → Type 0) → ((r : ℕ) → r < 64 → P 0 r) → ((r : ℕ) → r < 64 → P 1 r) → ((r : ℕ) → r < 64 → P 2 r) → ((r : ℕ) → r < 64 → P 3 r) → (b : ℕ)
+    → b < 256 → P (b / 64) (b % 64)
 by_bit P x y z w b h = by_word (λ i. (r : ℕ) → r < 64 → P i r) x y z w (b / 64) (omega arith) (b % 64) (omega arith)
 
 no_bit : (r : ℕ) → (bit_at 0 r == 1) ≡ false
@@ -82,12 +84,14 @@ or_bit v w r =
     grind (arith, nat_tests)
 
 pub bits-or : (v w : List ℕ) (b : ℕ) → b < 256
-    → bit_of (bit_or (slice_index v 0) (slice_index w 0) ∷ bit_or (slice_index v 1) (slice_index w 1) ∷ bit_or (slice_index v 2) (slice_index w 2) ∷ bit_or (slice_index v 3) (slice_index w 3) ∷ []) b
+    → bit_of (bit_or (slice_index v 0) (slice_index w 0) ∷ bit_or (slice_index v 1) (slice_index w 1) ∷ bit_or (slice_index v 2) (slice_index w 2) ∷ bit_or
+        (slice_index v 3) (slice_index w 3) ∷ []) b
     ≡ (bit_of v b || bit_of w b)
 unfolding bit_of
 bits-or v w b h =
     by_bit
-    (λ i r. (bit_at (slice_index (bit_or (slice_index v 0) (slice_index w 0) ∷ bit_or (slice_index v 1) (slice_index w 1) ∷ bit_or (slice_index v 2) (slice_index w 2) ∷ bit_or (slice_index v 3) (slice_index w 3) ∷ []) i) r == 1)
+    (λ i r. (bit_at (slice_index (bit_or (slice_index v 0) (slice_index w 0) ∷ bit_or (slice_index v 1) (slice_index w 1) ∷ bit_or (slice_index v 2)
+        (slice_index w 2) ∷ bit_or (slice_index v 3) (slice_index w 3) ∷ []) i) r == 1)
     ≡ ((bit_at (slice_index v i) r == 1) || (bit_at (slice_index w i) r == 1)))
     (λ r h. or_bit (slice_index v 0) (slice_index w 0) r) (λ r h. or_bit (slice_index v 1) (slice_index w 1) r)
     (λ r h. or_bit (slice_index v 2) (slice_index w 2) r) (λ r h. or_bit (slice_index v 3) (slice_index w 3) r) b h
@@ -99,12 +103,14 @@ not_bit v r small h =
     grind (arith, nat_tests)
 
 pub bits-not : (v : List ℕ) → ((i : ℕ) → i < 4 → slice_index v i < 2 ^ 64) → (b : ℕ) → b < 256
-    → bit_of ((18446744073709551615 - slice_index v 0) ∷ (18446744073709551615 - slice_index v 1) ∷ (18446744073709551615 - slice_index v 2) ∷ (18446744073709551615 - slice_index v 3) ∷ []) b
+    → bit_of ((18446744073709551615 - slice_index v 0) ∷ (18446744073709551615 - slice_index v 1) ∷ (18446744073709551615 - slice_index v 2) ∷
+        (18446744073709551615 - slice_index v 3) ∷ []) b
     ≡ not (bit_of v b)
 unfolding bit_of
 bits-not v small b h =
     by_bit
-    (λ i r. (bit_at (slice_index ((18446744073709551615 - slice_index v 0) ∷ (18446744073709551615 - slice_index v 1) ∷ (18446744073709551615 - slice_index v 2) ∷ (18446744073709551615 - slice_index v 3) ∷ []) i) r == 1)
+    (λ i r. (bit_at (slice_index ((18446744073709551615 - slice_index v 0) ∷ (18446744073709551615 - slice_index v 1) ∷
+        (18446744073709551615 - slice_index v 2) ∷ (18446744073709551615 - slice_index v 3) ∷ []) i) r == 1)
     ≡ not (bit_at (slice_index v i) r == 1))
     (λ r h. not_bit (slice_index v 0) r (small 0 (omega arith)) h) (λ r h. not_bit (slice_index v 1) r (small 1 (omega arith)) h)
     (λ r h. not_bit (slice_index v 2) r (small 2 (omega arith)) h) (λ r h. not_bit (slice_index v 3) r (small 3 (omega arith)) h) b h
@@ -163,8 +169,10 @@ bits-insert v b c long small =
     let within : b / 64 < length v = omega arith in
     elim (cases_eq (c / 64) (b / 64)) [
       | inl e ↦
-          subst (λ i. (bit_at (get_or (set v (b / 64) (bit_or (get_or v (b / 64) 0) (1 * 2 ^ (b % 64) % 2 ^ 64))) i 0) (c % 64) == 1) ≡ ((bit_at (get_or v i 0) (c % 64) == 1) || (nat_le b c && nat_le c b))) (sym e)
-          (set_here v (b / 64) (b % 64) within (omega arith) (c % 64) ∙ ap (λ k. (bit_at (get_or v (b / 64) 0) (c % 64) == 1) || k) (same_place b c (sym e) ∙ sym (one_byte b c)))
+          subst (λ i. (bit_at (get_or (set v (b / 64) (bit_or (get_or v (b / 64) 0) (1 * 2 ^ (b % 64) % 2 ^ 64))) i 0) (c % 64) == 1)
+              ≡ ((bit_at (get_or v i 0) (c % 64) == 1) || (nat_le b c && nat_le c b))) (sym e)
+          (set_here v (b / 64) (b % 64) within (omega arith) (c % 64) ∙ ap (λ k. (bit_at (get_or v (b / 64) 0) (c % 64) == 1) || k) (same_place b c (sym e)
+              ∙ sym (one_byte b c)))
       | inr n ↦
           ap (λ w. bit_at w (c % 64) == 1) (get_or-set_other v (b / 64) (c / 64) _ 0 n)
           ∙ sym (or_false _ _ (one_byte b c ∙ ne_eqb c b (λ e. n (ap (λ k. k / 64) e))))
@@ -181,12 +189,14 @@ bit_in v i r h =
     let q : (i * 64 + r) / 64 ≡ i = omega arith in let m : (i * 64 + r) % 64 ≡ r = omega arith in
     rw (q, m) refl
 
-pub words-zero : (v : List ℕ) → length v ≡ 4 → ((i : ℕ) → i < 4 → slice_index v i < 2 ^ 64) → bytes_where (bit_of v) ≡ [] → (i : ℕ) → i < 4 → slice_index v i ≡ 0
+pub words-zero : (v : List ℕ) → length v ≡ 4 → ((i : ℕ) → i < 4 → slice_index v i < 2 ^ 64) → bytes_where (bit_of v) ≡ [] → (i : ℕ) → i < 4
+    → slice_index v i ≡ 0
 words-zero v long small empty k h =
     no_bits (slice_index v k) (small k h) (λ r l.
     sym (bit_in v k r l) ∙ sym (has_byte (bit_of v) (k * 64 + r) (omega arith)) ∙ ap (λ s. has s (k * 64 + r)) empty)
 
-pub small_words : (v : List ℕ) → slice_index v 0 < 2 ^ 64 → slice_index v 1 < 2 ^ 64 → slice_index v 2 < 2 ^ 64 → slice_index v 3 < 2 ^ 64 → (i : ℕ) → i < 4 → slice_index v i < 2 ^ 64
+pub small_words : (v : List ℕ) → slice_index v 0 < 2 ^ 64 → slice_index v 1 < 2 ^ 64 → slice_index v 2 < 2 ^ 64 → slice_index v 3 < 2 ^ 64 → (i : ℕ) → i < 4
+    → slice_index v i < 2 ^ 64
 small_words v a b c d = by_word (λ i. slice_index v i < 2 ^ 64) a b c d
 
 -- the bits of words that are 0
@@ -207,7 +217,8 @@ all_zero a b c d h =
 pub zero_all : (a b c d : ℕ) → a ≡ 0 → b ≡ 0 → c ≡ 0 → d ≡ 0 → ((a == 0) && ((b == 0) && ((c == 0) && ((d == 0) && true)))) ≡ true
 zero_all a b c d p q r s = rw (p, q, r, s) refl
 
-below_next : (s : Bool) (low b n : ℕ) → low ≤ n → (s || (nat_le low b && nat_lt b (n + 1))) ≡ ((s || (nat_le low b && nat_lt b n)) || (nat_le n b && nat_le b n))
+below_next : (s : Bool) (low b n : ℕ) → low ≤ n → (s || (nat_le low b && nat_lt b (n + 1))) ≡
+    ((s || (nat_le low b && nat_lt b n)) || (nat_le n b && nat_le b n))
 below_next s low b n h = grind (arith, nat_tests)
 
 none_yet : (s : Bool) (low b : ℕ) → s ≡ (s || (nat_le low b && nat_lt b low))

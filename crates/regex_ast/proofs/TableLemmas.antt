@@ -1,5 +1,7 @@
 -- Lists of positions, and the rows of a table of them.
-use Rattle.std.proofs.Common.{◌≡◌, ℕ, suc, zero, ◌+◌, ◌<◌, ◌≤◌, Bool, true, false, ◌||◌, ◌&&◌, ◌==◌, nat_lt, nat_le, cond, List, [], ◌∷◌, ◌++◌, length, slice_index, filter, refl, sym, ap, ◌∙◌, subst, ◌⊎◌, inl, inr, arith, add-one, append-nil, map, slice_index_or, replicate, ◌-◌, if◌then◌else◌}
+use Rattle.std.proofs.Common.{◌≡◌, ℕ, suc, zero, ◌+◌, ◌<◌, ◌≤◌, Bool, true, false, ◌||◌, ◌&&◌, ◌==◌, nat_lt, nat_le, cond, List, [], ◌∷◌, ◌++◌, length}
+use Rattle.std.proofs.Common.{slice_index, filter, refl, sym, ap, ◌∙◌, subst, ◌⊎◌, inl, inr, arith, add-one, append-nil, map, slice_index_or, replicate, ◌-◌}
+use Rattle.std.proofs.Common.{if◌then◌else◌}
 use Rattle.std.proofs.lemmas.List.{map-append, length-replicate}
 use Rattle.std.specs.List.Sorted.{IsStrictlyIncreasing}
 use Rattle.std.proofs.lemmas.Bool.{eqb-true, eq-eqb, and_parts, and_from, or_cases, false≢true, lt-ltb, ltb-true, le-leb, cases_Bool}
@@ -8,18 +10,21 @@ use Rattle.regex_ast.specs.Expressions.{Expression, sequence, star, class_count,
 use Rattle.regex_ast.specs.Matching.{IsMarkedWord}
 use Rattle.regex_ast.specs.Positions.{Begins, Ends, Succeeds, ListsExactly, IsTableOf, ArePositionsOf, ArePositionsOfLiteral}
 use Rattle.regex_ast.proofs.MarkLemmas.{length-classes_of}
-use Rattle.regex_ast.proofs.LinkLemmas.{nullable-true, from-nullable, firsts-true, from-firsts, firsts-lt, lasts-true, from-lasts, lasts-lt, follows-true, from-follows, follows-lt}
+use Rattle.regex_ast.proofs.LinkLemmas.{nullable-true, from-nullable, firsts-true, from-firsts, firsts-lt, lasts-true, from-lasts, lasts-lt, follows-true}
+use Rattle.regex_ast.proofs.LinkLemmas.{from-follows, follows-lt}
 use Rattle.regex_ast.specs.Links.{nullable, firsts, lasts, follows, next_below}
 use Rattle.regex_ast.proofs.SetLemmas.{has-filter, has-numbers_from, has-bytes_where}
 
 numbers_from-more : (n k : ℕ) → numbers_from n (suc k) ≡ numbers_from n k ++ (n + k) ∷ []
 numbers_from-more n zero = let e : n ≡ n + 0 = omega arith in ap (λ m. m ∷ []) e
-numbers_from-more n (suc k) = let e : suc n + k ≡ n + suc k = omega arith in ap (λ t. n ∷ t) (numbers_from-more (suc n) k ∙ ap (λ m. numbers_from (suc n) k ++ m ∷ []) e)
+numbers_from-more n (suc k) = let e : suc n + k ≡ n + suc k = omega arith in
+    ap (λ t. n ∷ t) (numbers_from-more (suc n) k ∙ ap (λ m. numbers_from (suc n) k ++ m ∷ []) e)
 
 filter-append : (t : ℕ → Bool) (xs ys : List ℕ) → filter t (xs ++ ys) ≡ filter t xs ++ filter t ys
 filter-append t [] ys = refl
 filter-append t (x ∷ xs) ys = go (t x) (filter-append t xs ys) where
-  go : (b : Bool) → filter t (xs ++ ys) ≡ filter t xs ++ filter t ys → cond b (x ∷ filter t (xs ++ ys)) (filter t (xs ++ ys)) ≡ cond b (x ∷ filter t xs) (filter t xs) ++ filter t ys
+  go : (b : Bool) → filter t (xs ++ ys) ≡ filter t xs ++ filter t ys → cond b (x ∷ filter t (xs ++ ys)) (filter t (xs ++ ys)) ≡ cond b (x ∷ filter t xs)
+      (filter t xs) ++ filter t ys
   go true e = ap (λ r. x ∷ r) e
   go false e = e
 
@@ -36,7 +41,8 @@ one_out t k e = ap (λ b. cond b (k ∷ []) []) e
 
 -- the next number passes the test
 pub below_in : (t : ℕ → Bool) (k : ℕ) → t k ≡ true → filter t (numbers_from 0 (k + 1)) ≡ filter t (numbers_from 0 k) ++ k ∷ []
-below_in t k e = ap (λ xs. filter t xs) (numbers_upto k) ∙ filter-append t (numbers_from 0 k) (k ∷ []) ∙ ap (λ r. filter t (numbers_from 0 k) ++ r) (one_in t k e)
+below_in t k e = ap (λ xs. filter t xs) (numbers_upto k) ∙ filter-append t (numbers_from 0 k) (k ∷ []) ∙ ap (λ r. filter t (numbers_from 0 k) ++ r)
+    (one_in t k e)
 
 pub below_out : (t : ℕ → Bool) (k : ℕ) → t k ≡ false → filter t (numbers_from 0 (k + 1)) ≡ filter t (numbers_from 0 k)
 below_out t k e =
@@ -54,7 +60,8 @@ turn : (x y z k : Bool) → (((x || y) || z) || k) ≡ (x || ((y || z) || k))
 turn true y z k = refl
 turn false y z k = refl
 
-pub rows_in_turn : (a b : Expression) (n m q p : ℕ) (x0 x1 x2 x3 la fb : Bool) → x3 ≡ (x2 || (la && fb)) → x2 ≡ (x1 || follows m b q p) → x1 ≡ (x0 || follows n a q p)
+pub rows_in_turn : (a b : Expression) (n m q p : ℕ) (x0 x1 x2 x3 la fb : Bool) → x3 ≡ (x2 || (la && fb)) → x2 ≡ (x1 || follows m b q p)
+    → x1 ≡ (x0 || follows n a q p)
     → la ≡ lasts n a q → fb ≡ firsts m b p → m ≡ n + class_count a → x3 ≡ (x0 || follows n (sequence a b) q p)
 rows_in_turn a b n m q p x0 x1 x2 x3 la fb e2 e1 e0 l f next =
     rw (e2, e1, e0, l, f, next) (turn x0 (follows n a q p) (follows (n + class_count a) b q p) (lasts n a q && firsts (n + class_count a) b p))
@@ -63,7 +70,8 @@ assoc : (x y k : Bool) → ((x || y) || k) ≡ (x || (y || k))
 assoc true y k = refl
 assoc false y k = refl
 
-pub rows_looped : (a : Expression) (n q p : ℕ) (x0 x1 x2 la fa : Bool) → x2 ≡ (x1 || (la && fa)) → x1 ≡ (x0 || follows n a q p) → la ≡ lasts n a q → fa ≡ firsts n a p → x2 ≡ (x0 || follows n (star a) q p)
+pub rows_looped : (a : Expression) (n q p : ℕ) (x0 x1 x2 la fa : Bool) → x2 ≡ (x1 || (la && fa)) → x1 ≡ (x0 || follows n a q p) → la ≡ lasts n a q
+    → fa ≡ firsts n a p → x2 ≡ (x0 || follows n (star a) q p)
 rows_looped a n q p x0 x1 x2 la fa e1 e0 l f = rw (e1, e0, l, f) (assoc x0 (follows n a q p) (lasts n a q && firsts n a p))
 
 -- ---- a list of the numbers below a bound that pass a test
@@ -78,7 +86,8 @@ Rising-less m n (x ∷ xs) h r = (omega (arith, r.0), r.1)
 Rising-filter : (t : ℕ → Bool) (n k : ℕ) → Rising n (filter t (numbers_from n k))
 Rising-filter t n zero = tt
 Rising-filter t n (suc k) = go (t n) (Rising-filter t (suc n) k) where
-  go : (b : Bool) → Rising (suc n) (filter t (numbers_from (suc n) k)) → Rising n (cond b (n ∷ filter t (numbers_from (suc n) k)) (filter t (numbers_from (suc n) k)))
+  go : (b : Bool) → Rising (suc n) (filter t (numbers_from (suc n) k))
+      → Rising n (cond b (n ∷ filter t (numbers_from (suc n) k)) (filter t (numbers_from (suc n) k)))
   go true r = (omega arith, r)
   go false r = Rising-less n (suc n) (filter t (numbers_from (suc n) k)) (omega arith) r
 
@@ -102,7 +111,8 @@ get_or-map f (r ∷ rows) zero h = refl
 get_or-map f (r ∷ rows) (suc q) h = get_or-map f rows q (omega arith)
 
 -- the numbers below k that pass t are those with P
-pub lists_exactly : (t : ℕ → Bool) (P : ℕ → Type 0) (k : ℕ) → ((p : ℕ) → t p ≡ true → P p) → ((p : ℕ) → P p → (t p ≡ true) × (p < k)) → ListsExactly P (filter t (numbers_from 0 k))
+pub lists_exactly : (t : ℕ → Bool) (P : ℕ → Type 0) (k : ℕ) → ((p : ℕ) → t p ≡ true → P p) → ((p : ℕ) → P p → (t p ≡ true) × (p < k))
+    → ListsExactly P (filter t (numbers_from 0 k))
 lists_exactly t P k gives needs = record {
   ascending = ascends t k;
   members = λ p. (
@@ -113,9 +123,12 @@ lists_exactly t P k gives needs = record {
 }
 
 -- what is computed part by part is the table of the expression
-pub table_of_links : (e : Expression) (count : ℕ) → class_count e ≡ count → (nil : Bool) → nil ≡ nullable e → (first last : List ℕ) (rows : List (List ℕ)) → length rows ≡ count
-    → ((p : ℕ) → has first p ≡ firsts 0 e p) → ((p : ℕ) → has last p ≡ lasts 0 e p) → ((q p : ℕ) → q < count → has (slice_index_or rows q []) p ≡ follows 0 e q p)
-    → ArePositionsOf e (record { nullable = nil; first = filter (has first) (numbers_from 0 count); last = filter (has last) (numbers_from 0 count); follow = map (λ r. filter (has r) (numbers_from 0 count)) rows; classes = classes_of e })
+pub table_of_links : (e : Expression) (count : ℕ) → class_count e ≡ count → (nil : Bool) → nil ≡ nullable e → (first last : List ℕ) (rows : List (List ℕ))
+    → length rows ≡ count
+    → ((p : ℕ) → has first p ≡ firsts 0 e p) → ((p : ℕ) → has last p ≡ lasts 0 e p)
+        → ((q p : ℕ) → q < count → has (slice_index_or rows q []) p ≡ follows 0 e q p)
+    → ArePositionsOf e (record { nullable = nil; first = filter (has first) (numbers_from 0 count); last = filter (has last) (numbers_from 0 count); follow =
+        map (λ r. filter (has r) (numbers_from 0 count)) rows; classes = classes_of e })
 table_of_links e count fits nil is first last rows long f l r = record {
   classes = refl;
   nullable = ((λ h. from-nullable 0 e (sym is ∙ h)), (λ h. is ∙ nullable-true 0 e h));
@@ -192,7 +205,8 @@ last-numbers (x ∷ f) p n (suc k) e = let a : f ++ p ∷ [] ≡ numbers_from (s
 split-numbers : (n q k : ℕ) → suc q < k → (f : List ℕ) × (r : List ℕ) × (f ++ (n + q) ∷ (n + suc q) ∷ r ≡ numbers_from n k)
 split-numbers n q zero h = absurd (omega arith)
 split-numbers n q (suc zero) h = absurd (omega arith)
-split-numbers n zero (suc (suc k)) h = ([], numbers_from (suc (suc n)) k, let a : n + 0 ≡ n = omega arith in let b : n + suc 0 ≡ suc n = omega arith in rw (a, b) refl)
+split-numbers n zero (suc (suc k)) h = ([], numbers_from (suc (suc n)) k, let a : n + 0 ≡ n = omega arith in let b : n + suc 0 ≡ suc n =
+    omega arith in rw (a, b) refl)
 split-numbers n (suc q) (suc (suc k)) h =
     let m = split-numbers (suc n) q (suc k) (omega arith) in
     let a : n + suc q ≡ suc n + q = omega arith in let b : n + suc (suc q) ≡ suc n + suc q = omega arith in
@@ -230,18 +244,23 @@ next_row m q true e =
     let within : suc q < suc m = omega (arith, ltb-true (q + 1) (suc m) (sym e)) in
     let s = split-numbers 0 q (suc m) within in
     let a : 0 + q ≡ q = omega arith in let b : 0 + suc q ≡ q + 1 = omega arith in
-    lists_one (q + 1) (Succeeds (InTurn m) q) (s.0, s.1, sym (ap2 (λ x y. s.0 ++ x ∷ y ∷ s.1) a b) ∙ s.2) (λ p h. sym (pair-numbers h.0 q p h.1 0 (suc m) h.2).0)
+    lists_one (q + 1) (Succeeds (InTurn m) q) (s.0, s.1, sym (ap2 (λ x y. s.0 ++ x ∷ y ∷ s.1) a b) ∙ s.2)
+        (λ p h. sym (pair-numbers h.0 q p h.1 0 (suc m) h.2).0)
 next_row m q false e =
-    lists_none (Succeeds (InTurn m) q) (λ p h. let k = pair-numbers h.0 q p h.1 0 (suc m) h.2 in false≢true (e ∙ lt-ltb (q + 1) (suc m) (omega (arith, k.0, k.1))))
+    lists_none (Succeeds (InTurn m) q) (λ p h. let k = pair-numbers h.0 q p h.1 0 (suc m) h.2 in false≢true (e ∙ lt-ltb (q + 1) (suc m) (omega (arith, k.0,
+        k.1))))
 
 literal_table : (m : ℕ) (sets : List (List ℕ)) → length sets ≡ suc m
-    → IsTableOf (InTurn m) sets (record { nullable = false; first = 0 ∷ []; last = m ∷ []; follow = map (next_below (suc m)) (numbers_from 0 (suc m)); classes = sets })
+    → IsTableOf (InTurn m) sets (record { nullable = false; first = 0 ∷ []; last = m ∷ []; follow = map (next_below (suc m)) (numbers_from 0 (suc m)); classes =
+        sets })
 literal_table m sets long = record {
   classes = refl;
   nullable = ((λ h. absurd (false≢true h)), (λ h. absurd (no_cons (sym h))));
   first = lists_one 0 (Begins (InTurn m)) (numbers_from 1 m, refl) (λ p h. first_number h.1);
-  last = lists_one m (Ends (InTurn m)) (numbers_from 0 m, sym (numbers_from-more 0 m ∙ ap (λ k. numbers_from 0 m ++ k ∷ []) (none_more m))) (λ p h. sym (last-numbers h.0 p 0 m h.1 ∙ none_more m));
-  follow = λ q h. subst (λ xs. ListsExactly (Succeeds (InTurn m) q) xs) (sym (row_of_numbers (next_below (suc m)) 0 (suc m) q (omega arith) ∙ ap (next_below (suc m)) (none_more q))) (next_row m q (nat_lt (q + 1) (suc m)) refl);
+  last = lists_one m (Ends (InTurn m)) (numbers_from 0 m, sym (numbers_from-more 0 m ∙ ap (λ k. numbers_from 0 m ++ k ∷ []) (none_more m)))
+      (λ p h. sym (last-numbers h.0 p 0 m h.1 ∙ none_more m));
+  follow = λ q h. subst (λ xs. ListsExactly (Succeeds (InTurn m) q) xs) (sym (row_of_numbers (next_below (suc m)) 0 (suc m) q (omega arith)
+      ∙ ap (next_below (suc m)) (none_more q))) (next_row m q (nat_lt (q + 1) (suc m)) refl);
 }
 
 -- what is made of a literal is its table
@@ -259,18 +278,24 @@ row_of_none (suc n) zero p = refl
 row_of_none (suc n) (suc q) p = row_of_none n q p
 
 -- the rows that were empty before
-pub rows_from_none : (before rows : List (List ℕ)) (count : ℕ) (e : Expression) → before ≡ replicate count [] → ((q p : ℕ) → q < length before → has (slice_index_or rows q []) p ≡ (has (slice_index_or before q []) p || follows 0 e q p))
+pub rows_from_none : (before rows : List (List ℕ)) (count : ℕ) (e : Expression) → before ≡ replicate count []
+    → ((q p : ℕ) → q < length before → has (slice_index_or rows q []) p ≡ (has (slice_index_or before q []) p || follows 0 e q p))
     → (q p : ℕ) → q < count → has (slice_index_or rows q []) p ≡ follows 0 e q p
 rows_from_none before rows count e is step q p h =
-    step q p (omega (arith, ap length is ∙ length-replicate count [])) ∙ ap (λ b. b || follows 0 e q p) (ap (λ r. has (slice_index_or r q []) p) is ∙ row_of_none count q p)
+    step q p (omega (arith, ap length is ∙ length-replicate count [])) ∙ ap (λ b. b || follows 0 e q p) (ap (λ r. has (slice_index_or r q []) p) is
+        ∙ row_of_none count q p)
 
 -- what is computed, list by list, is the table of the expression
-pub table_is : (e : Expression) (count : ℕ) → class_count e ≡ count → (nil : Bool) → nil ≡ nullable e → (fs ls : List ℕ) (rows : List (List ℕ)) → length rows ≡ count
+pub table_is : (e : Expression) (count : ℕ) → class_count e ≡ count → (nil : Bool) → nil ≡ nullable e → (fs ls : List ℕ) (rows : List (List ℕ))
+    → length rows ≡ count
     → ((p : ℕ) → has fs p ≡ firsts 0 e p) → ((p : ℕ) → has ls p ≡ lasts 0 e p) → ((q p : ℕ) → q < count → has (slice_index_or rows q []) p ≡ follows 0 e q p)
     → (first last : List ℕ) (follow sets : List (List ℕ))
-    → first ≡ filter (has fs) (numbers_from 0 count) → last ≡ filter (has ls) (numbers_from 0 count) → follow ≡ map (λ r. filter (has r) (numbers_from 0 count)) rows → sets ≡ classes_of e
+    → first ≡ filter (has fs) (numbers_from 0 count) → last ≡ filter (has ls) (numbers_from 0 count)
+        → follow ≡ map (λ r. filter (has r) (numbers_from 0 count)) rows → sets ≡ classes_of e
     → ArePositionsOf e (record { nullable = nil; first = first; last = last; follow = follow; classes = sets })
-table_is e count fits nil is fs ls rows long f l r first last follow sets e1 e2 e3 e4 = rw (e1, e2, e3, e4) (table_of_links e count fits nil is fs ls rows long f l r)
+table_is e count fits nil is fs ls rows long f l r first last follow sets e1 e2 e3 e4 =
+    rw (e1, e2, e3, e4) (table_of_links e count fits nil is fs ls rows long f l r)
 
-pub rows_are : (rows now : List (List ℕ)) (count : ℕ) → now ≡ rows → length rows ≡ count → (lists : List (List ℕ)) → lists ≡ map (λ r. filter (has r) (numbers_from 0 (length now))) now → lists ≡ map (λ r. filter (has r) (numbers_from 0 count)) rows
+pub rows_are : (rows now : List (List ℕ)) (count : ℕ) → now ≡ rows → length rows ≡ count → (lists : List (List ℕ))
+    → lists ≡ map (λ r. filter (has r) (numbers_from 0 (length now))) now → lists ≡ map (λ r. filter (has r) (numbers_from 0 count)) rows
 rows_are rows now count e long lists h = h ∙ ap2 (λ xs n. map (λ r. filter (has r) (numbers_from 0 n)) xs) e (ap length e ∙ long)

@@ -1,5 +1,6 @@
 -- The reader's state, and how one byte changes it.
-use Rattle.std.specs.Prelude.{ℕ, suc, ◌+◌, Bool, true, false, nat_le, Option, Some, None, option_and_then, List, [], ◌∷◌, length, take, ◌≡◌, ◌<◌, Result, Ok, Err}
+use Rattle.std.specs.Prelude.{ℕ, suc, ◌+◌, Bool, true, false, nat_le, Option, Some, None, option_and_then, List, [], ◌∷◌, length, take, ◌≡◌, ◌<◌, Result, Ok}
+use Rattle.std.specs.Prelude.{Err}
 use Rattle.std.specs.Option.{option_map}
 use Rattle.regex_ast.specs.Expressions.{Expression, class, sequence, choice, star, plus, maybe}
 use Rattle.regex_ast.specs.Lexing.{lexed}
@@ -37,8 +38,8 @@ chosen None b = b
 chosen (Some c) b = choice c b
 
 -- the expression of a level
-abbrev pub whole : Option Expression → Option Expression → Expression → Expression
-whole c b f = chosen c (joined b f)
+abbrev pub level_whole : Option Expression → Option Expression → Expression → Expression
+level_whole c b f = chosen c (joined b f)
 
 -- one more factor
 abbrev pub pushed : Expression → Nest → Option Nest
@@ -55,41 +56,42 @@ put (OneOf set) s = pushed (class set) s
 put Open (levels outer c b f) = Some (levels ((c, settled b f) ∷ outer) None None None)
 put Close (levels [] c b f) = None
 put Close (levels (l ∷ outer) c b None) = None
-put Close (levels (l ∷ outer) c b (Some f)) = Some (levels outer l.0 l.1 (Some (whole c b f)))
+put Close (levels (l ∷ outer) c b (Some f)) = Some (levels outer l.0 l.1 (Some (level_whole c b f)))
 put Bar (levels outer c b None) = None
-put Bar (levels outer c b (Some f)) = Some (levels outer (Some (whole c b f)) None None)
+put Bar (levels outer c b (Some f)) = Some (levels outer (Some (level_whole c b f)) None None)
 put StarSign s = signed star s
 put PlusSign s = signed plus s
 put MaybeSign s = signed maybe s
 
 -- the expression that is read, if it may end here
-abbrev pub finished : Nest → Option Expression
-finished (levels [] c b None) = None
-finished (levels [] c b (Some f)) = Some (whole c b f)
-finished (levels (l ∷ outer) c b f) = None
+abbrev pub nest_end : Nest → Option Expression
+nest_end (levels [] c b None) = None
+nest_end (levels [] c b (Some f)) = Some (level_whole c b f)
+nest_end (levels (l ∷ outer) c b f) = None
 
 abbrev pub depth_of : Nest → ℕ
 depth_of (levels outer c b f) = length outer
 
 -- the first offset at which the test held
-abbrev pub first_of : Option ℕ → Bool → ℕ → Option ℕ
-first_of (Some before) test at = Some before
-first_of None true at = Some at
-first_of None false at = None
+abbrev pub first_offset : Option ℕ → Bool → ℕ → Option ℕ
+first_offset (Some before) test at = Some before
+first_offset None true at = Some at
+first_offset None false at = None
 
 abbrev pub is_nil : List ℕ → Bool
 is_nil [] = true
 is_nil (x ∷ xs) = false
 
 -- the findings after a piece that begins at this offset, inside so many parentheses
-abbrev pub noted : Piece → (depth at : ℕ) → Findings → Findings
-noted (OneOf set) depth at f = record { classes = f.classes + 1; empty = first_of f.empty (is_nil set) at; deep = f.deep; many = first_of f.many (nat_le POSITION_LIMIT f.classes) at }
-noted Open depth at f = record { classes = f.classes; empty = f.empty; deep = first_of f.deep (nat_le DEPTH_LIMIT depth) at; many = f.many }
-noted Close depth at f = f
-noted Bar depth at f = f
-noted StarSign depth at f = f
-noted PlusSign depth at f = f
-noted MaybeSign depth at f = f
+abbrev pub noted_piece : Piece → (depth at : ℕ) → Findings → Findings
+noted_piece (OneOf set) depth at f = record { classes = f.classes + 1; empty = first_offset f.empty (is_nil set) at; deep = f.deep; many =
+    first_offset f.many (nat_le POSITION_LIMIT f.classes) at }
+noted_piece Open depth at f = record { classes = f.classes; empty = f.empty; deep = first_offset f.deep (nat_le DEPTH_LIMIT depth) at; many = f.many }
+noted_piece Close depth at f = f
+noted_piece Bar depth at f = f
+noted_piece StarSign depth at f = f
+noted_piece PlusSign depth at f = f
+noted_piece MaybeSign depth at f = f
 
 -- the mode, the stack, the findings, and where the piece that is read begins
 pub data State : Type 0 where
@@ -97,7 +99,7 @@ pub data State : Type 0 where
 
 -- the state after a piece, which ends before the offset next
 abbrev pub accepted : Piece → Nest → Findings → (start next : ℕ) → Option State
-accepted p s f start next = option_map (λ t. reading Between t (noted p (depth_of s) start f) next) (put p s)
+accepted p s f start next = option_map (λ t. reading Between t (noted_piece p (depth_of s) start f) next) (put p s)
 
 abbrev pub stepped : Step → Nest → Findings → (start next : ℕ) → Option State
 stepped Refuse s f start next = None
@@ -133,7 +135,7 @@ judged_if_whole (Some e) f end = judged f.empty f.deep f.many e
 
 -- the answer where the text ends in this state
 abbrev pub answer_of : State → (end : ℕ) → Result Expression BadRegex
-answer_of (reading Between s f start) end = judged_if_whole (finished s) f end
+answer_of (reading Between s f start) end = judged_if_whole (nest_end s) f end
 answer_of (reading Escaped s f start) end = Err (Shape end)
 answer_of (reading Opened s f start) end = Err (Shape end)
 answer_of (reading (Inside negated set place) s f start) end = Err (Shape end)

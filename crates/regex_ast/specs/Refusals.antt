@@ -1,7 +1,7 @@
 -- The limits of an expression, and where a text is refused.
 use Rattle.std.specs.Prelude.{ℕ, ◌≡◌, ◌<◌, ◌≤◌, ◌+◌, ◌-◌, Bool, true, false, List, [], ◌∷◌, ◌++◌, length, take, count_by}
 use Rattle.regex_ast.specs.Expressions.{Expression}
-use Rattle.regex_ast.specs.Spelling.{Cut, text_of, SpellsInCuts, SpellsExpression}
+use Rattle.regex_ast.specs.Spelling.{Cut, cuts_text, SpellsInCuts, SpellsExpression}
 use Rattle.regex_ast.specs.declared.bad_regex.BadRegex.{BadRegex}
 use Rattle.regex_ast.specs.declared.bad_regex.BadRegex.TheVariants.{Shape, EmptyClass, TooDeep, TooManyPositions, NoMemory}
 use Rattle.regex_ast.specs.declared.lexer.Piece.TheVariants.{OneOf, Open, Close}
@@ -53,7 +53,7 @@ NoPlace Bad cuts = (before : List Cut) (cut : Cut) (after : List Cut) → cuts �
 abbrev pub IsFirstPlace : (List Cut → Cut → Type 0) → List Cut → ℕ → Type 0
 IsFirstPlace Bad cuts at =
     (before : List Cut) × (cut : Cut) × (after : List Cut)
-    × (cuts ≡ before ++ cut ∷ after) × Bad before cut × NoPlace Bad before × (at ≡ length (text_of before))
+    × (cuts ≡ before ++ cut ∷ after) × Bad before cut × NoPlace Bad before × (at ≡ length (cuts_text before))
 
 -- the limits on an expression
 pub record IsWithinLimits (cuts : List Cut) : Type 0 where

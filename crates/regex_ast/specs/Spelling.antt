@@ -77,19 +77,19 @@ mutual
 abbrev pub Cut : Type 0
 Cut = List ℕ × Piece
 
-abbrev pub text_of : List Cut → List ℕ
-text_of cuts = concat (map (λ c. c.0) cuts)
+abbrev pub cuts_text : List Cut → List ℕ
+cuts_text cuts = concat (map (λ c. c.0) cuts)
 
 abbrev pub pieces_of : List Cut → List Piece
 pieces_of cuts = map (λ c. c.1) cuts
 
 -- each is the text of its piece
-abbrev pub AreCuts : List Cut → Type 0
-AreCuts cuts = AllByRecursion (λ c. IsPiece c.0 c.1) cuts
+abbrev pub AreCutTexts : List Cut → Type 0
+AreCutTexts cuts = AllByRecursion (λ c. IsPiece c.0 c.1) cuts
 
 -- the text, in these cuts, spells the expression
 abbrev pub SpellsInCuts : List ℕ → List Cut → Expression → Type 0
-SpellsInCuts text cuts e = (text ≡ text_of cuts) × AreCuts cuts × SpellsChoice (pieces_of cuts) e
+SpellsInCuts text cuts e = (text ≡ cuts_text cuts) × AreCutTexts cuts × SpellsChoice (pieces_of cuts) e
 
 -- the text spells the expression, whatever the limits
 abbrev pub SpellsExpression : List ℕ → Expression → Type 0

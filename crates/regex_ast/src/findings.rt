@@ -1,7 +1,7 @@
 //! Where a text leaves the limits.
 
 ghost use Rattle.std.specs.Prelude.{◌≡◌, ◌<◌, ◌+◌, ◌^◌, ◌≤◌, None};
-ghost use Rattle.regex_ast.specs.Nests.{noted};
+ghost use Rattle.regex_ast.specs.Nests.{noted_piece};
 
 use crate::lexer::Piece;
 use crate::limits::{DEPTH_LIMIT, POSITION_LIMIT};
@@ -34,7 +34,7 @@ impl Findings {
     /// Takes note of a piece that begins at the offset `at`, inside `depth` parentheses.
     pub(crate) fn note(&mut self, piece: &Piece, depth: usize, at: u32)
         requires { self.old.classes + 1 < 2 ^ 32 }
-        ensures noted { self.new ≡ noted piece.now depth at self.old }
+        ensures noted_piece { self.new ≡ noted_piece piece.now depth at self.old }
         ensures few { self.new.classes ≤ self.old.classes + 1 }
     {
         match piece {

@@ -3,7 +3,7 @@
 ghost use Rattle.std.specs.Prelude.{◌≡◌, [], None, Some, IfOk, length};
 ghost use Rattle.std.specs.Option.{option_map};
 ghost use Rattle.regex_ast.specs.Expressions.{tree_of};
-ghost use Rattle.regex_ast.specs.Nests.{levels, put, joined, chosen, settled, whole, pushed, signed, finished, depth_of};
+ghost use Rattle.regex_ast.specs.Nests.{levels, put, joined, chosen, settled, level_whole, pushed, signed, nest_end, depth_of};
 ghost use Rattle.regex_ast.specs.Held.{trees_of, nest_of, signed_by};
 
 use crate::lexer::Piece;
@@ -73,7 +73,7 @@ impl Stack {
 
     /// The expression that is read, or `None` where it may not end here.
     pub(crate) fn finish(self, alloc: Global) -> Result<Option<Regex>, AllocError>
-        ensures { IfOk result (λ r. trees_of r ≡ finished (nest_of self)) }
+        ensures { IfOk result (λ r. trees_of r ≡ nest_end (nest_of self)) }
     {
         let Stack {
             outer,
@@ -241,7 +241,7 @@ fn close_level(
     branch: Option<Regex>,
     factor: Regex,
 ) -> Result<Regex, AllocError>
-    ensures { IfOk result (λ r. tree_of r ≡ whole (trees_of choice) (trees_of branch) (tree_of factor)) }
+    ensures { IfOk result (λ r. tree_of r ≡ level_whole (trees_of choice) (trees_of branch) (tree_of factor)) }
 {
     let last = join(alloc, branch, factor)?;
     match choice {

@@ -21,7 +21,8 @@ use Rattle.replies.specs.declared.reply.Outcome.TheVariants.{Parsed, Scan}
 use Rattle.replies.specs.declared.reply.Parsed.TheVariants.{Forest as ForestOf}
 use Rattle.replies.specs.declared.reply.Reply.{Reply}
 use Rattle.replies.specs.declared.reply.Reply.TheVariants.{Refused, Parse as Parsing, Tokens as Scanning}
-use Rattle.replies.specs.Replies.{kinds_of, IsRefusedFor, IsResult, IsParse, too_large, forest, no_sentence, IsOutcome, scan, parse, IsReply, taken, refused, parsed, scanned}
+use Rattle.replies.specs.Replies.{kinds_of, IsRefusedFor, IsResult, IsParse, too_large, forest, no_sentence, IsOutcome, scan, parse, IsReply, taken, refused}
+use Rattle.replies.specs.Replies.{parsed, scanned}
 use Rattle.replies.proofs.OneScan.{one_scan}
 
 -- ---- forests are told by their nodes
@@ -48,7 +49,8 @@ one_parse rules kinds a b (too_large many) (too_large more) = refl
 one_parse rules kinds a b (too_large many) (forest few is) = absurd (omega (arith, many, few))
 one_parse rules kinds a b (too_large many) (no_sentence few not) = absurd (omega (arith, many, few))
 one_parse rules kinds a b (forest few is) (too_large many) = absurd (omega (arith, many, few))
-one_parse rules kinds a b (forest {parsed = f} few is) (forest {parsed = g} few' is') = ap (λ f. Parsed (ForestOf f)) (same_forest f g (one_forest rules kinds f g is is'))
+one_parse rules kinds a b (forest {parsed = f} few is) (forest {parsed = g} few' is') =
+    ap (λ f. Parsed (ForestOf f)) (same_forest f g (one_forest rules kinds f g is is'))
 one_parse rules kinds a b (forest few is) (no_sentence few' not) = absurd (not is.derived)
 one_parse rules kinds a b (no_sentence few not) (too_large many) = absurd (omega (arith, many, few))
 one_parse rules kinds a b (no_sentence few not) (forest few' is) = absurd (not is.derived)
@@ -63,12 +65,14 @@ one_error : (grammar : Grammar) (text : List ℕ) (a b : ScanError) → IsRefuse
 one_error grammar text (NoToken o) (NoToken p) e f = let same = one_scan grammar text (no_token o) (no_token p) e f in let at : o ≡ p = cc same in ap NoToken at
 one_error grammar text (NoToken o) (TooManyTokens p) e f = let same = one_scan grammar text (no_token o) (too_many p) e f in cc same
 one_error grammar text (TooManyTokens o) (NoToken p) e f = let same = one_scan grammar text (too_many o) (no_token p) e f in cc same
-one_error grammar text (TooManyTokens o) (TooManyTokens p) e f = let same = one_scan grammar text (too_many o) (too_many p) e f in let at : o ≡ p = cc same in ap TooManyTokens at
+one_error grammar text (TooManyTokens o) (TooManyTokens p) e f = let same = one_scan grammar text (too_many o) (too_many p) e f in let at : o ≡ p = cc same in
+    ap TooManyTokens at
 one_error grammar text NoMemory b e f = absurd e
 one_error grammar text (NoToken o) NoMemory e f = absurd f
 one_error grammar text (TooManyTokens o) NoMemory e f = absurd f
 
-not_refused : (grammar : Grammar) (text : List ℕ) (found : List Token) (error : ScanError) → Tokenizes grammar text (tokens found) → IsRefusedFor grammar text error → ⊥
+not_refused : (grammar : Grammar) (text : List ℕ) (found : List Token) (error : ScanError) → Tokenizes grammar text (tokens found)
+    → IsRefusedFor grammar text error → ⊥
 not_refused grammar text found (NoToken o) e f = let same = one_scan grammar text (tokens found) (no_token o) e f in cc same
 not_refused grammar text found (TooManyTokens o) e f = let same = one_scan grammar text (tokens found) (too_many o) e f in cc same
 not_refused grammar text found NoMemory e f = f

@@ -32,19 +32,22 @@ pub many_kinds : {X : Type 0} (n count : ℕ) (result : Result X ChartError)
 many_kinds n count result exact is = ((exact count).0 is).0
 
 -- a scan that ends so is refused for it, unless memory ran out
-pub refused_for : (grammar : Grammar) (text : List ℕ) (error : ScanError) → (error ≡ NoMemory → ⊥) → EndsWith grammar text error → IsRefusedFor grammar text error
+pub refused_for : (grammar : Grammar) (text : List ℕ) (error : ScanError) → (error ≡ NoMemory → ⊥) → EndsWith grammar text error
+    → IsRefusedFor grammar text error
 refused_for grammar text (NoToken offset) other is = is
 refused_for grammar text (TooManyTokens offset) other is = is
 refused_for grammar text NoMemory other is = other refl
 
-pub parsed_reply : (before grammar : Grammar) (command : Command) (text bytes : List ℕ) (version : ℕ) (outcome : Outcome) → before ≡ grammar → command ≡ Parse text → bytes ≡ text → version ≡ before.version
+pub parsed_reply : (before grammar : Grammar) (command : Command) (text bytes : List ℕ) (version : ℕ) (outcome : Outcome) → before ≡ grammar
+    → command ≡ Parse text → bytes ≡ text → version ≡ before.version
     → IsOutcome before bytes outcome → IsReply grammar command (Parsing version outcome)
 parsed_reply before grammar command text bytes version outcome same is written at how =
     let whole : IsReply before (Parse text) (Parsing before.version outcome) = parsed (subst (λ t. IsOutcome before t outcome) written how) in
     subst (λ g. IsReply g command (Parsing version outcome)) same
     (subst (λ c. IsReply before c (Parsing version outcome)) (sym is) (subst (λ v. IsReply before (Parse text) (Parsing v outcome)) (sym at) whole))
 
-pub scanned_reply : (before grammar : Grammar) (command : Command) (text bytes : List ℕ) (version : ℕ) (result : Result (List Token) ScanError) → before ≡ grammar → command ≡ Tokens text → bytes ≡ text
+pub scanned_reply : (before grammar : Grammar) (command : Command) (text bytes : List ℕ) (version : ℕ) (result : Result (List Token) ScanError)
+    → before ≡ grammar → command ≡ Tokens text → bytes ≡ text
     → version ≡ before.version → IsResult before bytes result → IsReply grammar command (Scanning version result)
 scanned_reply before grammar command text bytes version result same is written at how =
     let whole : IsReply before (Tokens text) (Scanning before.version result) = scanned (subst (λ t. IsResult before t result) written how) in
@@ -53,10 +56,12 @@ scanned_reply before grammar command text bytes version result same is written a
 
 -- ---- edits
 
-pub refused_stays : (grammar : Grammar) (edit : AnEdit) (why : Refusal) → verdict grammar edit ≡ Some why → grammar ≡ unless_refused (verdict grammar edit) grammar edit
+pub refused_stays : (grammar : Grammar) (edit : AnEdit) (why : Refusal) → verdict grammar edit ≡ Some why
+    → grammar ≡ unless_refused (verdict grammar edit) grammar edit
 refused_stays grammar edit why is = ap (λ v. unless_refused v grammar edit) (sym is)
 
-pub taken_next : (grammar : Grammar) (edit : AnEdit) (next : Grammar) → verdict grammar edit ≡ None → next ≡ after grammar edit → next ≡ unless_refused (verdict grammar edit) grammar edit
+pub taken_next : (grammar : Grammar) (edit : AnEdit) (next : Grammar) → verdict grammar edit ≡ None → next ≡ after grammar edit
+    → next ≡ unless_refused (verdict grammar edit) grammar edit
 taken_next grammar edit next taken is = is ∙ ap (λ v. unless_refused v grammar edit) (sym taken)
 
 pub version_after : (grammar : Grammar) (edit : AnEdit) → (after grammar edit).version ≡ grammar.version + 1

@@ -1,5 +1,6 @@
 -- The kinds of a text's tokens are numbers of symbols and no left sides, and there are not too many.
-use Rattle.std.proofs.Common.{◌≡◌, ℕ, zero, suc, ◌+◌, ◌<◌, ◌≤◌, List, [], ◌∷◌, length, Contains, cond, Bool, true, false, ◌==◌, Option, Some, None, option_map, get_or, find, refl, ap, sym, ◌∙◌, subst, arith}
+use Rattle.std.proofs.Common.{◌≡◌, ℕ, zero, suc, ◌+◌, ◌<◌, ◌≤◌, List, [], ◌∷◌, length, Contains, cond, Bool, true, false, ◌==◌, Option, Some, None, option_map}
+use Rattle.std.proofs.Common.{get_or, find, refl, ap, sym, ◌∙◌, subst, arith}
 use Rattle.std.specs.List.{AllByRecursion}
 use Rattle.std.proofs.lemmas.Bool.{and_parts}
 use Rattle.std.proofs.lemmas.Option.{slice_get_within, get_or_from_slice_get}
@@ -33,7 +34,8 @@ AreDefined grammar (tokens found) = AllByRecursion (λ token. HasDefinition gram
 AreDefined grammar (no_token offset) = Unit {0}
 AreDefined grammar (too_many offset) = Unit {0}
 
-more_defined : (grammar : Grammar) (token : Token) (rest : Scan) → HasDefinition grammar token.kind → AreDefined grammar rest → AreDefined grammar (before token rest)
+more_defined : (grammar : Grammar) (token : Token) (rest : Scan) → HasDefinition grammar token.kind → AreDefined grammar rest
+    → AreDefined grammar (before token rest)
 more_defined grammar token (tokens others) one all = (one, all)
 more_defined grammar token (no_token offset) one all = tt
 more_defined grammar token (too_many offset) one all = tt
@@ -42,9 +44,11 @@ are_defined : (grammar : Grammar) (offset room : ℕ) (text : List ℕ) (scan : 
 unfolding HasDefinition
 are_defined grammar offset room text scan end = tt
 are_defined grammar offset room text scan (none some nothing) = tt
-are_defined grammar offset room text scan (skipped {piece = piece} {rest = rest} longest wins kind later) = are_defined grammar (offset + length piece) room rest scan later
+are_defined grammar offset room text scan (skipped {piece = piece} {rest = rest} longest wins kind later) =
+    are_defined grammar (offset + length piece) room rest scan later
 are_defined grammar offset room text scan (full longest wins kind) = tt
-are_defined grammar offset room text scan (more {room = left} {piece = piece} {rest = rest} {winner = winner} {kind = kind} {scan = others} longest wins is later) =
+are_defined grammar offset room text scan (more {room = left} {piece = piece} {rest = rest} {winner = winner} {kind = kind} {scan =
+    others} longest wins is later) =
     more_defined grammar (token_at kind offset (offset + length piece)) others (winner, is) (are_defined grammar (offset + length piece) left rest others later)
 
 -- ---- how many there are
@@ -62,7 +66,8 @@ more_few token room (too_many offset) few = tt
 are_few : (grammar : Grammar) (offset room : ℕ) (text : List ℕ) (scan : Scan) → TokenizesFrom grammar offset room text scan → AreFew room scan
 are_few grammar offset room text scan end = omega arith
 are_few grammar offset room text scan (none some nothing) = tt
-are_few grammar offset room text scan (skipped {piece = piece} {rest = rest} longest wins kind later) = are_few grammar (offset + length piece) room rest scan later
+are_few grammar offset room text scan (skipped {piece = piece} {rest = rest} longest wins kind later) =
+    are_few grammar (offset + length piece) room rest scan later
 are_few grammar offset room text scan (full longest wins kind) = tt
 are_few grammar offset room text scan (more {room = left} {piece = piece} {rest = rest} {kind = kind} {scan = others} longest wins is later) =
     more_few (token_at kind offset (offset + length piece)) left others (are_few grammar (offset + length piece) left rest others later)
@@ -73,10 +78,12 @@ few_tokens grammar text found is = are_few grammar 0 TOKEN_LIMIT text (tokens fo
 -- ---- the kind of a literal
 
 -- a literal is the token of its own symbol
-literal_is : (grammar : Grammar) (symbol kind : SymbolId) → kind_of grammar (literal symbol) ≡ Some (token_of kind) → (is_live_literal grammar symbol ≡ true) × (symbol ≡ kind)
+literal_is : (grammar : Grammar) (symbol kind : SymbolId) → kind_of grammar (literal symbol) ≡ Some (token_of kind)
+    → (is_live_literal grammar symbol ≡ true) × (symbol ≡ kind)
 literal_is grammar symbol kind is = by (is_live_literal grammar symbol) refl is
   where
-    by : (there : Bool) → is_live_literal grammar symbol ≡ there → cond there (Some (token_of symbol)) None ≡ Some (token_of kind) → (there ≡ true) × (symbol ≡ kind)
+    by : (there : Bool) → is_live_literal grammar symbol ≡ there → cond there (Some (token_of symbol)) None ≡ Some (token_of kind)
+        → (there ≡ true) × (symbol ≡ kind)
     by true e same = (refl, (cc same))
     by false e same = cc same
 
@@ -142,26 +149,33 @@ unfolding HasDefinition
 no_left_side grammar kind formed (literal symbol, is) left =
     let live = literal_is grammar symbol kind is in
     let is_named = at_each (λ r. IsNamed grammar.symbols r.left) grammar.rules left.0 formed.lefts left.1 in
-    let name_at : symbol_at grammar.symbols left.0.left ≡ Named is_named.0 = get_or_from_slice_get grammar.symbols left.0.left.0 (Named is_named.0) (Named []) is_named.1 in
-    let literal_at : symbol_at grammar.symbols symbol ≡ Literal (symbol_bytes (symbol_at grammar.symbols symbol)) = as_literal (symbol_at grammar.symbols symbol) (and_parts _ _ live.0).0 in
-    let both : Named is_named.0 ≡ Literal (symbol_bytes (symbol_at grammar.symbols symbol)) = sym name_at ∙ ap (symbol_at grammar.symbols) (left.2 ∙ sym live.1) ∙ literal_at in
+    let name_at : symbol_at grammar.symbols left.0.left ≡ Named is_named.0 = get_or_from_slice_get grammar.symbols left.0.left.0 (Named is_named.0)
+        (Named []) is_named.1 in
+    let literal_at : symbol_at grammar.symbols symbol ≡ Literal (symbol_bytes (symbol_at grammar.symbols symbol)) =
+        as_literal (symbol_at grammar.symbols symbol) (and_parts _ _ live.0).0 in
+    let both : Named is_named.0 ≡ Literal (symbol_bytes (symbol_at grammar.symbols symbol)) = sym name_at ∙ ap (symbol_at grammar.symbols) (left.2 ∙ sym live.1)
+        ∙ literal_at in
     cc both
 no_left_side grammar kind formed (named number, is) left = name_has grammar (λ name. IsNonterminal grammar.rules name → ⊥) number kind formed.apart is left
 
 -- ---- lists of tokens
 
-pub known_tokens : (grammar : Grammar) (text : List ℕ) (found : List Token) → IsWellFormed grammar → Tokenizes grammar text (tokens found) → AreKnownTokens grammar.symbols found
+pub known_tokens : (grammar : Grammar) (text : List ℕ) (found : List Token) → IsWellFormed grammar → Tokenizes grammar text (tokens found)
+    → AreKnownTokens grammar.symbols found
 known_tokens grammar text found formed is token has =
-    known_kind grammar token.kind formed (at_each (λ t. HasDefinition grammar t.kind) found token (are_defined grammar 0 TOKEN_LIMIT text (tokens found) is) has)
+    known_kind grammar token.kind formed (at_each (λ t. HasDefinition grammar t.kind) found token (are_defined grammar 0 TOKEN_LIMIT text
+        (tokens found) is) has)
 
-kind_in : (grammar : Grammar) (found : List Token) (kind : SymbolId) → AllByRecursion (λ token. HasDefinition grammar token.kind) found → Contains (kinds_of found) kind → HasDefinition grammar kind
+kind_in : (grammar : Grammar) (found : List Token) (kind : SymbolId) → AllByRecursion (λ token. HasDefinition grammar token.kind) found
+    → Contains (kinds_of found) kind → HasDefinition grammar kind
 kind_in grammar found kind all has = at_each (HasDefinition grammar) (kinds_of found) kind (each found all) has
   where
     each : (found : List Token) → AllByRecursion (λ token. HasDefinition grammar token.kind) found → AllByRecursion (HasDefinition grammar) (kinds_of found)
     each [] all = tt
     each (token ∷ others) all = (all.0, each others all.1)
 
-pub terminal_tokens : (grammar : Grammar) (text : List ℕ) (found : List Token) → IsWellFormed grammar → Tokenizes grammar text (tokens found) → AreTerminals grammar.rules (kinds_of found)
+pub terminal_tokens : (grammar : Grammar) (text : List ℕ) (found : List Token) → IsWellFormed grammar → Tokenizes grammar text (tokens found)
+    → AreTerminals grammar.rules (kinds_of found)
 terminal_tokens grammar text found formed is kind has left =
     no_left_side grammar kind formed (kind_in grammar found kind (are_defined grammar 0 TOKEN_LIMIT text (tokens found) is) has) left
 

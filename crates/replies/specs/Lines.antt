@@ -11,7 +11,8 @@ use Rattle.isg_scan.specs.declared.scan_error.ScanError.TheVariants.{NoToken, To
 use Rattle.forest_print.specs.Lines.{name_of, nodes_text, tokens_text}
 use Rattle.script_text.specs.declared.bad_script.BadScript.{BadScript}
 use Rattle.script_text.specs.declared.bad_script.BadKind.{BadKind}
-use Rattle.script_text.specs.declared.bad_script.BadKind.TheVariants.{UnknownCommand, BadEdit, BadRegex, BadText, TextTooLong, UnclosedPar, StrayEnd, ParInPar, TooManyCommands, SectionTooLong, StatsAfterPar}
+use Rattle.script_text.specs.declared.bad_script.BadKind.TheVariants.{UnknownCommand, BadEdit, BadRegex, BadText, TextTooLong, UnclosedPar, StrayEnd, ParInPar}
+use Rattle.script_text.specs.declared.bad_script.BadKind.TheVariants.{TooManyCommands, SectionTooLong, StatsAfterPar}
 use Rattle.replies.specs.declared.reply.Outcome.{Outcome}
 use Rattle.replies.specs.declared.reply.Outcome.TheVariants.{Parsed, Scan, TooLarge}
 use Rattle.replies.specs.declared.reply.Parsed.TheVariants.{Forest as ForestOf, NoSentence}
@@ -77,7 +78,8 @@ no_sentence_line version = head (codes "parse") version ++ codes " no sentence\n
 -- how many nodes and splits a forest has
 unfoldable pub node_count_line : ℕ → List Node → List ℕ
 node_count_line version nodes =
-    head (codes "parse") version ++ codes " forest " ++ decimal (length nodes) ++ codes " nodes " ++ decimal (sum_by (λ node. length node.splits) nodes) ++ codes " splits\n"
+    head (codes "parse") version ++ codes " forest " ++ decimal (length nodes) ++ codes " nodes " ++ decimal (sum_by (λ node. length node.splits) nodes)
+        ++ codes " splits\n"
 
 -- a forest
 abbrev pub forest_text : List Symbol → ℕ → List Node → List ℕ
@@ -115,19 +117,19 @@ reply_text symbols (Tokens version result) = result_text symbols version result
 -- ---- bad scripts
 
 -- what is wrong with a line
-abbrev pub words_of : BadKind → List ℕ
-words_of UnknownCommand = codes "unknown command"
-words_of BadEdit = codes "bad edit"
-words_of BadRegex = codes "bad expression"
-words_of BadText = codes "bad text"
-words_of TextTooLong = codes "text too long"
-words_of UnclosedPar = codes "section not closed"
-words_of StrayEnd = codes "end without section"
-words_of ParInPar = codes "section in a section"
-words_of TooManyCommands = codes "too many commands"
-words_of SectionTooLong = codes "section too long"
-words_of StatsAfterPar = codes "stats after a section"
+abbrev pub kind_words : BadKind → List ℕ
+kind_words UnknownCommand = codes "unknown command"
+kind_words BadEdit = codes "bad edit"
+kind_words BadRegex = codes "bad expression"
+kind_words BadText = codes "bad text"
+kind_words TextTooLong = codes "text too long"
+kind_words UnclosedPar = codes "section not closed"
+kind_words StrayEnd = codes "end without section"
+kind_words ParInPar = codes "section in a section"
+kind_words TooManyCommands = codes "too many commands"
+kind_words SectionTooLong = codes "section too long"
+kind_words StatsAfterPar = codes "stats after a section"
 
 -- the one line for a bad script
 abbrev pub bad_line : BadScript → List ℕ
-bad_line bad = codes "bad script line " ++ decimal bad.line ++ codes ": " ++ words_of bad.kind ++ codes "\n"
+bad_line bad = codes "bad script line " ++ decimal bad.line ++ codes ": " ++ kind_words bad.kind ++ codes "\n"

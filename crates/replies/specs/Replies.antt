@@ -51,7 +51,8 @@ pub data IsParse (rules : List Rule) (kinds : List SymbolId) : Outcome → Type 
 -- how the text is parsed: its scan is refused, or its tokens are parsed
 pub data IsOutcome (grammar : Grammar) (text : List ℕ) : Outcome → Type 0 where
   scan : {error : ScanError} → IsRefusedFor grammar text error → IsOutcome grammar text (Scan error)
-  parse : {found : List Token} {outcome : Outcome} → Tokenizes grammar text (tokens found) → IsParse grammar.rules (kinds_of found) outcome → IsOutcome grammar text outcome
+  parse : {found : List Token} {outcome : Outcome} → Tokenizes grammar text (tokens found) → IsParse grammar.rules (kinds_of found) outcome
+      → IsOutcome grammar text outcome
 
 -- ---- commands
 
@@ -60,7 +61,8 @@ pub data IsReply (grammar : Grammar) : Command → Reply → Type 0 where
   taken : {edit : AnEdit} → verdict grammar edit ≡ None → IsReply grammar (Edit edit) (Edited (grammar.version + 1))
   refused : {edit : AnEdit} {why : Refusal} → verdict grammar edit ≡ Some why → IsReply grammar (Edit edit) (Refused why)
   parsed : {text : List ℕ} {outcome : Outcome} → IsOutcome grammar text outcome → IsReply grammar (Parse text) (Parsing grammar.version outcome)
-  scanned : {text : List ℕ} {result : Result (List Token) ScanError} → IsResult grammar text result → IsReply grammar (Tokens text) (Scanning grammar.version result)
+  scanned : {text : List ℕ} {result : Result (List Token) ScanError} → IsResult grammar text result
+      → IsReply grammar (Tokens text) (Scanning grammar.version result)
 
 -- an edit that is taken changes the grammar, and a refused one leaves it
 abbrev pub unless_refused : Option Refusal → Grammar → AnEdit → Grammar
@@ -78,4 +80,5 @@ grammar_after grammar Stats = grammar
 pub data AreReplies : Grammar → List Block → List ℕ → Type 0 where
   none : {grammar : Grammar} → AreReplies grammar [] []
   more : {grammar : Grammar} {command : Command} {blocks : List Block} {reply : Reply} {replies : List ℕ} →
-      IsReply grammar command reply → AreReplies (grammar_after grammar command) blocks replies → AreReplies grammar (Alone command ∷ blocks) (reply_text grammar.symbols reply ++ replies)
+      IsReply grammar command reply → AreReplies (grammar_after grammar command) blocks replies
+          → AreReplies grammar (Alone command ∷ blocks) (reply_text grammar.symbols reply ++ replies)

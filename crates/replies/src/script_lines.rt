@@ -1,7 +1,7 @@
 //! The line for a bad script.
 
 ghost use Rattle.std.specs.Prelude.{◌≡◌, ◌++◌, OnOk};
-ghost use Rattle.replies.specs.Lines.{words_of, bad_line};
+ghost use Rattle.replies.specs.Lines.{kind_words, bad_line};
 
 use crate::edit_lines::put_number;
 use script_text::{BadKind, BadScript};
@@ -9,7 +9,7 @@ use std::alloc::AllocError;
 
 /// What is wrong with a line.
 fn words(kind: BadKind) -> &'static [u8]
-    ensures { result.now ≡ words_of kind }
+    ensures { result.now ≡ kind_words kind }
 {
     match kind {
         BadKind::UnknownCommand => b"unknown command",

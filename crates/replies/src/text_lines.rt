@@ -2,7 +2,8 @@
 
 ghost use Rattle.std.specs.Prelude.{◌≡◌, ◌++◌, length, OnOk};
 ghost use Rattle.forest_print.specs.Lines.{name_of, nodes_text, tokens_text};
-ghost use Rattle.replies.specs.Lines.{head, no_token_line, too_many_line, scan_line, too_large_line, no_sentence_line, node_count_line, token_count_line, forest_text, outcome_text, token_lines, result_text};
+ghost use Rattle.replies.specs.Lines.{head, no_token_line, too_many_line, scan_line, too_large_line, no_sentence_line, node_count_line, token_count_line};
+ghost use Rattle.replies.specs.Lines.{forest_text, outcome_text, token_lines, result_text};
 ghost use Rattle.replies.specs.Known.{AreKnownNodes, AreKnownTokens, IsKnownOutcome, IsKnownResult};
 
 use crate::edit_lines::put_number;

@@ -18,8 +18,9 @@ use Rattle.script_text.specs.Seen.{IsReason, LacksExpression}
 use Rattle.script_text.specs.declared.limits.TheConstants.{TEXT_LIMIT}
 use Rattle.script_text.specs.Forms.{Sort, EditLine, ParseLine, TokensLine}
 use Rattle.script_text.specs.Expressions.{HasExpression}
-use Rattle.script_text.specs.Texts.{text_of}
-use Rattle.script_text.specs.Commands.{SpellsText, SpellsAs, an_edit, a_text, a_scan, IsWrongText, bad_escape, too_long, IsWrongAs, no_edit, no_expression, no_text, no_scan}
+use Rattle.script_text.specs.Texts.{text_written}
+use Rattle.script_text.specs.Commands.{SpellsText, SpellsAs, an_edit, a_text, a_scan, IsWrongText, bad_escape, too_long, IsWrongAs, no_edit, no_expression}
+use Rattle.script_text.specs.Commands.{no_text, no_scan}
 use Rattle.script_text.proofs.ExpressionLaws.{edit_judged}
 
 -- ---- texts
@@ -42,9 +43,9 @@ one_wrong_text written a b (too_long text is long) (too_long other same more) = 
 
 -- a text is spelled, or something is wrong
 text_judged : (written : List ℕ) → ((text : List ℕ) × SpellsText written text) ⊎ ((kind : BadKind) × IsWrongText written kind)
-text_judged written = by (text_of written) refl
+text_judged written = by (text_written written) refl
   where
-    by : (read : Option (List ℕ)) → text_of written ≡ read → ((text : List ℕ) × SpellsText written text) ⊎ ((kind : BadKind) × IsWrongText written kind)
+    by : (read : Option (List ℕ)) → text_written written ≡ read → ((text : List ℕ) × SpellsText written text) ⊎ ((kind : BadKind) × IsWrongText written kind)
     by None e = inr (BadText, bad_escape e)
     by (Some text) e = elim (cases_lt TEXT_LIMIT (length text)) [
       | inl less ↦ inr (TextTooLong, too_long text e less)
@@ -60,7 +61,8 @@ one_command sort line a b (a_scan {written = written} {text = text} p) (a_scan {
 
 pub not_wrong : (sort : Sort) (line : List ℕ) (command : Command) (kind : BadKind) → SpellsAs sort line command → IsWrongAs sort line kind → ⊥
 not_wrong sort line command kind (an_edit {edit = e} spelled within has) (no_edit none) = none e spelled within
-not_wrong sort line command kind (an_edit {edit = e} spelled within has) (no_expression {edit = other} again too lacks) = lacks (subst HasExpression (one_edit line e other spelled again) has)
+not_wrong sort line command kind (an_edit {edit = e} spelled within has) (no_expression {edit = other} again too lacks) =
+    lacks (subst HasExpression (one_edit line e other spelled again) has)
 not_wrong sort line command kind (a_text {written = written} {text = text} p) (no_text q) = text_not_wrong written text kind p q
 not_wrong sort line command kind (a_scan {written = written} {text = text} p) (no_scan q) = text_not_wrong written text kind p q
 
@@ -76,7 +78,8 @@ one_wrong sort line a b (no_scan {written = written} p) (no_scan q) = one_wrong_
 pub judged : (sort : Sort) (line : List ℕ) → ((command : Command) × SpellsAs sort line command) ⊎ ((kind : BadKind) × IsWrongAs sort line kind)
 judged EditLine line = by (edit_of line) refl
   where
-    by : (read : Result AnEdit ABadEdit) → edit_of line ≡ read → ((command : Command) × SpellsAs EditLine line command) ⊎ ((kind : BadKind) × IsWrongAs EditLine line kind)
+    by : (read : Result AnEdit ABadEdit) → edit_of line ≡ read
+        → ((command : Command) × SpellsAs EditLine line command) ⊎ ((kind : BadKind) × IsWrongAs EditLine line kind)
     by (Ok e) is = let spelled = edit_of_takes line e is in elim (edit_judged e) [
       | inl has ↦ inl (Edit e, an_edit spelled.0 spelled.1 has)
       | inr lacks ↦ inr (BadRegex, no_expression spelled.0 spelled.1 lacks)
@@ -101,6 +104,7 @@ pub scan_refused : (written line : List ℕ) (refusal : Refusal) → IsReason (I
 scan_refused written line (Wrong kind) is = no_scan is
 scan_refused written line OutOfMemory is = tt
 
-pub edit_refused : (line : List ℕ) (edit : AnEdit) (refusal : Refusal) → Spells line edit → IsWithinLimits edit → IsReason (LacksExpression edit) refusal → IsReason (IsWrongAs EditLine line) refusal
+pub edit_refused : (line : List ℕ) (edit : AnEdit) (refusal : Refusal) → Spells line edit → IsWithinLimits edit → IsReason (LacksExpression edit) refusal
+    → IsReason (IsWrongAs EditLine line) refusal
 edit_refused line edit (Wrong kind) spelled within is = subst (IsWrongAs EditLine line) (sym is.0) (no_expression spelled within is.1)
 edit_refused line edit OutOfMemory spelled within is = tt

@@ -16,7 +16,8 @@ use Rattle.script_text.specs.Expressions.{added_expression, IsExpression, HasExp
 text_judged : (text : List ℕ) → IsExpression text ⊎ (IsExpression text → ⊥)
 text_judged text = by (after_bytes first_state 0 text) refl
   where
-    ended : (state : State) (answer : Result Expression BadRegex) → after_bytes first_state 0 text ≡ Some state → answer_of state (length text) ≡ answer → IsExpression text ⊎ (IsExpression text → ⊥)
+    ended : (state : State) (answer : Result Expression BadRegex) → after_bytes first_state 0 text ≡ Some state → answer_of state (length text) ≡ answer
+        → IsExpression text ⊎ (IsExpression text → ⊥)
     ended state (Ok e) read is = inl (e, found_answer text state (length text) e read is)
     ended state (Err why) read is = inr (λ found. cc (is, only_answer text found.0 state (length text) found.1 read))
 
@@ -43,10 +44,12 @@ unfolding canonical
 short_expression (AddRule rule) within = tt
 short_expression (DropRule rule) within = tt
 short_expression (AddToken definition) within =
-    let all : length (spaced definition.expression) ≤ 248 = last_part (codes "token") (spaced definition.name) (spaced (codes "=")) (spaced definition.expression) 248 within.text in
+    let all : length (spaced definition.expression) ≤ 248 = last_part (codes "token") (spaced definition.name) (spaced (codes "="))
+        (spaced definition.expression) 248 within.text in
     omega arith
 short_expression (DropToken name) within = tt
 short_expression (AddSkip definition) within =
-    let all : length (spaced definition.expression) ≤ 248 = last_part (codes "skip") (spaced definition.name) (spaced (codes "=")) (spaced definition.expression) 248 within.text in
+    let all : length (spaced definition.expression) ≤ 248 = last_part (codes "skip") (spaced definition.name) (spaced (codes "="))
+        (spaced definition.expression) 248 within.text in
     omega arith
 short_expression (DropSkip name) within = tt

@@ -1,5 +1,6 @@
 -- The first line of a script, and the rest.
-use Rattle.std.proofs.Common.{◌≡◌, ℕ, zero, suc, ◌+◌, ◌-◌, ◌<◌, ◌≤◌, List, [], ◌∷◌, length, take, drop, Bool, true, false, not, ◌&&◌, ◌==◌, if◌then◌else◌, IsTrue, refl, ap, arith, length-drop}
+use Rattle.std.proofs.Common.{◌≡◌, ℕ, zero, suc, ◌+◌, ◌-◌, ◌<◌, ◌≤◌, List, [], ◌∷◌, length, take, drop, Bool, true, false, not, ◌&&◌, ◌==◌, if◌then◌else◌}
+use Rattle.std.proofs.Common.{IsTrue, refl, ap, arith, length-drop}
 use Rattle.std.specs.List.{slice_index, list_all}
 use Rattle.std.proofs.lemmas.List.{take_all}
 use Rattle.memchr.specs.Find.{NoneBefore, Passes, is_byte}
@@ -22,11 +23,13 @@ one_line (byte ∷ bytes) (suc len) free = by (byte == 10) (free 0 (omega arith)
     by false other rest = rest
 
 -- a first line that a byte 10 ends
-first_line : (bytes : List ℕ) (len : ℕ) → len < length bytes → HasNone bytes len → (slice_index bytes len == 10) ≡ true → lines_of bytes ≡ take len bytes ∷ lines_of (drop (suc len) bytes)
+first_line : (bytes : List ℕ) (len : ℕ) → len < length bytes → HasNone bytes len → (slice_index bytes len == 10) ≡ true
+    → lines_of bytes ≡ take len bytes ∷ lines_of (drop (suc len) bytes)
 unfolding lines_of
 first_line [] len less free ends = absurd (omega arith)
 first_line (byte ∷ bytes) zero less free ends = rw ends refl
-first_line (byte ∷ bytes) (suc len) less free ends = by (byte == 10) (free 0 (omega arith)) (first_line bytes len (omega arith) (λ k less. free (suc k) (omega arith)) ends)
+first_line (byte ∷ bytes) (suc len) less free ends = by (byte == 10) (free 0 (omega arith))
+    (first_line bytes len (omega arith) (λ k less. free (suc k) (omega arith)) ends)
   where
     by : (is_end : Bool) → (is_end ≡ true → ⊥) → lines_of bytes ≡ take len bytes ∷ lines_of (drop (suc len) bytes)
         → (if is_end then [] ∷ lines_of bytes else before_first_line byte (lines_of bytes)) ≡ (byte ∷ take len bytes) ∷ lines_of (drop (suc len) bytes)

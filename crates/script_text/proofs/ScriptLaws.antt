@@ -10,7 +10,8 @@ use Rattle.script_text.specs.declared.limits.TheConstants.{COMMAND_LIMIT}
 use Rattle.script_text.specs.Lines.{lines_of}
 use Rattle.script_text.specs.Forms.{Sort, Form, PassedOver, OtherWord, Asks, form_of}
 use Rattle.script_text.specs.Commands.{SpellsAs, IsWrongAs}
-use Rattle.script_text.specs.Scripts.{Read, nothing, with_command, count_of, Takes, passes, adds, TakesAll, none, more, SpellsScript, IsBad, unknown, too_many, wrong, IsFirstBad, at_line}
+use Rattle.script_text.specs.Scripts.{Read, nothing, with_command, count_of, ReadsLine, passes, adds, TakesAll, none, more, SpellsScript, IsBad, unknown}
+use Rattle.script_text.specs.Scripts.{too_many, wrong, IsFirstBad, at_line}
 use Rattle.script_text.proofs.CommandLaws.{one_command, not_wrong, one_wrong, judged}
 
 -- ---- one line
@@ -18,14 +19,14 @@ use Rattle.script_text.proofs.CommandLaws.{one_command, not_wrong, one_wrong, ju
 one_sort : (line : List ℕ) (a b : Sort) → form_of line ≡ Asks a → form_of line ≡ Asks b → a ≡ b
 one_sort line a b p q = cc
 
-one_next : (read : Read) (line : List ℕ) (a b : Read) → Takes read line a → Takes read line b → a ≡ b
+one_next : (read : Read) (line : List ℕ) (a b : Read) → ReadsLine read line a → ReadsLine read line b → a ≡ b
 one_next read line a b (passes e) (passes same) = refl
 one_next read line a b (passes e) (adds sort command form room spelled) = cc (e, form)
 one_next read line a b (adds sort command form room spelled) (passes e) = cc (e, form)
 one_next read line a b (adds sort command form room spelled) (adds again other same space too) =
     ap (with_command read) (one_command sort line command other spelled (subst (λ s. SpellsAs s line other) (one_sort line again sort same form) too))
 
-pub not_bad : (read : Read) (line : List ℕ) (next : Read) (kind : BadKind) → Takes read line next → IsBad read line kind → ⊥
+pub not_bad : (read : Read) (line : List ℕ) (next : Read) (kind : BadKind) → ReadsLine read line next → IsBad read line kind → ⊥
 not_bad read line next kind (passes e) (unknown form) = cc (e, form)
 not_bad read line next kind (passes e) (too_many sort form full) = cc (e, form)
 not_bad read line next kind (passes e) (wrong sort form room is) = cc (e, form)
@@ -47,10 +48,10 @@ one_kind read line a b (wrong sort form room is) (wrong again same space too) =
     one_wrong sort line a b is (subst (λ s. IsWrongAs s line b) (one_sort line again sort same form) too)
 
 -- a line leads on, or it is bad
-line_judged : (read : Read) (line : List ℕ) → ((next : Read) × Takes read line next) ⊎ ((kind : BadKind) × IsBad read line kind)
+line_judged : (read : Read) (line : List ℕ) → ((next : Read) × ReadsLine read line next) ⊎ ((kind : BadKind) × IsBad read line kind)
 line_judged read line = by (form_of line) refl
   where
-    by : (form : Form) → form_of line ≡ form → ((next : Read) × Takes read line next) ⊎ ((kind : BadKind) × IsBad read line kind)
+    by : (form : Form) → form_of line ≡ form → ((next : Read) × ReadsLine read line next) ⊎ ((kind : BadKind) × IsBad read line kind)
     by PassedOver e = inl (read, passes e)
     by OtherWord e = inr (UnknownCommand, unknown e)
     by (Asks sort) e = elim (cases_lt (count_of read) COMMAND_LIMIT) [
@@ -68,7 +69,8 @@ one_last lines old a b none none = refl
 one_last lines old a b (more {new = x} {line = line} {lines = rest} first others) (more {new = y} again too) =
     one_last rest x a b others (subst (λ r. TakesAll r rest b) (one_next old line y x again first) too)
 
-pub one_more : (before : List (List ℕ)) (line : List ℕ) (old read next : Read) → TakesAll old before read → Takes read line next → TakesAll old (before ++ line ∷ []) next
+pub one_more : (before : List (List ℕ)) (line : List ℕ) (old read next : Read) → TakesAll old before read → ReadsLine read line next
+    → TakesAll old (before ++ line ∷ []) next
 one_more before line old read next none last = more last none
 one_more before line old read next (more {new = new} {lines = lines} first others) last = more first (one_more lines line new read next others last)
 
@@ -81,7 +83,8 @@ past_bad before line after old read last kind (more {new = x} {line = l} {lines 
 
 pub not_both : (bytes : List ℕ) (script : Script) (bad : BadScript) → SpellsScript bytes script → IsFirstBad bytes bad → ⊥
 not_both bytes script bad spelled (at_line {kind = kind} before after line read cut good is) =
-    past_bad before line after nothing read (record { blocks = script.blocks }) kind good (subst (λ lines. TakesAll nothing lines (record { blocks = script.blocks })) cut spelled) is
+    past_bad before line after nothing read (record { blocks = script.blocks }) kind good (subst (λ lines. TakesAll nothing lines (record { blocks =
+        script.blocks })) cut spelled) is
 
 -- a script is its blocks
 abbrev script_with : List Block → Script
@@ -89,7 +92,8 @@ script_with blocks = record { blocks = blocks }
 
 pub one_script : (bytes : List ℕ) (a b : Script) → SpellsScript bytes a → SpellsScript bytes b → a ≡ b
 one_script bytes a b p q =
-    let same : a.blocks ≡ b.blocks = ap (λ (read : Read). read.blocks) (one_last (lines_of bytes) nothing (record { blocks = a.blocks }) (record { blocks = b.blocks }) p q) in
+    let same : a.blocks ≡ b.blocks = ap (λ (read : Read). read.blocks) (one_last (lines_of bytes) nothing (record { blocks = a.blocks }) (record { blocks =
+        b.blocks }) p q) in
     ap script_with same
 
 -- ---- bad lines
@@ -107,10 +111,11 @@ one_place before other line second after behind old read found a b cut none bad 
 one_place before other line second after behind old read found a b cut (more {new = new} {line = l} first others) bad none too =
     let same : second ≡ l = cc cut in
     absurd (not_bad old l new b first (subst (λ l. IsBad old l b) same too))
-one_place before other line second after behind old read found a b cut (more {new = x} {line = l} {lines = lines} first others) bad (more {new = y} {line = m} {lines = rest} again goes) too =
+one_place before other line second after behind old read found a b cut (more {new = x} {line = l} {lines = lines} first others) bad (more {new = y} {line =
+    m} {lines = rest} again goes) too =
     let same : m ≡ l = cc cut in
     let tails : lines ++ line ∷ after ≡ rest ++ second ∷ behind = cc cut in
-    let next : y ≡ x = one_next old l y x (subst (λ l. Takes old l y) same again) first in
+    let next : y ≡ x = one_next old l y x (subst (λ l. ReadsLine old l y) same again) first in
     let later = one_place lines rest line second after behind x read found a b tails others bad (subst (λ r. TakesAll r rest found) next goes) too in
     (ap suc later.0, later.1)
 

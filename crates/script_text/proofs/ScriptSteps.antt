@@ -8,7 +8,7 @@ use Rattle.script_text.specs.Lines.{lines_of}
 use Rattle.script_text.specs.Forms.{Sort, Asks, form_of}
 use Rattle.script_text.specs.Commands.{IsWrongAs}
 use Rattle.script_text.specs.Seen.{IsReason}
-use Rattle.script_text.specs.Scripts.{Read, nothing, Takes, TakesAll, none, count_of, IsBad, wrong, IsFirstBad, at_line}
+use Rattle.script_text.specs.Scripts.{Read, nothing, ReadsLine, TakesAll, none, count_of, IsBad, wrong, IsFirstBad, at_line}
 use Rattle.script_text.proofs.ScriptLaws.{one_more}
 
 -- up to here the lines were good, and this has been read
@@ -23,7 +23,7 @@ pub begins : (bytes : List ℕ) → IsReadTo bytes bytes 0 nothing
 begins bytes = record { before = []; cut = refl; counted = refl; good = none; few = omega arith }
 
 pub goes_on : (bytes rest line after : List ℕ) (number : ℕ) (read next : Read) → IsReadTo bytes rest number read
-    → lines_of rest ≡ line ∷ lines_of after → length after < length rest → Takes read line next → IsReadTo bytes after (number + 1) next
+    → lines_of rest ≡ line ∷ lines_of after → length after < length rest → ReadsLine read line next → IsReadTo bytes after (number + 1) next
 goes_on bytes rest line after number read next so_far lines less takes = record {
   before = so_far.before ++ line ∷ [];
   cut = so_far.cut ∙ ap (λ ls. so_far.before ++ ls) lines ∙ sym (append_assoc so_far.before (line ∷ []) (lines_of after));

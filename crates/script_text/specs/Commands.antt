@@ -10,11 +10,11 @@ use Rattle.script_text.specs.declared.bad_script.BadKind.TheVariants.{BadEdit, B
 use Rattle.script_text.specs.declared.limits.TheConstants.{TEXT_LIMIT}
 use Rattle.script_text.specs.Forms.{Sort, EditLine, ParseLine, TokensLine}
 use Rattle.script_text.specs.Expressions.{HasExpression}
-use Rattle.script_text.specs.Texts.{text_of}
+use Rattle.script_text.specs.Texts.{text_written}
 
 -- the text that is written so, within the limit
 pub record SpellsText (written text : List ℕ) : Type 0 where
-  pub is : text_of written ≡ Some text
+  pub is : text_written written ≡ Some text
   pub within : length text ≤ TEXT_LIMIT
 
 -- the line, which asks for this, is the command
@@ -25,8 +25,8 @@ pub data SpellsAs : Sort → List ℕ → Command → Type 0 where
 
 -- what is wrong with what is written for a text: an escape, or the length of the text
 pub data IsWrongText : List ℕ → BadKind → Type 0 where
-  bad_escape : {written : List ℕ} → text_of written ≡ None → IsWrongText written BadText
-  too_long : {written : List ℕ} (text : List ℕ) → text_of written ≡ Some text → TEXT_LIMIT < length text → IsWrongText written TextTooLong
+  bad_escape : {written : List ℕ} → text_written written ≡ None → IsWrongText written BadText
+  too_long : {written : List ℕ} (text : List ℕ) → text_written written ≡ Some text → TEXT_LIMIT < length text → IsWrongText written TextTooLong
 
 -- what is wrong with the line, which asks for this and is no command
 pub data IsWrongAs : Sort → List ℕ → BadKind → Type 0 where

@@ -37,15 +37,15 @@ count_of read = sum_by size_of read.blocks
 -- ---- good lines
 
 -- the line leads from what has been read before it to this: it is passed over, or it is one command more
-pub data Takes : Read → List ℕ → Read → Type 0 where
-  passes : {read : Read} {line : List ℕ} → form_of line ≡ PassedOver → Takes read line read
+pub data ReadsLine : Read → List ℕ → Read → Type 0 where
+  passes : {read : Read} {line : List ℕ} → form_of line ≡ PassedOver → ReadsLine read line read
   adds : {read : Read} {line : List ℕ} (sort : Sort) (command : Command) →
-      form_of line ≡ Asks sort → count_of read < COMMAND_LIMIT → SpellsAs sort line command → Takes read line (with_command read command)
+      form_of line ≡ Asks sort → count_of read < COMMAND_LIMIT → SpellsAs sort line command → ReadsLine read line (with_command read command)
 
 -- the lines lead, one after the other, from what has been read before them to this
 pub data TakesAll : Read → List (List ℕ) → Read → Type 0 where
   none : {read : Read} → TakesAll read [] read
-  more : {old new last : Read} {line : List ℕ} {lines : List (List ℕ)} → Takes old line new → TakesAll new lines last → TakesAll old (line ∷ lines) last
+  more : {old new last : Read} {line : List ℕ} {lines : List (List ℕ)} → ReadsLine old line new → TakesAll new lines last → TakesAll old (line ∷ lines) last
 
 -- the bytes are the script
 abbrev pub SpellsScript : List ℕ → Script → Type 0
@@ -63,9 +63,10 @@ pub data IsBad : Read → List ℕ → BadKind → Type 0 where
 -- the lines before this one are good, and it is bad; lines are numbered from 1
 pub data IsFirstBad : List ℕ → BadScript → Type 0 where
   at_line : {bytes : List ℕ} {kind : BadKind} (before after : List (List ℕ)) (line : List ℕ) (read : Read) →
-      lines_of bytes ≡ before ++ line ∷ after → TakesAll nothing before read → IsBad read line kind → IsFirstBad bytes (record { line = length before + 1; kind = kind })
+      lines_of bytes ≡ before ++ line ∷ after → TakesAll nothing before read → IsBad read line kind
+          → IsFirstBad bytes (record { line = length before + 1; kind = kind })
 
 -- why a script was not read: this is its first bad line, or memory ran out
-abbrev pub IsCause : List ℕ → ScriptError → Type 0
-IsCause bytes (Bad bad) = IsFirstBad bytes bad
-IsCause bytes NoMemory = Unit {0}
+abbrev pub IsScriptError : List ℕ → ScriptError → Type 0
+IsScriptError bytes (Bad bad) = IsFirstBad bytes bad
+IsScriptError bytes NoMemory = Unit {0}

@@ -3,7 +3,7 @@
 ghost use Rattle.std.specs.Prelude.{◌≡◌, ◌<◌, ◌≤◌, ◌↔◌, length, IsTrue, IfErr, OnOk};
 ghost use Rattle.grammar_text.specs.Pieces.{IsLine};
 ghost use Rattle.script_text.specs.declared.limits.TheConstants.{COMMAND_LIMIT};
-ghost use Rattle.script_text.specs.Scripts.{nothing, with_command, count_of, Takes, IsBad};
+ghost use Rattle.script_text.specs.Scripts.{nothing, with_command, count_of, ReadsLine, IsBad};
 ghost use Rattle.script_text.specs.Seen.{IsReason};
 
 use crate::bad_script::{BadKind, Refusal};
@@ -65,7 +65,7 @@ impl Progress {
     pub(crate) fn take(&mut self, alloc: Global, line: &[u8]) -> Result<(), Refusal>
         requires short { length line.now ≤ LINE_LIMIT }
         requires one_line { IsLine line.now }
-        ensures takes { OnOk result (Takes self.old line.now self.new) }
+        ensures takes { OnOk result (ReadsLine self.old line.now self.new) }
         ensures refused { IfErr result (IsReason (IsBad self.old line.now)) }
     {
         let ask = match form_of(line) {

@@ -2,7 +2,7 @@
 
 ghost use Rattle.std.specs.Prelude.{◌≡◌, ◌≤◌, length, IfOk, IfErr, MatchResult};
 ghost use Rattle.script_text.specs.declared.command.Script.{Script};
-ghost use Rattle.script_text.specs.Scripts.{SpellsScript, IsCause};
+ghost use Rattle.script_text.specs.Scripts.{SpellsScript, IsScriptError};
 
 use crate::bad_script::{BadScript, Refusal, ScriptError};
 use crate::command::Script;
@@ -28,7 +28,7 @@ pub fn read_script(alloc: Global, bytes: &[u8]) -> Result<Script, ScriptError>
     ensures only { (script : Script) → SpellsScript bytes.now script →
         MatchResult result (λ read. read ≡ script) (λ e. e ≡ ScriptError.NoMemory) }
     // Which error it is.
-    ensures exact { IfErr result (IsCause bytes.now) }
+    ensures exact { IfErr result (IsScriptError bytes.now) }
 {
     let mut progress = Progress::new(alloc);
     let mut rest = bytes;

@@ -1,13 +1,13 @@
 //! The text that a line of a script writes with escapes.
 
 ghost use Rattle.std.specs.Prelude.{◌≡◌, ◌<◌, length, IfOk, IfSome, MatchOption, option_map, Some, None};
-ghost use Rattle.script_text.specs.Texts.{escaped_byte, with_byte, text_of};
+ghost use Rattle.script_text.specs.Texts.{unescaped_byte, after_byte, text_written};
 
 use std::alloc::{AllocError, Global};
 
 /// The byte that an escape of this letter stands for.
 fn escaped(letter: u8) -> Option<u8>
-    ensures { result ≡ escaped_byte letter }
+    ensures { result ≡ unescaped_byte letter }
 {
     match letter {
         b'n' => Some(b'\n'),
@@ -19,12 +19,12 @@ fn escaped(letter: u8) -> Option<u8>
 
 /// The first byte of the text that is written so, and what is written after it; or nothing where a
 /// backslash begins no escape.
-#[tactic(auto, unfolding(crate::specs::Texts::text_of))]
+#[tactic(auto, unfolding(crate::specs::Texts::text_written))]
 fn read_byte(written: &[u8]) -> Option<(u8, &[u8])>
     requires { 0 < length written.now }
     ensures shorter { IfSome result (λ read. length read.1.now < length written.now) }
-    ensures reads { MatchOption result (text_of written.now ≡ None)
-        (λ read. text_of written.now ≡ with_byte (Some read.0) (text_of read.1.now)) }
+    ensures reads { MatchOption result (text_written written.now ≡ None)
+        (λ read. text_written written.now ≡ after_byte (Some read.0) (text_written read.1.now)) }
 {
     match written {
         [b'\\', letter, rest @ ..] => match escaped(*letter) {
@@ -39,7 +39,7 @@ fn read_byte(written: &[u8]) -> Option<(u8, &[u8])>
 
 /// The text that is written so, or nothing where a backslash begins no escape.
 pub(crate) fn read_text(alloc: Global, written: &[u8]) -> Result<Option<Vec<u8>>, AllocError>
-    ensures { IfOk result (λ read. option_map (λ text. text.items) read ≡ text_of written.now) }
+    ensures { IfOk result (λ read. option_map (λ text. text.items) read ≡ text_written written.now) }
 {
     let mut text = Vec::with_capacity(alloc, written.len())?;
     let mut rest = written;

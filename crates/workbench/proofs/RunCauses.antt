@@ -9,7 +9,7 @@ use Rattle.script_text.specs.declared.bad_script.BadScript.{BadScript as ABadScr
 use Rattle.script_text.specs.Scripts.{SpellsScript, IsFirstBad}
 use Rattle.script_text.proofs.ScriptLaws.{not_both, one_bad}
 use Rattle.workbench.specs.Pieces.{GivesCount, TellsBytes}
-use Rattle.replies.specs.Lines.{words_of, bad_line}
+use Rattle.replies.specs.Lines.{kind_words, bad_line}
 use Rattle.workbench.specs.declared.top_call.Status.{Status}
 use Rattle.workbench.specs.declared.top_call.Status.TheVariants.{Done, BadWords, ReadFault, WriteFault, NoMemory, BadScript, ScriptTooLong}
 use Rattle.workbench.specs.Ends.{IsLate}
@@ -44,7 +44,7 @@ one_amount old new a b told first second =
 -- ---- the line for a bad script
 
 line_has_bytes : (bad : ABadScript) → 0 < length (bad_line bad)
-line_has_bytes bad = omega (arith, length-append (codes "bad script line ") (decimal bad.line ++ codes ": " ++ words_of bad.kind ++ codes "\n"))
+line_has_bytes bad = omega (arith, length-append (codes "bad script line ") (decimal bad.line ++ codes ": " ++ kind_words bad.kind ++ codes "\n"))
 
 -- a sink that took nothing did not take the line
 pub silent_not_bad : (left left_new taken : Option (List ℕ)) → TellsBytes taken → RunsBad left left_new taken taken → ⊥

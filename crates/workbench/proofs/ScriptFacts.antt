@@ -14,7 +14,7 @@ use Rattle.script_text.specs.Lines.{before_first_line, lines_of}
 use Rattle.script_text.specs.Forms.{Sort}
 use Rattle.script_text.specs.Expressions.{HasExpression}
 use Rattle.script_text.specs.Commands.{SpellsAs, an_edit, a_text, a_scan}
-use Rattle.script_text.specs.Scripts.{Read, nothing, Takes, passes, adds, TakesAll, none, more, SpellsScript}
+use Rattle.script_text.specs.Scripts.{Read, nothing, ReadsLine, passes, adds, TakesAll, none, more, SpellsScript}
 use Rattle.replies.specs.Blocks.{IsProperCommand, IsProperBlock}
 
 -- ---- lines
@@ -57,7 +57,7 @@ all_push : {X : Type 0} (P : X → Type 0) (xs : List X) (x : X) → AllByRecurs
 all_push P [] x all here = (here, tt)
 all_push P (y ∷ xs) x all here = (all.0, all_push P xs x all.1 here)
 
-takes_one : (old new : Read) (line : List ℕ) → IsByteLine line → AllByRecursion IsProperBlock old.blocks → Takes old line new
+takes_one : (old new : Read) (line : List ℕ) → IsByteLine line → AllByRecursion IsProperBlock old.blocks → ReadsLine old line new
     → AllByRecursion IsProperBlock new.blocks
 takes_one old new line is all (passes form) = all
 takes_one old new line is all (adds sort command form room spelled) = all_push IsProperBlock old.blocks (Alone command) all

@@ -7,7 +7,8 @@ use Rattle.edit_entry.specs.BadEntries.{IsRefusedFor}
 use Rattle.edit_entry.proofs.EntryLaws.{IsEntry, IsNone, no_entry, one_cause, entry_or_none}
 use Rattle.edit_entry.proofs.laws.entry_or_cause.Goals as goal
 
-named : (words : List ℕ) → IsEntry words ⊎ IsNone words → ((edit : Edit) × IsSound edit × (words ≡ entry_of edit)) ⊎ ((cause : BadEntry) × IsRefusedFor words cause)
+named : (words : List ℕ) → IsEntry words ⊎ IsNone words → ((edit : Edit) × IsSound edit × (words ≡ entry_of edit)) ⊎
+    ((cause : BadEntry) × IsRefusedFor words cause)
 named words (inl entry) = inl (entry.edit, entry.sound, entry.is)
 named words (inr none) = inr (none.cause, none.is)
 
