@@ -191,7 +191,7 @@ ended_cause words small ends = (small, no_reason (text_in words) ends, λ is. en
 pub ended_line : (words : List ℕ) → ¬ IsLengthTooLong words → ¬ IsLine (text_in words) → Answer words (Err NotCanonical)
 ended_line words small ends = gives_cause words NotCanonical (ended_cause words small ends)
 
-unread_go : (words : List ℕ) (why : BadEdit) → ¬ IsLengthTooLong words → IsLine (text_in words) → reading.Fails {A = Edit} why (edit_of (text_in words))
+unread_go : (words : List ℕ) (why : BadEdit) → ¬ IsLengthTooLong words → IsLine (text_in words) → reading.IsRefusal {A = Edit} why (edit_of (text_in words))
     → Answer words (Err (refusal_of why))
 unread_go words (bad_edit.Shape offset) small line read = gives_cause words (Text (bad_edit.Shape offset)) (small, (line, read))
 unread_go words (bad_edit.BadName offset) small line read = gives_cause words (Text (bad_edit.BadName offset)) (small, (line, read))
@@ -202,7 +202,7 @@ unread_go words bad_edit.NoMemory small line read = no_memory words
 
 -- a text that was not read
 pub unread : (words : List ℕ) (why : BadEdit) (r : Result Edit BadEntry) → ¬ IsLengthTooLong words → IsLine (text_in words)
-    → reading.Fails {A = Edit} why (edit_of (text_in words)) → IsErrAnd r (λ e. e ≡ refusal_of why) → Answer words r
+    → reading.IsRefusal {A = Edit} why (edit_of (text_in words)) → IsErrAnd r (λ e. e ≡ refusal_of why) → Answer words r
 unread words why (Ok edit) small line read is = absurd is
 unread words why (Err e) small line read is = subst (λ (d : BadEntry). Answer words (Err d)) (sym is) (unread_go words why small line read)
 
