@@ -1,7 +1,7 @@
 //! The words of rows.
 
 use crate::faults::{told_each_read, told_each_size, told_each_write, told_faulty};
-use crate::runs::{told_end, told_run, told_words};
+use crate::runs::{told_end, told_letters, told_run, told_words};
 use crate::scripts::{long_of, script_of};
 use crate::sinks::{told_broken_writer, told_plain_sink, told_sink, told_writer};
 use crate::sources::{told_broken_reader, told_plain_source, told_reader, told_source};
@@ -39,6 +39,7 @@ fn answer_faulty(alloc: Global, word: &str, rest: &str) -> Result<String, AllocE
 /// - `long COUNT;FRONT;PART;END`: the same for the front, as many times the part, and the end.
 /// - `end COUNT;FRONT;PART;END`: the same with the last three lines alone, and how many there are.
 /// - `words WORD ..;SCRIPT`: the same with more words of the command line.
+/// - `letters COUNT`: whether the tokens of so many letters are told as they are worked out line by line.
 /// - `faulty SIZE;READS;WRITES;SCRIPT`: the same where the source and the sink move so many bytes at most at a
 ///   time, and fail at the calls with these numbers.
 /// - `reads SCRIPT`: whether the run ends in a fault of the source at each of its calls, byte by byte.
@@ -63,6 +64,7 @@ pub(crate) fn answer(alloc: Global, row: &str) -> Result<String, AllocError> {
         "long" => told_run(alloc, &long_of(alloc, rest)?),
         "end" => told_end(alloc, &long_of(alloc, rest)?),
         "words" => told_words(alloc, rest),
+        "letters" => told_letters(alloc, rest),
         _ => answer_faulty(alloc, word, rest),
     }
 }

@@ -2,7 +2,7 @@
 
 ghost use Rattle.std.specs.Prelude.{◌<◌, length};
 
-use crate::scripts::{field, script_of, told_lines};
+use crate::scripts::{field, number_in, script_of, told_lines};
 use bench_io::{PlainSink, PlainSource};
 use std::alloc::{AllocError, Global};
 use workbench::{Status, run};
@@ -72,4 +72,33 @@ pub(crate) fn told_end(alloc: Global, script: &[u8]) -> Result<String, AllocErro
     let count = lines.matches('|').count();
     let last = last_three(alloc, &lines, count)?;
     format!(in alloc; "{:?} {count} lines, the last {last}", outcome.status)
+}
+
+/// The output for a rule of a letter, and then so many of it to scan, worked out line by line.
+fn lines_of_letters(alloc: Global, count: u64) -> Result<String, AllocError> {
+    let mut lines = format!(in alloc; "version 1\ntokens 1 count {count}\n")?;
+    for (at, end) in (0..count).zip(1..=count) {
+        lines.push_str(&format!(in alloc; "token \"a\" {at} {end}\n")?)?;
+    }
+    Ok(lines)
+}
+
+/// The script for a rule of a letter, and then so many of it to scan.
+fn script_of_letters(alloc: Global, count: u64) -> Result<String, AllocError> {
+    let mut script = String::from_str(alloc, "rule START ::= \"a\"\ntokens ")?;
+    for _ in 0..count {
+        script.push_str("a")?;
+    }
+    Ok(script)
+}
+
+/// Whether so many letters are told as so many tokens.
+pub(crate) fn told_letters(alloc: Global, count: &str) -> Result<String, AllocError> {
+    let count = number_in(count);
+    let script = script_of_letters(alloc, count)?;
+    let outcome = outcome_of(alloc, script.as_bytes())?;
+    if outcome.written.as_slice() == lines_of_letters(alloc, count)?.as_bytes() {
+        return String::from_str(alloc, "as worked out");
+    }
+    told(alloc, &outcome)
 }
