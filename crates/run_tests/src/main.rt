@@ -1,7 +1,8 @@
 //! The top call, row by row: writes each row of the input again with how the run ends and what it writes.
 //!
 //! Runs are over sources and sinks in memory, which are tried alone too. A row is a word and what stands behind it;
-//! `rows` has the words. In rows and answers a bar ends a line. The output that is wanted was worked out from the definitions.
+//! `rows` has the words. In rows and answers a bar ends a line, and `␉` in a script is a tab. The output that is
+//! wanted was worked out from the definitions.
 #![tactic(auto)]
 
 mod faults;

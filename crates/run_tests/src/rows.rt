@@ -38,8 +38,8 @@ fn answer_faulty(alloc: Global, word: &str, rest: &str) -> Result<String, AllocE
 /// - `run SCRIPT`: how the run ends, and what it writes.
 /// - `long COUNT;FRONT;PART;END`: the same for the front, as many times the part, and the end.
 /// - `end COUNT;FRONT;PART;END`: the same with the last three lines alone, and how many there are.
-/// - `letters COUNT`: whether a run that scans so many letters writes the line of each, worked out one by one.
 /// - `words WORD ..;SCRIPT`: the same with more words of the command line.
+/// - `letters COUNT`: whether the tokens of so many letters are told as they are worked out line by line.
 /// - `faulty SIZE;READS;WRITES;SCRIPT`: the same where the source and the sink move so many bytes at most at a
 ///   time, and fail at the calls with these numbers.
 /// - `reads SCRIPT`: whether the run ends in a fault of the source at each of its calls, byte by byte.
@@ -63,8 +63,8 @@ pub(crate) fn answer(alloc: Global, row: &str) -> Result<String, AllocError> {
         "run" => told_run(alloc, &script_of(alloc, rest)?),
         "long" => told_run(alloc, &long_of(alloc, rest)?),
         "end" => told_end(alloc, &long_of(alloc, rest)?),
-        "letters" => told_letters(alloc, rest),
         "words" => told_words(alloc, rest),
+        "letters" => told_letters(alloc, rest),
         _ => answer_faulty(alloc, word, rest),
     }
 }

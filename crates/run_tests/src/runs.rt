@@ -2,7 +2,7 @@
 
 ghost use Rattle.std.specs.Prelude.{◌<◌, length};
 
-use crate::scripts::{field, long_of, number_in, script_of, told_lines};
+use crate::scripts::{field, number_in, script_of, told_lines};
 use bench_io::{PlainSink, PlainSource};
 use std::alloc::{AllocError, Global};
 use workbench::{Status, run};
@@ -74,23 +74,31 @@ pub(crate) fn told_end(alloc: Global, script: &[u8]) -> Result<String, AllocErro
     format!(in alloc; "{:?} {count} lines, the last {last}", outcome.status)
 }
 
-/// The output for a rule of a letter, and then so many of it to scan.
+/// The output for a rule of a letter, and then so many of it to scan, worked out line by line.
 fn lines_of_letters(alloc: Global, count: u64) -> Result<String, AllocError> {
     let mut lines = format!(in alloc; "version 1\ntokens 1 count {count}\n")?;
-    for at in 0..count {
-        lines.push_str(&format!(in alloc; "token \"a\" {at} {}\n", at + 1)?)?;
+    for (at, end) in (0..count).zip(1..=count) {
+        lines.push_str(&format!(in alloc; "token \"a\" {at} {end}\n")?)?;
     }
     Ok(lines)
 }
 
-/// Whether so many letters are told as so many tokens, each with its ends.
-pub(crate) fn told_letters(alloc: Global, row: &str) -> Result<String, AllocError> {
-    let count = number_in(row);
-    let script = format!(in alloc; "{count};rule START ::= \"a\"|tokens ;a;")?;
-    let outcome = outcome_of(alloc, &long_of(alloc, &script)?)?;
-    let lines = lines_of_letters(alloc, count)?;
-    match outcome.written.as_slice() == lines.as_bytes() {
-        true => format!(in alloc; "{count} as worked out"),
-        false => format!(in alloc; "{count} DIFFER"),
+/// The script for a rule of a letter, and then so many of it to scan.
+fn script_of_letters(alloc: Global, count: u64) -> Result<String, AllocError> {
+    let mut script = String::from_str(alloc, "rule START ::= \"a\"\ntokens ")?;
+    for _ in 0..count {
+        script.push_str("a")?;
     }
+    Ok(script)
+}
+
+/// Whether so many letters are told as so many tokens.
+pub(crate) fn told_letters(alloc: Global, count: &str) -> Result<String, AllocError> {
+    let count = number_in(count);
+    let script = script_of_letters(alloc, count)?;
+    let outcome = outcome_of(alloc, script.as_bytes())?;
+    if outcome.written.as_slice() == lines_of_letters(alloc, count)?.as_bytes() {
+        return String::from_str(alloc, "as worked out");
+    }
+    told(alloc, &outcome)
 }

@@ -1,7 +1,8 @@
-//! The readers of texts, row by row: writes each row of the input again with what is read of it.
+//! The readers of texts and the entries of the log, row by row: writes each row of the input again with what is
+//! read of it.
 //!
-//! A row is a word and what stands behind it; `rows` has the words. The output that is wanted was worked out from
-//! the definitions.
+//! A row is a word and what stands behind it; `rows` has the words, and `signs` says what stands for bytes that
+//! cannot be seen. The output that is wanted was worked out from the definitions.
 #![tactic(auto)]
 
 mod edits;
