@@ -1,4 +1,3 @@
-pub mod OneScan
 pub mod OneReply
 pub mod TokenKinds
 pub mod KnownReplies

@@ -23,7 +23,7 @@ use Rattle.replies.specs.declared.reply.Reply.{Reply}
 use Rattle.replies.specs.declared.reply.Reply.TheVariants.{Refused, Parse as Parsing, Tokens as Scanning}
 use Rattle.replies.specs.Replies.{kinds_of, IsRefusedFor, IsResult, IsParse, too_large, forest, no_sentence, IsOutcome, scan, parse, IsReply, taken, refused}
 use Rattle.replies.specs.Replies.{parsed, scanned}
-use Rattle.replies.proofs.OneScan.{one_scan}
+use Rattle.isg_scan.proofs.OneScan.{one_scan}
 
 -- ---- forests are told by their nodes
 
