@@ -60,40 +60,53 @@ fn judge_all(
     told_rows(alloc, &items, &scan, dropped_of(&modify))
 }
 
-/// What is told of the rows that the edit leaves. Then both grammars have it.
-fn judged(
+/// A grammar, and the same grammar, which is to have the next edit first.
+#[derive(Drop)]
+pub(crate) struct Grammars {
+    now: Grammar,
+    next: Grammar,
+}
+
+impl Grammars {
+    pub(crate) fn empty(alloc: Global) -> Result<Grammars, AllocError> {
+        let now = Grammar::empty(alloc)?;
+        let next = Grammar::empty(alloc)?;
+        Ok(Grammars { now, next })
+    }
+}
+
+/// What is told of the rows that the edit leaves in the grammar, where the next grammar has it.
+fn judge_edit(
     alloc: Global,
     grammar: &mut Grammar,
-    next: &mut Grammar,
+    next: &Grammar,
     edit: &Edit,
 ) -> Result<String, Refusal>
     requires { IsProper edit.now }
 {
-    take(alloc, next, edit)?;
     let ready = prepared(alloc, grammar, edit)?;
     let told = judge_all(alloc, grammar, next, touch_of(&ready))?;
-    take(alloc, grammar, edit)?;
+    Ok(told)
+}
+
+/// What is told of the rows that the edit leaves. Then both grammars have it.
+fn judged(alloc: Global, grammars: &mut Grammars, edit: &Edit) -> Result<String, Refusal>
+    requires { IsProper edit.now }
+{
+    take(alloc, &mut grammars.next, edit)?;
+    let told = judge_edit(alloc, &mut grammars.now, &grammars.next, edit)?;
+    take(alloc, &mut grammars.now, edit)?;
     Ok(told)
 }
 
 /// The same of the edit of a line.
-fn judged_line(
-    alloc: Global,
-    grammar: &mut Grammar,
-    next: &mut Grammar,
-    line: &str,
-) -> Result<String, Refusal> {
+fn judged_line(alloc: Global, grammars: &mut Grammars, line: &str) -> Result<String, Refusal> {
     let edit = proper(alloc, line)?;
-    judged(alloc, grammar, next, &edit)
+    judged(alloc, grammars, &edit)
 }
 
-fn told_edit(
-    alloc: Global,
-    grammar: &mut Grammar,
-    next: &mut Grammar,
-    line: &str,
-) -> Result<String, AllocError> {
-    match judged_line(alloc, grammar, next, line) {
+fn told_edit(alloc: Global, grammars: &mut Grammars, line: &str) -> Result<String, AllocError> {
+    match judged_line(alloc, grammars, line) {
         Ok(told) => Ok(told),
         Err(Refusal::NoMemory) => Err(AllocError),
         Err(_) => String::from_str(alloc, " refused"),
@@ -101,25 +114,19 @@ fn told_edit(
 }
 
 /// Empty grammars in place of the old ones.
-fn told_new(
-    alloc: Global,
-    grammar: &mut Grammar,
-    next: &mut Grammar,
-) -> Result<String, AllocError> {
-    *grammar = Grammar::empty(alloc)?;
-    *next = Grammar::empty(alloc)?;
+fn told_new(alloc: Global, grammars: &mut Grammars) -> Result<String, AllocError> {
+    *grammars = Grammars::empty(alloc)?;
     Ok(String::new(alloc))
 }
 
 /// The answer to the question. Both grammars are the same before and after it.
 pub(crate) fn answer(
     alloc: Global,
-    grammar: &mut Grammar,
-    next: &mut Grammar,
+    grammars: &mut Grammars,
     question: &str,
 ) -> Result<String, AllocError> {
     match question.strip_prefix("edit ") {
-        Some(line) => told_edit(alloc, grammar, next, line),
-        None => told_new(alloc, grammar, next),
+        Some(line) => told_edit(alloc, grammars, line),
+        None => told_new(alloc, grammars),
     }
 }

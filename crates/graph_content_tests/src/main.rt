@@ -13,22 +13,25 @@ mod judging;
 mod rows;
 mod scan_rows;
 
-use edit_log::Grammar;
-use judging::answer;
+use judging::{Grammars, answer};
 use std::io;
 
+/// Writes the question with its answer.
+fn answer_one(rt: &HostRuntime, grammars: &mut Grammars, question: &str) -> io::Result<()> {
+    let answer = answer(rt.alloc(), grammars, question)?;
+    println!(rt; "{question} =>{answer}")
+}
+
 /// Writes each of the questions with its answer.
-fn answer_all(rt: &HostRuntime, questions: &str) -> io::Result<()> {
-    let mut grammar = Grammar::empty(rt.alloc())?;
-    let mut next = Grammar::empty(rt.alloc())?;
+fn answer_all(rt: &HostRuntime, grammars: &mut Grammars, questions: &str) -> io::Result<()> {
     for question in questions.lines() {
-        let answer = answer(rt.alloc(), &mut grammar, &mut next, question)?;
-        println!(rt; "{question} =>{answer}")?;
+        answer_one(rt, grammars, question)?;
     }
     Ok(())
 }
 
 fn main(rt: HostRuntime) -> io::Result<()> {
     let questions = io::read_to_string(rt.alloc(), rt.stdin())?;
-    answer_all(&rt, &questions)
+    let mut grammars = Grammars::empty(rt.alloc())?;
+    answer_all(&rt, &mut grammars, &questions)
 }

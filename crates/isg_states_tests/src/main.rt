@@ -16,17 +16,22 @@ use asking::answer;
 use edit_log::Grammar;
 use std::io;
 
+/// Writes the question with its answer.
+fn answer_one(rt: &HostRuntime, grammar: &mut Grammar, question: &str) -> io::Result<()> {
+    let answer = answer(rt.alloc(), grammar, question)?;
+    println!(rt; "{question} =>{answer}")
+}
+
 /// Writes each of the questions with its answer.
-fn answer_all(rt: &HostRuntime, questions: &str) -> io::Result<()> {
-    let mut grammar = Grammar::empty(rt.alloc())?;
+fn answer_all(rt: &HostRuntime, grammar: &mut Grammar, questions: &str) -> io::Result<()> {
     for question in questions.lines() {
-        let answer = answer(rt.alloc(), &mut grammar, question)?;
-        println!(rt; "{question} =>{answer}")?;
+        answer_one(rt, grammar, question)?;
     }
     Ok(())
 }
 
 fn main(rt: HostRuntime) -> io::Result<()> {
     let questions = io::read_to_string(rt.alloc(), rt.stdin())?;
-    answer_all(&rt, &questions)
+    let mut grammar = Grammar::empty(rt.alloc())?;
+    answer_all(&rt, &mut grammar, &questions)
 }
