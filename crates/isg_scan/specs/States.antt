@@ -9,11 +9,11 @@ use Rattle.isg_states.specs.declared.scan_key.ScanKey.{ScanKey}
 use Rattle.isg_states.specs.declared.scan_key.ScanKey.TheVariants.{Start, Set}
 use Rattle.isg_states.specs.Marks.{ListsMarks}
 use Rattle.isg_states.specs.Expansion.{Range, AreMarks, LeadsTo}
-use Rattle.isg_states.specs.Winners.{Ends, Accepts}
+use Rattle.isg_states.specs.Winners.{HasLast, Accepts}
 
 -- what a piece that ends in the state is: what its winner is, or nothing where no definition matches it
 abbrev pub IsAccepted : Grammar → ScanKey → Option DefKind → Type 0
-IsAccepted grammar key accepted = MatchOption accepted ((definition : DefId) → Ends grammar key definition → ⊥)
+IsAccepted grammar key accepted = MatchOption accepted ((definition : DefId) → HasLast grammar key definition → ⊥)
     (λ kind. (winner : DefId) × Accepts grammar key winner × (kind_of grammar winner ≡ Some kind))
 
 -- the byte leads from the state to exactly these marks, of which there are some
@@ -39,7 +39,8 @@ pub record AreStates (grammar : Grammar) (keys : List ScanKey) (accepted : List 
   pub start : slice_get keys 0 ≡ Some Start
   pub marks : (key : ScanKey) → Contains keys key → AreMarks grammar key
   pub size : length accepted ≡ length keys
-  pub accepts : (number : ℕ) (key : ScanKey) (kind : Option DefKind) → slice_get keys number ≡ Some key → slice_get accepted number ≡ Some kind → IsAccepted grammar key kind
+  pub accepts : (number : ℕ) (key : ScanKey) (kind : Option DefKind) → slice_get keys number ≡ Some key → slice_get accepted number ≡ Some kind
+      → IsAccepted grammar key kind
 
 -- the states with what they accept and where their bytes lead, by what the graph was asked for
 pub record Knows (grammar : Grammar) (asked keys : List ScanKey) (accepted : List (Option DefKind)) (table : List ℕ) : Type 0 where
