@@ -5,7 +5,7 @@ use Rattle.edit_log.specs.declared.definitions.DefKind.{DefKind}
 use Rattle.edit_log.specs.History.{Grammar}
 use Rattle.isg_states.specs.declared.scan_key.ScanKey.{ScanKey}
 use Rattle.isg_states.specs.declared.scan_key.ScanKey.TheVariants.{Set}
-use Rattle.isg_states.specs.After.{AreBytes}
+use Rattle.grammar_text.specs.Pieces.{AreBytes}
 use Rattle.isg_scan.specs.States.{TellsEntry, Knows}
 use Rattle.isg_scan.specs.Walks.{best_with, IsWalk, IsWalked}
 use Rattle.isg_scan.proofs.WalkSteps.{walk_more, walk_stops}

@@ -10,7 +10,8 @@ use Rattle.edit_log.specs.Tokens.{IsMatched, IsWinner}
 use Rattle.isg_states.specs.declared.mark.Mark.{Mark}
 use Rattle.isg_states.specs.declared.scan_key.ScanKey.{ScanKey}
 use Rattle.isg_states.specs.declared.scan_key.ScanKey.TheVariants.{Start, Set}
-use Rattle.isg_states.specs.After.{IsAfter, AreBytes}
+use Rattle.isg_states.specs.After.{IsAfter}
+use Rattle.grammar_text.specs.Pieces.{AreBytes}
 use Rattle.isg_states.specs.Expansion.{LeadsTo}
 use Rattle.isg_states.proofs.PositionsAfter.{from_first, to_first, from_longer, to_longer, from_match, from_accepts}
 use Rattle.isg_states.proofs.MarkLists.{relist, list_none, contains_none}

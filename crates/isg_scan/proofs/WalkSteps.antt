@@ -12,7 +12,8 @@ use Rattle.edit_log.specs.Tokens.{IsMatched, IsWinner}
 use Rattle.isg_states.specs.declared.mark.Mark.{Mark}
 use Rattle.isg_states.specs.declared.scan_key.ScanKey.{ScanKey}
 use Rattle.isg_states.specs.declared.scan_key.ScanKey.TheVariants.{Start, Set}
-use Rattle.isg_states.specs.After.{IsAfter, AreBytes}
+use Rattle.isg_states.specs.After.{IsAfter}
+use Rattle.grammar_text.specs.Pieces.{AreBytes}
 use Rattle.isg_states.specs.Expansion.{LeadsTo}
 use Rattle.isg_scan.specs.Reach.{Meets}
 use Rattle.isg_scan.specs.States.{LeadsToSet, IsAccepted, KeepsNumbers}

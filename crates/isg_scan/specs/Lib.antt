@@ -4,3 +4,4 @@ pub mod States
 pub mod Walks
 pub mod Asked
 pub mod Taken
+pub mod Knowing

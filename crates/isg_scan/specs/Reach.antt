@@ -17,8 +17,8 @@ use Rattle.isg_states.specs.After.{IsAfter}
 -- piece that it takes to what comes behind. Where it is refused it takes no piece.
 pub data ComesTo (grammar : Grammar) : (room : ℕ) → (text left : List ℕ) → Type 0 where
   here : {room : ℕ} {text : List ℕ} → ComesTo grammar room text text
-  past_skip : {room : ℕ} {text piece rest left : List ℕ} {winner : DefId} → IsLongest grammar text piece rest → IsWinner grammar piece winner → kind_of grammar winner ≡ Some skip
-      → ComesTo grammar room rest left → ComesTo grammar room text left
+  past_skip : {room : ℕ} {text piece rest left : List ℕ} {winner : DefId} → IsLongest grammar text piece rest → IsWinner grammar piece winner
+      → kind_of grammar winner ≡ Some skip → ComesTo grammar room rest left → ComesTo grammar room text left
   past_token : {room : ℕ} {text piece rest left : List ℕ} {winner : DefId} {kind : SymbolId} → IsLongest grammar text piece rest → IsWinner grammar piece winner
       → kind_of grammar winner ≡ Some (token_of kind) → ComesTo grammar room rest left → ComesTo grammar (room + 1) text left
 

@@ -39,7 +39,8 @@ pub record AreStates (grammar : Grammar) (keys : List ScanKey) (accepted : List 
   pub start : slice_get keys 0 ≡ Some Start
   pub marks : (key : ScanKey) → Contains keys key → AreMarks grammar key
   pub size : length accepted ≡ length keys
-  pub accepts : (number : ℕ) (key : ScanKey) (kind : Option DefKind) → slice_get keys number ≡ Some key → slice_get accepted number ≡ Some kind → IsAccepted grammar key kind
+  pub accepts : (number : ℕ) (key : ScanKey) (kind : Option DefKind) → slice_get keys number ≡ Some key → slice_get accepted number ≡ Some kind
+      → IsAccepted grammar key kind
 
 -- the states with what they accept and where their bytes lead, by what the graph was asked for
 pub record Knows (grammar : Grammar) (asked keys : List ScanKey) (accepted : List (Option DefKind)) (table : List ℕ) : Type 0 where

@@ -17,7 +17,8 @@ pub(crate) type Led = (u8, u8, ScanKey);
 
 /// The range that has the byte.
 fn range_of(ranges: &[Led], byte: u8) -> Option<&Led>
-    ensures { MatchOption result ((range : Range) → Contains ranges.now range → HasByte range byte → ⊥) (λ found. Contains ranges.now found.now × HasByte found.now byte) }
+    ensures { MatchOption result ((range : Range) → Contains ranges.now range → HasByte range byte → ⊥)
+        (λ found. Contains ranges.now found.now × HasByte found.now byte) }
 {
     for range in ranges {
         if range.0 <= byte && byte <= range.1 {

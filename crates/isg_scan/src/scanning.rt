@@ -37,7 +37,8 @@ fn take_piece(
     let DefKind::Token(kind) = kind else {
         return Ok(());
     };
-    if tokens.len() == TOKEN_LIMIT {
+    let is_full = tokens.len() == TOKEN_LIMIT;
+    if is_full {
         return Err(ScanError::TooManyTokens {
             offset: from as u32,
         });

@@ -5,6 +5,7 @@ ghost use Rattle.isg_states.specs.declared.scan_key.ScanKey.{ScanKey};
 ghost use Rattle.isg_states.specs.Expansion.{AreMarks};
 ghost use Rattle.live_graph.specs.Asking.{AsksScan};
 ghost use Rattle.isg_scan.specs.Asked.{Stands, AsksOnly};
+ghost use Rattle.isg_scan.specs.Knowing.{KnowsOf};
 ghost use Rattle.isg_scan.specs.States.{IsAccepted, IsTable, AreStates, KnowsNothingYet, Knows, KeepsNumbers, LeadsToState, IsFilled};
 
 use crate::leading::led;
@@ -113,13 +114,14 @@ impl States {
         byte: u8,
         steps: &mut Steps<L>,
     ) -> Result<u32, NoMemory>
-        requires knows { Knows (G.means graph.old).grammar (G.means graph.old).scans.keys self.old.keys.keys self.old.accepted.items self.old.table.items }
+        requires knows { KnowsOf (G.means graph.old) self.old }
         requires state { state < length self.old.keys.keys }
-        ensures asks { OnOk result ((key : ScanKey) → slice_get self.old.keys.keys state ≡ Some key → AsksScan (G.means graph.old) key (G.means graph.new) steps.old steps.new) }
+        ensures asks { OnOk result ((key : ScanKey) → slice_get self.old.keys.keys state ≡ Some key
+            → AsksScan (G.means graph.old) key (G.means graph.new) steps.old steps.new) }
         ensures stands { Stands (G.means graph.old) (G.means graph.new) }
         ensures never_back { steps.old ≤ steps.new }
         ensures keeps { OnOk result (KeepsNumbers self.old.keys.keys self.new.keys.keys) }
-        ensures knows { OnOk result (Knows (G.means graph.new).grammar (G.means graph.new).scans.keys self.new.keys.keys self.new.accepted.items self.new.table.items) }
+        ensures knows { OnOk result (KnowsOf (G.means graph.new) self.new) }
         ensures entry { IfOk result (λ entry. (0 < entry) × (slice_get self.new.table.items (256 * state + byte) ≡ Some entry)) }
     {
         match led(graph, &self.keys.as_slice()[state], byte, steps)? {
@@ -143,13 +145,14 @@ impl States {
         byte: u8,
         steps: &mut Steps<L>,
     ) -> Result<u32, NoMemory>
-        requires knows { Knows (G.means graph.old).grammar (G.means graph.old).scans.keys self.old.keys.keys self.old.accepted.items self.old.table.items }
+        requires knows { KnowsOf (G.means graph.old) self.old }
         requires state { state < length self.old.keys.keys }
-        ensures asks { OnOk result (AsksOnly (λ key. slice_get self.old.keys.keys state ≡ Some key) (G.means graph.old) (G.means graph.new) steps.old steps.new) }
+        ensures asks { OnOk result (AsksOnly (λ key. slice_get self.old.keys.keys state ≡ Some key)
+            (G.means graph.old) (G.means graph.new) steps.old steps.new) }
         ensures stands { Stands (G.means graph.old) (G.means graph.new) }
         ensures never_back { steps.old ≤ steps.new }
         ensures keeps { OnOk result (KeepsNumbers self.old.keys.keys self.new.keys.keys) }
-        ensures knows { OnOk result (Knows (G.means graph.new).grammar (G.means graph.new).scans.keys self.new.keys.keys self.new.accepted.items self.new.table.items) }
+        ensures knows { OnOk result (KnowsOf (G.means graph.new) self.new) }
         ensures entry { IfOk result (λ entry. (0 < entry) × (slice_get self.new.table.items (256 * state + byte) ≡ Some entry)) }
     {
         let known = self.table[ROW * state + usize::from(byte)];

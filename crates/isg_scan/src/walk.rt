@@ -3,7 +3,7 @@
 ghost use Rattle.std.specs.Prelude.{◌≡◌, ◌≤◌, ◌<◌, ◌+◌, ◌^◌, ℕ, IfOk, OnOk, length, slice_get, Option, Some};
 ghost use Rattle.isg_scan.specs.Asked.{Stands, AsksOnly};
 ghost use Rattle.isg_scan.specs.Reach.{Meets};
-ghost use Rattle.isg_scan.specs.States.{Knows};
+ghost use Rattle.isg_scan.specs.Knowing.{KnowsOf};
 ghost use Rattle.isg_scan.specs.Walks.{IsWalk, IsWalked, best_with};
 
 use crate::states::{NOWHERE, ROW, States};
@@ -45,7 +45,7 @@ fn with_byte(accepted: &[Option<DefKind>], walk: Walk, state: usize) -> Walk
 /// Reads on as far as the table tells: to the end of the text, or to a byte that leads nowhere or for which the
 /// graph has to be asked. The graph is there for the contract, which says what the table means.
 fn read_on<G: Graph>(_graph: &G, states: &States, text: &[u8], walk: Walk) -> Walk
-    requires knows { Knows (G.means _graph.now).grammar (G.means _graph.now).scans.keys states.now.keys.keys states.now.accepted.items states.now.table.items }
+    requires knows { KnowsOf (G.means _graph.now) states.now }
     requires walk { IsWalk (G.means _graph.now).grammar (G.means _graph.now).scans.keys states.now.keys.keys text.now walk.at walk.state walk.best }
     ensures walk { IsWalk (G.means _graph.now).grammar (G.means _graph.now).scans.keys states.now.keys.keys text.now result.at result.state result.best }
     ensures on { walk.at ≤ result.at }
@@ -71,9 +71,9 @@ pub(crate) fn longest<G: Graph, L: Ledger>(
     text: &[u8],
     steps: &mut Steps<L>,
 ) -> Result<Option<Piece>, NoMemory>
-    requires knows { Knows (G.means graph.old).grammar (G.means graph.old).scans.keys states.old.keys.keys states.old.accepted.items states.old.table.items }
+    requires knows { KnowsOf (G.means graph.old) states.old }
     ensures walked { IfOk result (IsWalked (G.means graph.new).grammar (G.means graph.new).scans.keys text.now) }
-    ensures knows { OnOk result (Knows (G.means graph.new).grammar (G.means graph.new).scans.keys states.new.keys.keys states.new.accepted.items states.new.table.items) }
+    ensures knows { OnOk result (KnowsOf (G.means graph.new) states.new) }
     ensures asks { OnOk result (AsksOnly (Meets (G.means graph.old).grammar text.now) (G.means graph.old) (G.means graph.new) steps.old steps.new) }
     ensures stands { Stands (G.means graph.old) (G.means graph.new) }
     ensures never_back { steps.old ≤ steps.new }

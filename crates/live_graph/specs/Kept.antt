@@ -33,7 +33,8 @@ HoldsKernels grammar kept = (key : List Item) (expansion : Expansion) → Contai
 
 -- at this place the state stands with its expansion
 abbrev pub StandsScan : Grammar → List (ScanKey × ScanExpansion) → ScanKey → (place : ℕ) → Type 0
-StandsScan grammar kept key place = (expansion : ScanExpansion) × (slice_get kept place ≡ Some (key, expansion)) × IsScanExpansionOf grammar key expansion.ranges
+StandsScan grammar kept key place =
+    (expansion : ScanExpansion) × (slice_get kept place ≡ Some (key, expansion)) × IsScanExpansionOf grammar key expansion.ranges
 
 -- at this place the kernel stands with its expansion
 abbrev pub StandsKernel : Grammar → List (List Item × Expansion) → List Item → (place : ℕ) → Type 0

@@ -58,8 +58,8 @@ pub(crate) fn place_of_kernel<L: Ledger>(
     if let Some(place) = kept.get_index_of(key) {
         return Ok(place);
     }
-    let own = key.clone()?;
+    let copy = key.clone()?;
     let expansion = expand(*kept.allocator(), grammar, key, steps)?;
-    let (place, _) = kept.insert_full(own, expansion)?;
+    let (place, _) = kept.insert_full(copy, expansion)?;
     Ok(place)
 }

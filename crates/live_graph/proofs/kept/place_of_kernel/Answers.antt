@@ -21,20 +21,20 @@ returns-in_err-place-clause-holds g c = λ key expansion there. c.requires.holds
 
 pub returns-clause-stands : goal.returns-clause-stands
 returns-clause-stands g c =
-    let put = is_put (pointwise item_eq) (lists_equiv item_equiv) kernel_eq-decides c.args.kept.now.entries c.insert_full.new.self.entries c.args.key.now c.in_ok-own.own c.in_ok-expansion.expansion c.in_ok-place.place
-    c.in_ok-own.ensures.cases (sym c.in_default.ensures.index) c.in_ok-place.ensures.entries c.in_ok-place.ensures.index in
+    let put = is_put (pointwise item_eq) (lists_equiv item_equiv) kernel_eq-decides c.args.kept.now.entries c.insert_full.new.self.entries c.args.key.now c.in_ok-copy.copy c.in_ok-expansion.expansion c.in_ok-place.place
+    c.in_ok-copy.ensures.cases (sym c.in_default.ensures.index) c.in_ok-place.ensures.entries c.in_ok-place.ensures.index in
     (c.in_ok-expansion.expansion, put.at, c.in_ok-expansion.ensures.expansion)
 
 pub returns-clause-asks : goal.returns-clause-asks
 returns-clause-asks g c =
-    let put = is_put (pointwise item_eq) (lists_equiv item_equiv) kernel_eq-decides c.args.kept.now.entries c.insert_full.new.self.entries c.args.key.now c.in_ok-own.own c.in_ok-expansion.expansion c.in_ok-place.place
-    c.in_ok-own.ensures.cases (sym c.in_default.ensures.index) c.in_ok-place.ensures.entries c.in_ok-place.ensures.index in
+    let put = is_put (pointwise item_eq) (lists_equiv item_equiv) kernel_eq-decides c.args.kept.now.entries c.insert_full.new.self.entries c.args.key.now c.in_ok-copy.copy c.in_ok-expansion.expansion c.in_ok-place.place
+    c.in_ok-copy.ensures.cases (sym c.in_default.ensures.index) c.in_ok-place.ensures.entries c.in_ok-place.ensures.index in
     record { joins = inr (put.new_key, put.keys_are); works = inr (put.new_key, put.keys_are, c.in_ok-expansion.ensures.steps) }
 
 pub returns-clause-holds : goal.returns-clause-holds
 returns-clause-holds g c = λ key expansion there.
-    let put = is_put (pointwise item_eq) (lists_equiv item_equiv) kernel_eq-decides c.args.kept.now.entries c.insert_full.new.self.entries c.args.key.now c.in_ok-own.own c.in_ok-expansion.expansion c.in_ok-place.place
-    c.in_ok-own.ensures.cases (sym c.in_default.ensures.index) c.in_ok-place.ensures.entries c.in_ok-place.ensures.index in
+    let put = is_put (pointwise item_eq) (lists_equiv item_equiv) kernel_eq-decides c.args.kept.now.entries c.insert_full.new.self.entries c.args.key.now c.in_ok-copy.copy c.in_ok-expansion.expansion c.in_ok-place.place
+    c.in_ok-copy.ensures.cases (sym c.in_default.ensures.index) c.in_ok-place.ensures.entries c.in_ok-place.ensures.index in
     elim (put.others key expansion there) [
       | inl old ↦ c.requires.holds key expansion old
       | inr new ↦ subst (λ e. IsExpansionOf c.args.grammar.now.grammar.rules e.0 e.1) new c.in_ok-expansion.ensures.expansion
