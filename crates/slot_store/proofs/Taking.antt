@@ -31,7 +31,8 @@ module _ (z : Site) (v w u : View) (work : IsAtWork z v) (from at n : ℕ) (is :
         sizes = refl;
         log = refl;
         share = refl;
-        pins_left = refl; log_words = refl;
+        pins_left = refl;
+        log_words = refl;
         pinned = refl;
         steps = ap (λ (y : Sizes). w.steps ++ claimed y at n ∷ []) same;
         entries = λ _ i. i;

@@ -18,7 +18,7 @@ pub load_place-met-requires-clause-share : goal.load_place-met-requires-clause-s
 load_place-met-requires-clause-share g c = let k = c.loop-step.invariant.walking in (work_on c.args.site (view_of c.args.hand.now) (view_of c.loop-step.hand) k.added c.requires k.moves).share
 
 pub load_place-met-requires-clause-place : goal.load_place-met-requires-clause-place
-load_place-met-requires-clause-place g c = let z = c.args.site in let k = c.loop-step.invariant.walking in let same : sizes_of c.loop-step.hand ≡ z.sizes = k.moves.sizes ∙ c.requires.sizes in 
+load_place-met-requires-clause-place g c = let z = c.args.site in let k = c.loop-step.invariant.walking in let same : sizes_of c.loop-step.hand ≡ z.sizes = k.moves.sizes ∙ c.requires.sizes in
     let inside = on_the_page z (view_of c.args.hand.now) (view_of c.loop-step.hand) c.args.key.now c.loop-step._step c.loop-step.place k c.loop-step-test.true in
     subst (λ (y : Sizes). (c.args.site.page < y.versions) × (c.loop-step.place < y.places)) (sym same) (c.args.site.page_in, inside)
 
