@@ -33,6 +33,7 @@ module _ (z : Site) (v w u : View) (work : IsAtWork z v) (from at n : ℕ) (is :
         share = refl;
         pins_left = refl;
         log_words = refl;
+        quiet = (tt, tt);
         pinned = refl;
         steps = ap (λ (y : Sizes). w.steps ++ claimed y at n ∷ []) same;
         entries = λ _ i. i;
