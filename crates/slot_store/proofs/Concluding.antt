@@ -46,10 +46,12 @@ module _ (z : Site) (v w x y : View) (row : ℕ) (key payload : List ℕ) (claim
   made p = let at = p.is.1 in record {
     place = at.0;
     row = row;
-    before = walked at.1;
-    claim = claimed_in at.1;
-    words = λ index lt. in_right _ claim.added (write.added ++ at.1) (in_left _ write.added at.1 (write.stores index lt));
-    entry = ap walked at.2 ∙ regroup at.1 (published z.sizes z.page at.0 row 0);
+    inside = at.1;
+    row_in = claim.is.0;
+    before = walked at.2;
+    claim = claimed_in at.2;
+    words = λ index lt. in_right _ claim.added (write.added ++ at.2) (in_left _ write.added at.2 (write.stores index lt));
+    entry = ap walked at.3 ∙ regroup at.2 (published z.sizes z.page at.0 row 0);
   }
 
   -- and then the row was given back
@@ -70,8 +72,10 @@ module _ (z : Site) (v w x y : View) (row : ℕ) (key payload : List ℕ) (claim
     record {
       place = at.0;
       row = at.1;
-      entry = met_on z y y p.added (ended p.added) g at.0 at.1 at.2;
-      words = λ index t. (key_on z y y p.added (ended p.added) g at.1 key at.3 index t).0;
+      inside = at.2;
+      row_in = at.3;
+      entry = met_on z y y p.added (ended p.added) g at.0 at.1 at.4;
+      words = λ index t. (key_on z y y p.added (ended p.added) g at.1 key at.5 index t).0;
     },
     gives_back p.added,
   )

@@ -55,13 +55,12 @@ module _ (z : Sizes) (v : View) (made pins : ℕ) (d : Divides z v made pins) wh
 pub one_more : {A : Type 0} (l m : List A) (a : A) (n : ℕ) → m ≡ l ++ a ∷ [] → length l + 1 ≡ n → length m + 1 ≡ n + 1
 one_more l m a n e h = let k = ap length e ∙ length-append l (a ∷ []) in omega arith
 
-pub is_user : {C : Type 0} (z : Sizes) (table : TableId × ℕ) (p : Pass C) (v : View) (t : TableId × ℕ) → pass_of p ≡ pass_meaning v t → v.sizes ≡ z → v.log ≡ [] → v.share ≢ 0 → v.own ≡ None → t ≡ table → IsUserOf z table p
-is_user z table p v t e sizes log share own same = record {
+pub is_user : {C : Type 0} (z : Sizes) (table : TableId × ℕ) (p : Pass C) (v : View) (t : TableId × ℕ) → pass_of p ≡ pass_meaning v t → v.sizes ≡ z → v.log ≡ [] → v.share ≢ 0 → t ≡ table → IsUserOf z table p
+is_user z table p v t e sizes log share same = record {
   sizes = ap (λ (m : PassMeaning). m.sizes) e ∙ sizes;
   table_is = ap (λ (m : PassMeaning). m.table) e ∙ same;
   log = ap (λ (m : PassMeaning). m.log) e ∙ log;
   share = λ n. share (sym (ap (λ (m : PassMeaning). m.share) e) ∙ n);
-  own = ap (λ (m : PassMeaning). m.own) e ∙ own;
 }
 
 pub users_on : {C : Type 0} (z : Sizes) (table : TableId × ℕ) (l m : List (Pass C)) (p : Pass C) → m ≡ l ++ p ∷ [] → Each (IsUserOf z table) l → IsUserOf z table p → Each (IsUserOf z table) m

@@ -17,7 +17,7 @@ module _ (z : Site) (v w : View) (t s : TableId × ℕ) (added : List Step) (mov
   extends = λ i. record { sizes = moves.sizes i; page = z.page; log = moves.log i; table = same i; share = moves.share i; pins_left = moves.pins_left i; own = own i; steps = moves.steps i }
 
   pub finds : (F : List Entry → List ℕ → Type 0) (key : List ℕ) (look : Look) → v.sizes ≡ z.sizes → LookIs z.sizes z.page added (F v.log) key look → Finds F (meaning_of v z.page t) (meaning_of w z.page s) key look
-  finds F key look e is = (added, extends, subst (λ (y : Sizes). LookIs y z.page added (F v.log) key look) (sym e) is)
+  finds F key look e is = (added, extends, moves.quiet, subst (λ (y : Sizes). LookIs y z.page added (F v.log) key look) (sym e) is)
 
   pub publishes : (key payload : List ℕ) (put : Put) → v.sizes ≡ z.sizes → PutIs z.sizes z.page added key payload put → Publishes (meaning_of v z.page t) (meaning_of w z.page s) key payload put
-  publishes key payload put e is = (added, extends, subst (λ (y : Sizes). PutIs y z.page added key payload put) (sym e) is)
+  publishes key payload put e is = (added, extends, moves.quiet, subst (λ (y : Sizes). PutIs y z.page added key payload put) (sym e) is)

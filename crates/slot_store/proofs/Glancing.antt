@@ -30,7 +30,7 @@ module _ (z : Site) (F : List Entry → List ℕ → Type 0) (v w : View) (key b
     added = k.added;
     moves = k.moves;
     own = k.own;
-    is = record { step = i.0; inside = i.1; at = i.2; empty = i.3; passed = holds_others z w k.added key i.0 i.4 };
+    is = record { step = i.0; inside = i.1; at = i.2; before = i.3.0; empty = i.3.1; passed = holds_others z w i.3.0 key i.0 i.3.2 };
   }
 
   pub page_full : Walks z v w key seen.Full → Glances z (F v.log) v w key buffer glance.PageFull
@@ -69,7 +69,9 @@ module _ (z : Site) (F : List Entry → List ℕ → Type 0) (v w : View) (key b
         record {
           place = k.is.2.0;
           row = row;
-          entry = in_left _ k.added c.added k.is.2.1;
+          inside = k.is.2.1;
+          row_in = k.is.0;
+          entry = in_left _ k.added c.added k.is.2.2;
           words = λ index lt. (read index lt).0;
           fitting = subst (λ (log : List Entry). F log (row_of key (take n buffer))) (c.moves.log ∙ k.moves.log)
               (subst (F x.log) (content_is key (take n buffer)) (told.fitting row (slice_index (row_of key (take n buffer))) (knows_row z x row c.version) (λ index lt. (read index (omega arith)).1)));

@@ -9,12 +9,13 @@ use Rattle.pin_rule.specs.declared.view.WordFact.{WordFact}
 use Rattle.pin_rule.specs.declared.view.Step.{Step}
 use Rattle.pin_rule.specs.Lists.{In}
 use Rattle.pin_rule.specs.Told.{IsTold, Tells}
-use Rattle.pin_rule.proofs.Lists.{in_left, in_right}
+use Rattle.pin_rule.proofs.Lists.{each_append, in_left, in_right}
+use Rattle.slot_store.specs.Quiet.{IsQuiet}
 use Rattle.slot_store.specs.Answers.{MetRow}
 use Rattle.slot_store.specs.Walks.{IsAtWork, Moves, Reads, ReadsKey, ReadsOther, MeetsOther, Passed}
 
 pub stays : (v : View) → Moves v v []
-stays v = record { sizes = refl; log = refl; share = refl; pins_left = refl; log_words = refl; pinned = refl; steps = sym (append-nil v.steps); entries = λ _ i. i; words = λ _ i. i }
+stays v = record { sizes = refl; log = refl; share = refl; pins_left = refl; log_words = refl; quiet = tt; pinned = refl; steps = sym (append-nil v.steps); entries = λ _ i. i; words = λ _ i. i }
 
 pub moves_on : (u v w : View) (a b : List Step) → Moves u v a → Moves v w b → Moves u w (a ++ b)
 moves_on u v w a b h k = record {
@@ -23,6 +24,7 @@ moves_on u v w a b h k = record {
   share = k.share ∙ h.share;
   pins_left = k.pins_left ∙ h.pins_left;
   log_words = k.log_words ∙ h.log_words;
+  quiet = each_append IsQuiet a b h.quiet k.quiet;
   pinned = k.pinned ∙ h.pinned;
   steps = k.steps ∙ ap (λ (l : List Step). l ++ b) h.steps ∙ append_assoc u.steps a b;
   entries = λ e i. k.entries e (h.entries e i);

@@ -68,7 +68,7 @@ module _ (z : Site) (v w : View) (key : List ℕ) (steps place : ℕ) (walk : Wa
     added = walk.added ++ b;
     moves = moves_on v w u walk.added b walk.moves m;
     own = ap (λ (x : View). x.own) is ∙ walk.own;
-    is = (steps, lt, sym walk.at, (later u walk.added b).steps _ (inl (ap (loaded_place z.sizes z.page place) (sym e))), passed_on z w u walk.added (walk.added ++ b) (earlier w u walk.added b m) key steps walk.passed);
+    is = (steps, lt, sym walk.at, (walk.added, ap (λ (k : ℕ). walk.added ++ loaded_place z.sizes z.page place k ∷ []) e, passed_on z w u walk.added walk.added (record { steps = λ _ i. i; entries = m.entries; words = m.words }) key steps walk.passed));
   }
 
   module _ (u x : View) (row : ℕ) (m : Meets z w u place row) (same : Type 0) (c : Compares z u x row key same) where
@@ -92,12 +92,12 @@ module _ (z : Site) (v w : View) (key : List ℕ) (steps place : ℕ) (walk : Wa
     key_all is = key_on z x x (m.added ++ c.added) (walk.added ++ (m.added ++ c.added)) (later x walk.added (m.added ++ c.added)) row key
         (key_on z x x c.added (m.added ++ c.added) (later x m.added c.added) row key (c.yes is))
 
-    pub found : same → row < z.sizes.rows → In (loaded_place z.sizes z.page place (suc row)) m.added → Walks z v x key (seen.Same row)
-    found yes_it_is inside loaded = record {
+    pub found : steps < z.sizes.places → same → row < z.sizes.rows → In (loaded_place z.sizes z.page place (suc row)) m.added → Walks z v x key (seen.Same row)
+    found lt yes_it_is inside loaded = record {
       added = walk.added ++ (m.added ++ c.added);
       moves = moves_all;
       own = own_all;
-      is = (inside, c.version, (place, in_right _ walk.added (m.added ++ c.added) (in_left _ m.added c.added loaded)), key_all yes_it_is);
+      is = (inside, c.version, (place, on_the_page z v w key steps place walk lt, in_right _ walk.added (m.added ++ c.added) (in_left _ m.added c.added loaded)), key_all yes_it_is);
     }
 
     pub goes_on : ¬ same → (next : ℕ) → next ≡ on_path z.sizes key (steps + 1) → Walking z v x key (steps + 1) next

@@ -41,7 +41,9 @@ module _ (z : Site) (v : View) (work : IsAtWork z v) where
       sizes = refl;
       log = refl;
       share = refl;
-      pins_left = refl; log_words = refl;
+      pins_left = refl;
+      log_words = refl;
+      quiet = (tt, tt);
       pinned = refl;
       steps = ap (λ (y : Sizes). v.steps ++ loaded_row y row index n ∷ []) work.sizes;
       entries = λ _ i. i;
@@ -60,7 +62,9 @@ module _ (z : Site) (v : View) (work : IsAtWork z v) where
       sizes = refl;
       log = refl;
       share = refl;
-      pins_left = refl; log_words = refl;
+      pins_left = refl;
+      log_words = refl;
+      quiet = (tt, tt);
       pinned = refl;
       steps = ap (λ (y : Sizes). v.steps ++ loaded_place y z.page place n ∷ []) work.sizes;
       entries = λ e i. entry_grows (version_at v z.page) v.entries place n e i;
@@ -88,7 +92,9 @@ moves_publish z v place row n sizes = record {
   sizes = refl;
   log = refl;
   share = refl;
-  pins_left = refl; log_words = refl;
+  pins_left = refl;
+  log_words = refl;
+  quiet = (tt, tt);
   pinned = refl;
   steps = ap (λ (y : Sizes). v.steps ++ published y z.page place row n ∷ []) sizes;
   entries = λ e i. entry_grows (version_at v z.page) v.entries place (exchanged (suc row) n) e i;
@@ -100,7 +106,9 @@ moves_give_back z v row sizes = record {
   sizes = refl;
   log = refl;
   share = refl;
-  pins_left = refl; log_words = refl;
+  pins_left = refl;
+  log_words = refl;
+  quiet = (tt, tt);
   pinned = refl;
   steps = ap (λ (y : Sizes). v.steps ++ gave_back y row ∷ []) sizes;
   entries = λ _ i. i;

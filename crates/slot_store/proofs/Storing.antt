@@ -54,7 +54,9 @@ module _ (z : Site) (v w u : View) (work : IsAtWork z v) (row from : ℕ) (words
       sizes = refl;
       log = refl;
       share = refl;
-      pins_left = refl; log_words = refl;
+      pins_left = refl;
+      log_words = refl;
+      quiet = (tt, tt);
       pinned = refl;
       steps = ap (λ (y : Sizes). w.steps ++ wrote_row y row (from + i) x ∷ []) sizes;
       entries = λ _ e. e;

@@ -31,7 +31,9 @@ module _ (z : Site) (v w u : View) (work : IsAtWork z v) (from at n : ℕ) (is :
         sizes = refl;
         log = refl;
         share = refl;
-        pins_left = refl; log_words = refl;
+        pins_left = refl;
+        log_words = refl;
+        quiet = (tt, tt);
         pinned = refl;
         steps = ap (λ (y : Sizes). w.steps ++ claimed y at n ∷ []) same;
         entries = λ _ i. i;

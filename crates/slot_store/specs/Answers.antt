@@ -13,6 +13,7 @@ use Rattle.slot_store.specs.declared.page.Put.TheVariants as put
 use Rattle.slot_store.specs.Meaning.{Meaning, extended}
 use Rattle.slot_store.specs.Keys.{row_of, head_of, TellsKey}
 use Rattle.slot_store.specs.Logs.{IsLogLoad}
+use Rattle.slot_store.specs.Quiet.{IsQuiet}
 
 module _ (z : Sizes) (page : ℕ) (added : List Step) where
   -- a load of the place, or an exchange there, met the row
@@ -34,17 +35,11 @@ module _ (z : Sizes) (page : ℕ) (added : List Step) where
   pub record IsFound (fits : List ℕ → Type 0) (key payload : List ℕ) : Type 0 where
     pub place : ℕ
     pub row : ℕ
+    pub inside : place < z.places
+    pub row_in : row < z.rows
     pub entry : In (loaded_place z page place (suc row)) added
     pub words : (index : ℕ) → index < length (row_of key payload) → ReadWord row index (slice_index (row_of key payload) index)
     pub fitting : fits (row_of key payload)
-
-  -- the place on the key's path was empty, and all places before it held other keys
-  pub record IsInitial (key : List ℕ) (place : ℕ) : Type 0 where
-    pub step : ℕ
-    pub inside : step < z.places
-    pub at : on_path z key step ≡ place
-    pub empty : In (loaded_place z page place 0) added
-    pub passed : (before : ℕ) → before < step → HoldsOther key (on_path z key before)
 
   abbrev pub IsPageFull : List ℕ → Type 0
   IsPageFull key = (place : ℕ) → place < z.places → HoldsOther key place
@@ -53,6 +48,8 @@ module _ (z : Sizes) (page : ℕ) (added : List Step) where
   pub record IsMade (key payload : List ℕ) : Type 0 where
     pub place : ℕ
     pub row : ℕ
+    pub inside : place < z.places
+    pub row_in : row < z.rows
     pub before : List Step
     pub claim : In (claimed z row 0) before
     pub words : (index : ℕ) → index < length (row_of key payload) → In (wrote_row z row index (slice_index (row_of key payload) index)) before
@@ -61,6 +58,8 @@ module _ (z : Sizes) (page : ℕ) (added : List Step) where
   pub record IsAlready (key : List ℕ) : Type 0 where
     pub place : ℕ
     pub row : ℕ
+    pub inside : place < z.places
+    pub row_in : row < z.rows
     pub entry : MetRow place row
     pub words : ReadKey row key
 
@@ -71,6 +70,15 @@ module _ (z : Sizes) (page : ℕ) (added : List Step) where
   -- the row that was claimed was given back at last
   abbrev pub GivesBack : Type 0
   GivesBack = (row : ℕ) × (before : List Step) × In (claimed z row 0) before × (added ≡ before ++ gave_back z row ∷ [])
+
+-- the last step met the place on the key's path empty, and the steps before it met other keys at all places before
+pub record IsInitial (z : Sizes) (page : ℕ) (added : List Step) (key : List ℕ) (place : ℕ) : Type 0 where
+  pub step : ℕ
+  pub inside : step < z.places
+  pub at : on_path z key step ≡ place
+  pub before : List Step
+  pub empty : added ≡ before ++ loaded_place z page place 0 ∷ []
+  pub passed : (earlier : ℕ) → earlier < step → HoldsOther z page before key (on_path z key earlier)
 
 module _ (z : Sizes) (page : ℕ) (added : List Step) where
   abbrev pub LookIs : (List ℕ → Type 0) → List ℕ → Look → Type 0
@@ -85,12 +93,12 @@ module _ (z : Sizes) (page : ℕ) (added : List Step) where
   PutIs key payload put.PoolFull = IsPoolFull z page added
   PutIs key payload put.TooWide = added ≡ []
 
--- the call added these steps, and its answer rests on them
+-- the call added these steps, none of which pins or changes a version, and its answer rests on them
 abbrev pub Finds : (List Entry → List ℕ → Type 0) → Meaning → Meaning → List ℕ → Look → Type 0
-Finds fits m n key look = (added : List Step) × (n ≡ extended m added) × LookIs m.sizes m.page added (fits m.log) key look
+Finds fits m n key look = (added : List Step) × (n ≡ extended m added) × Each IsQuiet added × LookIs m.sizes m.page added (fits m.log) key look
 
 abbrev pub Publishes : Meaning → Meaning → List ℕ → List ℕ → Put → Type 0
-Publishes m n key payload put = (added : List Step) × (n ≡ extended m added) × PutIs m.sizes m.page added key payload put
+Publishes m n key payload put = (added : List Step) × (n ≡ extended m added) × Each IsQuiet added × PutIs m.sizes m.page added key payload put
 
 -- the call added loads of log words alone
 abbrev pub ReadsLog : Meaning → Meaning → Type 0

@@ -1,5 +1,6 @@
 pub mod Meaning
 pub mod Keys
+pub mod Quiet
 pub mod Logs
 pub mod Answers
 pub mod Walks

@@ -8,6 +8,7 @@ use pin_rule::hand::Hand;
 use pin_rule::sizes::Sizes;
 
 /// No pin is left.
+#[derive(Clone, Copy, Debug, PartialEq, Eq, Drop)]
 pub struct Spent;
 
 /// A user of the shared table that has no pin. The buffer is for the payload

@@ -18,7 +18,7 @@ pub load_place-met-requires-clause-share : goal.load_place-met-requires-clause-s
 load_place-met-requires-clause-share g c = let k = c.loop-step.invariant.walking in (work_on c.args.site (view_of c.args.hand.now) (view_of c.loop-step.hand) k.added c.requires k.moves).share
 
 pub load_place-met-requires-clause-place : goal.load_place-met-requires-clause-place
-load_place-met-requires-clause-place g c = let z = c.args.site in let k = c.loop-step.invariant.walking in let same : sizes_of c.loop-step.hand ≡ z.sizes = k.moves.sizes ∙ c.requires.sizes in 
+load_place-met-requires-clause-place g c = let z = c.args.site in let k = c.loop-step.invariant.walking in let same : sizes_of c.loop-step.hand ≡ z.sizes = k.moves.sizes ∙ c.requires.sizes in
     let inside = on_the_page z (view_of c.args.hand.now) (view_of c.loop-step.hand) c.args.key.now c.loop-step._step c.loop-step.place k c.loop-step-test.true in
     subst (λ (y : Sizes). (c.args.site.page < y.versions) × (c.loop-step.place < y.places)) (sym same) (c.args.site.page_in, inside)
 
@@ -49,7 +49,7 @@ returns-then-has_key-clause-walked g c =
     let z = c.args.site in let v = view_of c.args.hand.now in let w = view_of c.loop-step.hand in let u = view_of c.load_place-met.new.self in let n : ℕ = c.load_place-met.result in let place : ℕ = c.loop-step.place in
     let k = c.loop-step.invariant.walking in let work = work_on z v w k.added c.requires k.moves in let m = meets z w u work place n c.load_place-met.ensures.view (n - 1) (row_met n c.if-met-eq0.false) in
     let inside : n - 1 < z.sizes.rows = range _ z w u place (n - 1) work m (told_at g.C.Content.lawful g.C.Content.fits z u (work_on z w u m.added work m.moves) c.load_place-met.ensures.told) in
-    found z v w c.args.key.now c.loop-step._step place k u (view_of c.has_key.new.hand) (n - 1) m (IsTrue c.has_key.result) c.has_key.ensures.compared c.if-has_key.true inside (loaded_it z w u work place n c.load_place-met.ensures.view (n - 1) (row_met n c.if-met-eq0.false))
+    found z v w c.args.key.now c.loop-step._step place k u (view_of c.has_key.new.hand) (n - 1) m (IsTrue c.has_key.result) c.has_key.ensures.compared c.loop-step-test.true c.if-has_key.true inside (loaded_it z w u work place n c.load_place-met.ensures.view (n - 1) (row_met n c.if-met-eq0.false))
 
 pub next_place-place-requires : goal.next_place-place-requires
 next_place-place-requires g c = on_the_page c.args.site (view_of c.args.hand.now) (view_of c.loop-step.hand) c.args.key.now c.loop-step._step c.loop-step.place c.loop-step.invariant.walking c.loop-step-test.true

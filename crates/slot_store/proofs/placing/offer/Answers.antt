@@ -10,7 +10,7 @@ use Rattle.slot_store.proofs.Passing.{loads, loaded_on}
 use Rattle.slot_store.proofs.placing.offer.Goals as goal
 
 pub load_place-met-requires-clause-place : goal.load_place-met-requires-clause-place
-load_place-met-requires-clause-place g c = let z = c.args.site in let p = c.requires.place in  let on = offers.inside _ z _ _ _ _ _ _ p.3 in
+load_place-met-requires-clause-place g c = let z = c.args.site in let p = c.requires.place in let on = offers.inside _ z _ _ _ _ _ _ p.3 in
     subst (λ (y : Sizes). (c.args.site.page < y.versions) × (c.args.place < y.places)) (sym c.requires.work.sizes) (c.args.site.page_in, on)
 
 pub load_place-met-requires-clause-keeps : goal.load_place-met-requires-clause-keeps
@@ -22,7 +22,7 @@ returns-then-met-ne0-clause-offer g c = let r = c.load_place-met in
     offers.taken _ c.args.site (view_of c.args.hand.now) (view_of r.new.self) c.args.place c.args.row r.result c.requires.work r.ensures.view c.if-met-ne0.true (told_at g.C.Content.lawful g.C.Content.fits c.args.site (view_of r.new.self) (loaded_on c.args.site (view_of c.args.hand.now) (view_of r.new.self) c.requires.work c.args.place r.result r.ensures.view) r.ensures.told)
 
 pub publish-requires-clause-place : goal.publish-requires-clause-place
-publish-requires-clause-place g c = let z = c.args.site in let r = c.load_place-met in let p = c.requires.place in  let on = offers.inside _ z _ _ _ _ _ _ p.3 in
+publish-requires-clause-place g c = let z = c.args.site in let r = c.load_place-met in let p = c.requires.place in let on = offers.inside _ z _ _ _ _ _ _ p.3 in
     let same = (loads z (view_of c.args.hand.now) (view_of r.new.self) c.requires.work c.args.place r.result r.ensures.view).sizes ∙ c.requires.work.sizes in
     subst (λ (y : Sizes). (c.args.site.page < y.versions) × (c.args.place < y.places)) (sym same) (c.args.site.page_in, on)
 

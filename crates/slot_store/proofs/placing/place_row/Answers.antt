@@ -21,7 +21,7 @@ offer-met-requires-clause-place g c = let k = c.loop-step.invariant.walking in l
 
 pub returns-then-met-eq0-clause-placed : goal.returns-then-met-eq0-clause-placed
 returns-then-met-eq0-clause-placed g c =
-    here c.args.site (view_of c.args.hand.now) (view_of c.loop-step.hand) c.args.key.now c.args.payload.now c.args.row c.loop-step._step c.loop-step.place c.loop-step.invariant.walking (view_of c.offer-met.new.hand) c.offer-met.result c.offer-met.ensures.offer c.if-met-eq0.true
+    here c.args.site (view_of c.args.hand.now) (view_of c.loop-step.hand) c.args.key.now c.args.payload.now c.args.row c.loop-step._step c.loop-step.place c.loop-step.invariant.walking (view_of c.offer-met.new.hand) c.offer-met.result c.offer-met.ensures.offer c.loop-step-test.true c.if-met-eq0.true
 
 pub returns-clause-placed : goal.returns-clause-placed
 returns-clause-placed g c = full c.args.site (view_of c.args.hand.now) (view_of c.loop-step.hand) c.args.key.now c.args.row c.loop-step._step c.loop-step.place c.loop-step-test.false c.loop-step.invariant.walking
@@ -34,7 +34,7 @@ has_key-requires-clause-row g c = let n : ℕ = c.offer-met.result in (c.offer-m
 
 pub returns-then-has_key-clause-placed : goal.returns-then-has_key-clause-placed
 returns-then-has_key-clause-placed g c = let n : ℕ = c.offer-met.result in
-    already c.args.site (view_of c.args.hand.now) (view_of c.loop-step.hand) c.args.key.now c.args.payload.now c.args.row c.loop-step._step c.loop-step.place c.loop-step.invariant.walking (view_of c.offer-met.new.hand) n c.offer-met.ensures.offer (n - 1)
+    already c.args.site (view_of c.args.hand.now) (view_of c.loop-step.hand) c.args.key.now c.args.payload.now c.args.row c.loop-step._step c.loop-step.place c.loop-step.invariant.walking (view_of c.offer-met.new.hand) n c.offer-met.ensures.offer c.loop-step-test.true (n - 1)
     (row_met n c.if-met-eq0.false) (view_of c.has_key.new.hand) (IsTrue c.has_key.result) c.has_key.ensures.compared c.if-has_key.true
 
 pub next_place-place-requires : goal.next_place-place-requires
