@@ -17,7 +17,7 @@ use Rattle.script_text.specs.declared.bad_script.Refusal.TheVariants.{Wrong, Out
 use Rattle.script_text.specs.Seen.{IsReason, LacksExpression}
 use Rattle.script_text.specs.declared.limits.TheConstants.{TEXT_LIMIT}
 use Rattle.script_text.specs.Forms.{Sort, EditLine, ParseLine, TokensLine}
-use Rattle.script_text.specs.Expressions.{HasExpression}
+use Rattle.script_text.specs.Expressions.{AddsExpression}
 use Rattle.script_text.specs.Texts.{text_written}
 use Rattle.script_text.specs.Commands.{SpellsText, SpellsAs, an_edit, a_text, a_scan, IsWrongText, bad_escape, too_long, IsWrongAs, no_edit, no_expression}
 use Rattle.script_text.specs.Commands.{no_text, no_scan}
@@ -62,7 +62,7 @@ one_command sort line a b (a_scan {written = written} {text = text} p) (a_scan {
 pub not_wrong : (sort : Sort) (line : List ℕ) (command : Command) (kind : BadKind) → SpellsAs sort line command → IsWrongAs sort line kind → ⊥
 not_wrong sort line command kind (an_edit {edit = e} spelled within has) (no_edit none) = none e spelled within
 not_wrong sort line command kind (an_edit {edit = e} spelled within has) (no_expression {edit = other} again too lacks) =
-    lacks (subst HasExpression (one_edit line e other spelled again) has)
+    lacks (subst AddsExpression (one_edit line e other spelled again) has)
 not_wrong sort line command kind (a_text {written = written} {text = text} p) (no_text q) = text_not_wrong written text kind p q
 not_wrong sort line command kind (a_scan {written = written} {text = text} p) (no_scan q) = text_not_wrong written text kind p q
 

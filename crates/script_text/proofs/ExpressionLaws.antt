@@ -8,7 +8,7 @@ use Rattle.regex_ast.specs.Expressions.{Expression}
 use Rattle.regex_ast.specs.declared.bad_regex.BadRegex.{BadRegex}
 use Rattle.regex_ast.specs.Nests.{State, first_state, after_bytes, answer_of}
 use Rattle.regex_ast.proofs.ReadLemmas.{spelled_read, found_answer, only_answer}
-use Rattle.script_text.specs.Expressions.{added_expression, IsExpression, HasExpression}
+use Rattle.script_text.specs.Expressions.{added_expression, IsExpression, AddsExpression}
 
 -- ---- whether there is an expression
 
@@ -25,7 +25,7 @@ text_judged text = by (after_bytes first_state 0 text) refl
     by None is = inr (λ found. let read = spelled_read text found.1.0 found.0 found.1.1 in cc (is, read.3))
     by (Some state) is = ended state (answer_of state (length text)) is refl
 
-pub edit_judged : (edit : Edit) → HasExpression edit ⊎ (HasExpression edit → ⊥)
+pub edit_judged : (edit : Edit) → AddsExpression edit ⊎ (AddsExpression edit → ⊥)
 edit_judged (AddRule rule) = inl tt
 edit_judged (DropRule rule) = inl tt
 edit_judged (AddToken definition) = text_judged definition.expression

@@ -9,7 +9,7 @@ use Rattle.script_text.specs.declared.bad_script.BadKind.{BadKind}
 use Rattle.script_text.specs.declared.bad_script.BadKind.TheVariants.{BadEdit, BadRegex, BadText, TextTooLong}
 use Rattle.script_text.specs.declared.limits.TheConstants.{TEXT_LIMIT}
 use Rattle.script_text.specs.Forms.{Sort, EditLine, ParseLine, TokensLine}
-use Rattle.script_text.specs.Expressions.{HasExpression}
+use Rattle.script_text.specs.Expressions.{AddsExpression}
 use Rattle.script_text.specs.Texts.{text_written}
 
 -- the text that is written so, within the limit
@@ -19,7 +19,7 @@ pub record SpellsText (written text : List ℕ) : Type 0 where
 
 -- the line, which asks for this, is the command
 pub data SpellsAs : Sort → List ℕ → Command → Type 0 where
-  an_edit : {line : List ℕ} {edit : AnEdit} → Spells line edit → IsWithinLimits edit → HasExpression edit → SpellsAs EditLine line (Edit edit)
+  an_edit : {line : List ℕ} {edit : AnEdit} → Spells line edit → IsWithinLimits edit → AddsExpression edit → SpellsAs EditLine line (Edit edit)
   a_text : {line written text : List ℕ} → SpellsText written text → SpellsAs (ParseLine written) line (Parse text)
   a_scan : {line written text : List ℕ} → SpellsText written text → SpellsAs (TokensLine written) line (Tokens text)
 
@@ -31,6 +31,6 @@ pub data IsWrongText : List ℕ → BadKind → Type 0 where
 -- what is wrong with the line, which asks for this and is no command
 pub data IsWrongAs : Sort → List ℕ → BadKind → Type 0 where
   no_edit : {line : List ℕ} → ((edit : AnEdit) → Spells line edit → IsWithinLimits edit → ⊥) → IsWrongAs EditLine line BadEdit
-  no_expression : {line : List ℕ} {edit : AnEdit} → Spells line edit → IsWithinLimits edit → (HasExpression edit → ⊥) → IsWrongAs EditLine line BadRegex
+  no_expression : {line : List ℕ} {edit : AnEdit} → Spells line edit → IsWithinLimits edit → (AddsExpression edit → ⊥) → IsWrongAs EditLine line BadRegex
   no_text : {line written : List ℕ} {kind : BadKind} → IsWrongText written kind → IsWrongAs (ParseLine written) line kind
   no_scan : {line written : List ℕ} {kind : BadKind} → IsWrongText written kind → IsWrongAs (TokensLine written) line kind

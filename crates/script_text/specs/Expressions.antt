@@ -19,5 +19,5 @@ abbrev pub IsExpression : List ℕ → Type 0
 IsExpression text = (e : Expression) × SpellsWithinLimits text e
 
 -- where the edit adds an expression, it is one
-abbrev pub HasExpression : Edit → Type 0
-HasExpression edit = IfSome (added_expression edit) IsExpression
+abbrev pub AddsExpression : Edit → Type 0
+AddsExpression edit = IfSome (added_expression edit) IsExpression

@@ -9,7 +9,7 @@ use Rattle.script_text.specs.declared.form.Line.{Line}
 use Rattle.script_text.specs.declared.form.Line.TheVariants.{PassedOver as passed, Unknown, Command}
 use Rattle.script_text.specs.declared.form.Ask.{Ask}
 use Rattle.script_text.specs.declared.form.Ask.TheVariants.{Edit, Parse, Tokens}
-use Rattle.script_text.specs.Expressions.{HasExpression}
+use Rattle.script_text.specs.Expressions.{AddsExpression}
 use Rattle.script_text.specs.Forms.{Sort, EditLine, ParseLine, TokensLine, Form, PassedOver, OtherWord, Asks}
 
 abbrev pub sort_seen : Ask → Sort
@@ -29,4 +29,4 @@ IsReason IsWrong OutOfMemory = Unit {0}
 
 -- the edit adds something else than an expression
 abbrev pub LacksExpression : AnEdit → BadKind → Type 0
-LacksExpression edit kind = (kind ≡ BadRegex) × (HasExpression edit → ⊥)
+LacksExpression edit kind = (kind ≡ BadRegex) × (AddsExpression edit → ⊥)

@@ -4,7 +4,7 @@ ghost use Rattle.std.specs.Prelude.{◌≡◌, ◌≤◌, length, option_map, If
 ghost use Rattle.grammar_text.specs.Limits.{IsSound};
 ghost use Rattle.grammar_text.specs.Pieces.{IsLine};
 ghost use Rattle.script_text.specs.Forms.{EditLine};
-ghost use Rattle.script_text.specs.Expressions.{added_expression, HasExpression};
+ghost use Rattle.script_text.specs.Expressions.{added_expression, AddsExpression};
 ghost use Rattle.script_text.specs.Commands.{SpellsText, IsWrongText, SpellsAs, IsWrongAs};
 ghost use Rattle.script_text.specs.Seen.{sort_seen, IsReason, LacksExpression};
 
@@ -31,7 +31,7 @@ fn added_expression(edit: &Edit) -> Option<&[u8]>
 /// Refuses an edit that adds something else than an expression.
 fn check_expression(alloc: Global, edit: &Edit) -> Result<(), Refusal>
     requires { IsSound edit.now }
-    ensures has { OnOk result (HasExpression edit.now) }
+    ensures has { OnOk result (AddsExpression edit.now) }
     ensures refused { IfErr result (IsReason (LacksExpression edit.now)) }
 {
     let Some(text) = added_expression(edit) else {

@@ -12,7 +12,7 @@ use Rattle.script_text.specs.declared.command.Block.TheVariants.{Alone}
 use Rattle.script_text.specs.declared.command.Script.{Script}
 use Rattle.script_text.specs.Lines.{before_first_line, lines_of}
 use Rattle.script_text.specs.Forms.{Sort}
-use Rattle.script_text.specs.Expressions.{HasExpression}
+use Rattle.script_text.specs.Expressions.{AddsExpression}
 use Rattle.script_text.specs.Commands.{SpellsAs, an_edit, a_text, a_scan}
 use Rattle.script_text.specs.Scripts.{Read, nothing, ReadsLine, passes, adds, TakesAll, none, more, SpellsScript}
 use Rattle.replies.specs.Blocks.{IsProperCommand, IsProperBlock}
@@ -40,7 +40,7 @@ are_lines (byte ∷ bytes) small = are_lines_go (byte == 10) byte (lines_of byte
 
 -- ---- commands
 
-proper_edit : (edit : AnEdit) → HasExpression edit → HasAdded edit
+proper_edit : (edit : AnEdit) → AddsExpression edit → HasAdded edit
 proper_edit (AddRule r) has = tt
 proper_edit (DropRule r) has = tt
 proper_edit (AddToken d) has = has
