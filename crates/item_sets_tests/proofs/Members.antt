@@ -5,7 +5,7 @@ use Rattle.forest.specs.declared.symbols.TheConstants.{START}
 use Rattle.forest.specs.declared.rules.RuleId.{RuleId}
 use Rattle.forest.specs.declared.rules.Rule.{Rule}
 use Rattle.edit_log.specs.Lookups.{rule_of}
-use Rattle.edit_log.proofs.LiveFacts.{found_there}
+use Rattle.edit_log.proofs.PlainLists.{found}
 use Rattle.item_sets.specs.declared.item.Item.{Item}
 use Rattle.item_sets.specs.Prefixes.{rule_zero, HasRight, whole, live, IsItem}
 
@@ -20,7 +20,7 @@ zero_item rules item zero within =
 
 pub live_item : (rules : List Rule) (item : Item) (r : Rule) → Some r ≡ rule_of rules item.rule → item.dot ≤ length r.right → IsItem rules item
 unfolding rule_id
-live_item rules item r found within =
-    let there = found_there (λ (other : Rule). other.number.0 == item.rule.0) rules r (sym found) in
-    let same : r.number ≡ item.rule = ap rule_id (eqb-true r.number.0 item.rule.0 there.1) in
-    record { right = r.right; has = subst (λ k. HasRight rules k r.right) same (live there.0); within = within }
+live_item rules item r is within =
+    let finds = found (λ (other : Rule). other.number.0 == item.rule.0) rules r (sym is) in
+    let same : r.number ≡ item.rule = ap rule_id (eqb-true r.number.0 item.rule.0 finds.passes) in
+    record { right = r.right; has = subst (λ k. HasRight rules k r.right) same (live finds.there); within = within }
