@@ -30,8 +30,13 @@ fn answer_all(rt: &HostRuntime, grammars: &mut Grammars, questions: &str) -> io:
     Ok(())
 }
 
+/// Begins with an empty grammar.
+fn start(rt: &HostRuntime, questions: &str) -> io::Result<()> {
+    let mut grammars = Grammars::empty(rt.alloc())?;
+    answer_all(rt, &mut grammars, questions)
+}
+
 fn main(rt: HostRuntime) -> io::Result<()> {
     let questions = io::read_to_string(rt.alloc(), rt.stdin())?;
-    let mut grammars = Grammars::empty(rt.alloc())?;
-    answer_all(&rt, &mut grammars, &questions)
+    start(&rt, &questions)
 }

@@ -30,8 +30,13 @@ fn answer_all(rt: &HostRuntime, grammar: &mut Grammar, questions: &str) -> io::R
     Ok(())
 }
 
+/// Begins with an empty grammar.
+fn start(rt: &HostRuntime, questions: &str) -> io::Result<()> {
+    let mut grammar = Grammar::empty(rt.alloc())?;
+    answer_all(rt, &mut grammar, questions)
+}
+
 fn main(rt: HostRuntime) -> io::Result<()> {
     let questions = io::read_to_string(rt.alloc(), rt.stdin())?;
-    let mut grammar = Grammar::empty(rt.alloc())?;
-    answer_all(&rt, &mut grammar, &questions)
+    start(&rt, &questions)
 }
