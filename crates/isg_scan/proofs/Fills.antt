@@ -25,7 +25,8 @@ pub record IsFilledTo (old new : List ℕ) (from place entry : ℕ) : Type 0 whe
 pub filled_none : (list : List ℕ) (from entry : ℕ) → IsFilledTo list list from from entry
 filled_none list from entry = record { size = refl; written = λ p since before. absurd (omega (arith, since, before)); left = λ p other. refl }
 
-pub filled_more : (old new : List ℕ) (from place entry : ℕ) → from ≤ place → place < length old → IsFilledTo old new from place entry → IsFilledTo old (set new place entry) from (place + 1) entry
+pub filled_more : (old new : List ℕ) (from place entry : ℕ) → from ≤ place → place < length old → IsFilledTo old new from place entry
+    → IsFilledTo old (set new place entry) from (place + 1) entry
 filled_more old new from place entry since within is = record {
   size = length-set new place entry ∙ is.size;
   written = λ p from_p before. elim (cases_lt p place) [
@@ -34,7 +35,8 @@ filled_more old new from place entry since within is = record {
         let same : place ≡ p = omega (arith, here, before) in
         subst (λ q. slice_get (set new place entry) q ≡ Some entry) same (set_same new place entry (omega (arith, within, is.size)))
   ];
-  left = λ p other. set_other new place p entry (λ same. other (omega (arith, since, same)) (omega (arith, same))) ∙ is.left p (λ from_p before. other from_p (omega (arith, before)));
+  left = λ p other. set_other new place p entry (λ same. other (omega (arith, since, same)) (omega (arith, same))) ∙ is.left p (λ from_p before. other
+      from_p (omega (arith, before)));
 }
 
 pub filled_all : (old new : List ℕ) (from to place entry : ℕ) → place ≡ to + 1 → IsFilledTo old new from place entry → IsFilled old new from to entry

@@ -17,15 +17,22 @@ module _ (grammar : Grammar) (text : List ℕ) where
   -- no piece is matched
   pub none_is : IsBest grammar text (length text) None → (piece rest : List ℕ) → text ≡ piece ++ rest → IsMatched grammar piece → ⊥
   none_is none piece rest is matched =
-      none (length piece) matched.some (omega (arith, ap length is, length-append piece rest)) (subst (IsMatched grammar) (sym (take_part text piece rest is)) matched)
+      none (length piece) matched.some (omega (arith, ap length is, length-append piece rest)) (subst (IsMatched grammar) (sym (take_part text piece rest
+      is)) matched)
 
-  pub longest_is : (size : ℕ) (kind : DefKind) → IsBest grammar text (length text) (Some (size, kind)) → IsLongest grammar text (take size text) (drop size text)
+  pub longest_is : (size : ℕ) (kind : DefKind) → IsBest grammar text (length text) (Some (size, kind))
+      → IsLongest grammar text (take size text) (drop size text)
   longest_is size kind best =
       let taken : length (take size text) ≡ size = length-take-le size text best.0 in
       record {
         begins = sym (take-append-drop size text);
         matched = best.1.matched;
-        longest = λ longer others is over matched. best.2 (length longer) (omega (arith, over, taken)) (omega (arith, ap length is, length-append longer others))
+        longest = λ longer others is over matched. best.2 (length longer) (omega (arith, over, taken)) (omega (
+          arith,
+          ap length is,
+          length-append longer
+              others,
+        ))
             (subst (IsMatched grammar) (sym (take_part text longer others is)) matched);
       }
 
@@ -38,12 +45,15 @@ module _ (grammar : Grammar) (text : List ℕ) where
 -- ---- where a scan comes to from here
 
 -- of a text with no piece it comes to the text alone
-pub comes_none : (grammar : Grammar) (room : ℕ) (text left : List ℕ) → ((piece rest : List ℕ) → text ≡ piece ++ rest → IsMatched grammar piece → ⊥) → ComesTo grammar room text left → left ≡ text
+pub comes_none : (grammar : Grammar) (room : ℕ) (text left : List ℕ) → ((piece rest : List ℕ) → text ≡ piece ++ rest → IsMatched grammar piece → ⊥)
+    → ComesTo grammar room text left → left ≡ text
 comes_none grammar room text left none here = refl
 comes_none grammar room text left none (past_skip {piece = piece} {rest = rest} longest wins is comes) = absurd (none piece rest longest.begins longest.matched)
-comes_none grammar room text left none (past_token {piece = piece} {rest = rest} longest wins is comes) = absurd (none piece rest longest.begins longest.matched)
+comes_none grammar room text left none (past_token {piece = piece} {rest = rest} longest wins is comes) = absurd (none piece rest longest.begins
+    longest.matched)
 
-pub comes_past_skip : (grammar : Grammar) (room : ℕ) (text left piece rest : List ℕ) (winner : DefId) → IsLongest grammar text piece rest → IsWinner grammar piece winner → kind_of grammar winner ≡ Some skip
+pub comes_past_skip : (grammar : Grammar) (room : ℕ) (text left piece rest : List ℕ) (winner : DefId) → IsLongest grammar text piece rest
+    → IsWinner grammar piece winner → kind_of grammar winner ≡ Some skip
     → ComesTo grammar room text left → (left ≡ text) ⊎ ComesTo grammar room rest left
 comes_past_skip grammar room text left piece rest winner longest wins is here = inl refl
 comes_past_skip grammar room text left piece rest winner longest wins is (past_skip {piece = p} {rest = r} long won k comes) =
@@ -51,7 +61,8 @@ comes_past_skip grammar room text left piece rest winner longest wins is (past_s
 comes_past_skip grammar room text left piece rest winner longest wins is (past_token {piece = p} {rest = r} {winner = w} {kind = x} long won k comes) =
     cc (one_kind grammar text p piece r rest w winner (token_of x) skip long longest won wins k is)
 
-pub comes_past_token : (grammar : Grammar) (room less : ℕ) (text left piece rest : List ℕ) (winner : DefId) (kind : SymbolId) → room ≡ less + 1 → IsLongest grammar text piece rest → IsWinner grammar piece winner
+pub comes_past_token : (grammar : Grammar) (room less : ℕ) (text left piece rest : List ℕ) (winner : DefId) (kind : SymbolId) → room ≡ less + 1
+    → IsLongest grammar text piece rest → IsWinner grammar piece winner
     → kind_of grammar winner ≡ Some (token_of kind) → ComesTo grammar room text left → (left ≡ text) ⊎ ComesTo grammar less rest left
 comes_past_token grammar room less text left piece rest winner kind fewer longest wins is here = inl refl
 comes_past_token grammar room less text left piece rest winner kind fewer longest wins is (past_skip {piece = p} {rest = r} {winner = w} long won k comes) =
@@ -61,7 +72,8 @@ comes_past_token grammar room less text left piece rest winner kind fewer longes
     inr (subst (λ n. ComesTo grammar n rest left) same (subst (λ t. ComesTo grammar own t left) (one_longest grammar text p piece r rest long longest).1 comes))
 
 -- with no room it comes no further than a token
-pub comes_full : (grammar : Grammar) (room : ℕ) (text left piece rest : List ℕ) (winner : DefId) (kind : SymbolId) → room ≡ 0 → IsLongest grammar text piece rest → IsWinner grammar piece winner
+pub comes_full : (grammar : Grammar) (room : ℕ) (text left piece rest : List ℕ) (winner : DefId) (kind : SymbolId) → room ≡ 0
+    → IsLongest grammar text piece rest → IsWinner grammar piece winner
     → kind_of grammar winner ≡ Some (token_of kind) → ComesTo grammar room text left → left ≡ text
 comes_full grammar room text left piece rest winner kind none longest wins is here = refl
 comes_full grammar room text left piece rest winner kind none longest wins is (past_skip {piece = p} {rest = r} {winner = w} long won k comes) =

@@ -17,7 +17,8 @@ pub stands_of : {Base : Type 0} (old new : Meaning Base) (key : ScanKey) (before
 stands_of old new key before after asks = record { grammar = asks.grammar; base = asks.base; kernels = asks.kernels }
 
 module _ (grammar : Grammar) (key : ScanKey) (ranges : List Range) (is : IsScanExpansionOf grammar key ranges) where
-  pub led_range : (range : Range) (byte : ℕ) (copy : ScanKey) → Contains ranges range → HasByte range byte → copy ≡ range.2 → IsLedRange grammar key byte (range.0, range.1, copy)
+  pub led_range : (range : Range) (byte : ℕ) (copy : ScanKey) → Contains ranges range → HasByte range byte → copy ≡ range.2
+      → IsLedRange grammar key byte (range.0, range.1, copy)
   led_range range byte copy there has copied =
       let one = is.each range there in
       record {
@@ -29,5 +30,6 @@ module _ (grammar : Grammar) (key : ScanKey) (ranges : List Range) (is : IsScanE
         target = subst (AreMarks grammar) (sym copied) (range_marks grammar key range one);
       }
 
-  pub led_nowhere : (byte : ℕ) → byte < 256 → ((range : Range) → Contains ranges range → HasByte range byte → ⊥) → (mark : Mark) → LeadsTo grammar key byte mark → ⊥
+  pub led_nowhere : (byte : ℕ) → byte < 256 → ((range : Range) → Contains ranges range → HasByte range byte → ⊥) → (mark : Mark)
+      → LeadsTo grammar key byte mark → ⊥
   led_nowhere byte small none mark leads = let range = is.whole byte mark small leads in none range.0 range.1 (range.2, range.3)

@@ -1,5 +1,6 @@
 -- Reading a byte by the table.
-use Rattle.std.proofs.Common.{◌≡◌, inl, inr, ℕ, suc, ◌+◌, ◌*◌, ◌-◌, ◌<◌, ◌≤◌, List, [], ◌∷◌, length, get_or, Option, Some, slice_get, Result, Ok, Err, OnOk, sym, subst, arith}
+use Rattle.std.proofs.Common.{◌≡◌, inl, inr, ℕ, suc, ◌+◌, ◌*◌, ◌-◌, ◌<◌, ◌≤◌, List, [], ◌∷◌, length, get_or, Option, Some, slice_get, Result, Ok, Err}
+use Rattle.std.proofs.Common.{OnOk, sym, subst, arith}
 use Rattle.std.proofs.lemmas.Option.{slice_get_within, slice_get_cases}
 use Rattle.edit_log.specs.declared.definitions.DefKind.{DefKind}
 use Rattle.edit_log.specs.History.{Grammar}
@@ -26,8 +27,10 @@ bytes_below (b ∷ text) each = (each 0, bytes_below text (λ place. each (suc p
 pub row_there : (table : List ℕ) (states state byte : ℕ) → length table ≡ 256 * states → state < states → byte < 256 → 256 * state + byte < length table
 row_there table states state byte size within less = omega (arith, size, within, less)
 
-module _ (grammar : Grammar) (asked keys : List ScanKey) (accepted : List (Option DefKind)) (table text : List ℕ) (small : AreBytes text) (at state : ℕ) (best : Option (ℕ × DefKind))
-    (knows : Knows grammar asked keys accepted table) (walk : IsWalk grammar asked keys text at state best) (byte entry : ℕ) (here : slice_get text at ≡ Some byte) (less : byte < 256)
+module _ (grammar : Grammar) (asked keys : List ScanKey) (accepted : List (Option DefKind)) (table text : List ℕ) (small : AreBytes text) (at state : ℕ)
+    (best : Option (ℕ × DefKind))
+    (knows : Knows grammar asked keys accepted table) (walk : IsWalk grammar asked keys text at state best) (byte entry : ℕ) (here : slice_get text at ≡
+    Some byte) (less : byte < 256)
     (is : slice_get table (256 * state + byte) ≡ Some entry) where
   tells : TellsEntry grammar keys asked walk.key byte entry
   tells = knows.entries.tells state byte entry walk.key walk.number less is
@@ -38,7 +41,8 @@ module _ (grammar : Grammar) (asked keys : List ScanKey) (accepted : List (Optio
       omega (arith, slice_get_within keys (entry - 2) (Set to.0) to.1, knows.states.size)
 
   pub next_walk : 2 ≤ entry → (next_at next_state : ℕ) (next_best : Option (ℕ × DefKind)) → next_at ≡ at + 1 → next_state ≡ entry - 2
-      → ((kind : Option DefKind) → slice_get accepted (entry - 2) ≡ Some kind → next_best ≡ best_with best (at + 1) kind) → IsWalk grammar asked keys text next_at next_state next_best
+      → ((kind : Option DefKind) → slice_get accepted (entry - 2) ≡ Some kind → next_best ≡ best_with best (at + 1) kind)
+      → IsWalk grammar asked keys text next_at next_state next_best
   next_walk more next_at next_state next_best at_is state_is best_is =
       let to = tells.leads (entry - 2) (omega (arith, more)) in
       let kind = some_at accepted (entry - 2) (next_inside more) in

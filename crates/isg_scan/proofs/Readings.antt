@@ -12,7 +12,8 @@ use Rattle.isg_scan.proofs.AskedKeys.{asks_none, asks_join, stands_same, stands_
 use Rattle.isg_scan.proofs.WalkSteps.{walk_start, walk_asked, state_met}
 
 -- the text was read so far, for which the graph was asked for states that are met in it alone
-pub record IsReading {Base : Type 0} (old now : Meaning Base) (keys : List ScanKey) (accepted : List (Option DefKind)) (table text : List ℕ) (at state : ℕ) (best : Option (ℕ × DefKind))
+pub record IsReading {Base : Type 0} (old now : Meaning Base) (keys : List ScanKey) (accepted : List (Option DefKind)) (table text : List ℕ) (at state : ℕ)
+    (best : Option (ℕ × DefKind))
     (before after : ℕ) : Type 0 where
   pub knows : Knows now.grammar now.scans.keys keys accepted table
   pub walk : IsWalk now.grammar now.scans.keys keys text at state best
@@ -21,7 +22,8 @@ pub record IsReading {Base : Type 0} (old now : Meaning Base) (keys : List ScanK
   pub never_back : before ≤ after
 
 module _ {Base : Type 0} (old : Meaning Base) (text : List ℕ) where
-  pub reading_start : (keys : List ScanKey) (accepted : List (Option DefKind)) (table : List ℕ) (steps : ℕ) → Knows old.grammar old.scans.keys keys accepted table
+  pub reading_start : (keys : List ScanKey) (accepted : List (Option DefKind)) (table : List ℕ) (steps : ℕ)
+      → Knows old.grammar old.scans.keys keys accepted table
       → IsReading old old keys accepted table text 0 0 None steps steps
   reading_start keys accepted table steps knows = record {
     knows = knows;
@@ -32,8 +34,10 @@ module _ {Base : Type 0} (old : Meaning Base) (text : List ℕ) where
   }
 
   -- the entry for the next byte is known now
-  pub reading_asked : (now new : Meaning Base) (keys others : List ScanKey) (accepted kinds : List (Option DefKind)) (table rows : List ℕ) (at state : ℕ) (best : Option (ℕ × DefKind)) (before between after : ℕ)
-      → IsReading old now keys accepted table text at state best before between → at < length text → AsksOnly (λ key. slice_get keys state ≡ Some key) now new between after → Stands now new → between ≤ after
+  pub reading_asked : (now new : Meaning Base) (keys others : List ScanKey) (accepted kinds : List (Option DefKind)) (table rows : List ℕ) (at state : ℕ)
+      (best : Option (ℕ × DefKind)) (before between after : ℕ)
+      → IsReading old now keys accepted table text at state best before between → at < length text
+      → AsksOnly (λ key. slice_get keys state ≡ Some key) now new between after → Stands now new → between ≤ after
       → KeepsNumbers keys others → Knows new.grammar new.scans.keys others kinds rows → IsReading old new others kinds rows text at state best before after
   reading_asked now new keys others accepted kinds table rows at state best before between after reading within asks stands on keeps knows =
       let walk = reading.walk in
@@ -41,7 +45,8 @@ module _ {Base : Type 0} (old : Meaning Base) (text : List ℕ) where
         knows = knows;
         walk = subst (λ grammar. IsWalk grammar new.scans.keys others text at state best) (sym stands.grammar)
             (walk_asked now.grammar now.scans.keys new.scans.keys keys others text at state best asks.kept keeps walk);
-        asks = asks_join (Meets old.grammar text) (λ key. slice_get keys state ≡ Some key) (Meets old.grammar text) old now new before between after (λ key meets. meets)
+        asks = asks_join (Meets old.grammar text) (λ key. slice_get keys state ≡ Some key) (Meets old.grammar text) old now new before between after (λ key
+            meets. meets)
             (λ key at_key. subst (λ grammar. Meets grammar text key) reading.stands.grammar
             (subst (Meets now.grammar text) (same_Some walk.key key (sym walk.number ∙ at_key)) (state_met now.grammar text at walk.key within walk.after)))
             reading.asks asks;

@@ -1,5 +1,6 @@
 -- The state after a part of a text is the set of positions after it.
-use Rattle.std.proofs.Common.{◌≡◌, ◌↔◌, ℕ, ◌<◌, List, [], ◌∷◌, ◌++◌, length, take, drop, Some, None, refl, sym, ap, subst, arith, append_assoc, append-nil, length-append}
+use Rattle.std.proofs.Common.{◌≡◌, ◌↔◌, ℕ, ◌<◌, List, [], ◌∷◌, ◌++◌, length, take, drop, Some, None, refl, sym, ap, subst, arith, append_assoc}
+use Rattle.std.proofs.Common.{append-nil, length-append}
 use Rattle.std.proofs.lemmas.List.{take-append-drop}
 use Rattle.forest.proofs.Ascending.{contains_here}
 use Rattle.edit_log.specs.declared.definitions.DefId.{DefId}
@@ -31,14 +32,16 @@ taken_bytes size text all = first_bytes (take size text) (drop size text) (subst
 -- ---- one byte more
 
 -- where the byte leads from the state are the positions after the part with the byte
-pub leads_after : (grammar : Grammar) (part : List ℕ) (key : ScanKey) (byte : ℕ) (mark : Mark) → IsStateAfter grammar part key → LeadsTo grammar key byte mark ↔ IsAfter grammar (part ++ byte ∷ []) mark
+pub leads_after : (grammar : Grammar) (part : List ℕ) (key : ScanKey) (byte : ℕ) (mark : Mark) → IsStateAfter grammar part key
+    → LeadsTo grammar key byte mark ↔ IsAfter grammar (part ++ byte ∷ []) mark
 leads_after grammar part Start byte mark none = (
   λ leads. subst (λ p. IsAfter grammar (p ++ byte ∷ []) mark) (sym none) (from_first grammar byte mark leads),
   λ after. to_first grammar byte mark (subst (λ p. IsAfter grammar (p ++ byte ∷ []) mark) none after),
 )
 leads_after grammar part (Set marks) byte mark is = (from_longer grammar part marks is.1 byte mark, to_longer grammar part marks is.0 is.1 byte mark)
 
-pub next_state : (grammar : Grammar) (part : List ℕ) (key : ScanKey) (byte : ℕ) (marks : List Mark) → IsStateAfter grammar part key → LeadsToSet grammar key byte marks
+pub next_state : (grammar : Grammar) (part : List ℕ) (key : ScanKey) (byte : ℕ) (marks : List Mark) → IsStateAfter grammar part key
+    → LeadsToSet grammar key byte marks
     → IsStateAfter grammar (part ++ byte ∷ []) (Set marks)
 next_state grammar part key byte marks is leads = (
   omega (arith, length-append part (byte ∷ [])),
@@ -83,12 +86,14 @@ dead_state grammar part (mark ∷ marks) state dead = dead mark ((state.1.member
 
 -- ---- what the state accepts
 
-pub accepted_none : (grammar : Grammar) (part : List ℕ) (marks : List Mark) → AreBytes part → IsStateAfter grammar part (Set marks) → IsAccepted grammar (Set marks) None → IsMatched grammar part → ⊥
+pub accepted_none : (grammar : Grammar) (part : List ℕ) (marks : List Mark) → AreBytes part → IsStateAfter grammar part (Set marks)
+    → IsAccepted grammar (Set marks) None → IsMatched grammar part → ⊥
 accepted_none grammar part marks small is none matched =
     let mark = from_match grammar part matched.definition matched.some small matched.live matched.matches in
     none matched.definition (mark.0, (is.1.members mark.0).1 mark.2, mark.1, mark.3)
 
-pub accepted_some : (grammar : Grammar) (part : List ℕ) (marks : List Mark) (kind : DefKind) → AreBytes part → IsStateAfter grammar part (Set marks) → IsAccepted grammar (Set marks) (Some kind)
+pub accepted_some : (grammar : Grammar) (part : List ℕ) (marks : List Mark) (kind : DefKind) → AreBytes part → IsStateAfter grammar part (Set marks)
+    → IsAccepted grammar (Set marks) (Some kind)
     → (winner : DefId) × IsMatched grammar part × IsWinner grammar part winner × (kind_of grammar winner ≡ Some kind)
 accepted_some grammar part marks kind small is some =
     let wins = from_accepts grammar part marks is.0 small is.1 some.0 some.1 in

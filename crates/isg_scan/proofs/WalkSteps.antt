@@ -1,5 +1,6 @@
 -- Reading a text byte by byte from where a piece begins.
-use Rattle.std.proofs.Common.{◌≡◌, inl, inr, ℕ, ◌+◌, ◌-◌, ◌<◌, ◌≤◌, List, [], ◌∷◌, ◌++◌, length, take, drop, Option, Some, None, slice_get, Contains, refl, sym, ap, ◌∙◌, subst, arith, length-append, length-drop}
+use Rattle.std.proofs.Common.{◌≡◌, inl, inr, ℕ, ◌+◌, ◌-◌, ◌<◌, ◌≤◌, List, [], ◌∷◌, ◌++◌, length, take, drop, Option, Some, None, slice_get, Contains}
+use Rattle.std.proofs.Common.{refl, sym, ap, ◌∙◌, subst, arith, length-append, length-drop}
 use Rattle.std.proofs.lemmas.Bool.{cases_lt}
 use Rattle.std.proofs.lemmas.List.{take-append-drop, take_more, length-take-le}
 use Rattle.std.proofs.Math.Seq.{take-append_seam, take-append-add}
@@ -18,7 +19,8 @@ use Rattle.isg_states.specs.Expansion.{LeadsTo}
 use Rattle.isg_scan.specs.Reach.{Meets}
 use Rattle.isg_scan.specs.States.{LeadsToSet, IsAccepted, KeepsNumbers}
 use Rattle.isg_scan.specs.Walks.{IsStateAfter, NoneMatched, IsBest, best_with, IsWalk, IsWalked}
-use Rattle.isg_scan.proofs.StatesAfter.{taken_bytes, leads_after, next_state, one_state, IsDead, dead_more, dead_unmatched, dead_state, accepted_none, accepted_some}
+use Rattle.isg_scan.proofs.StatesAfter.{taken_bytes, leads_after, next_state, one_state, IsDead, dead_more, dead_unmatched, dead_state, accepted_none}
+use Rattle.isg_scan.proofs.StatesAfter.{accepted_some}
 
 -- ---- parts of a text
 
@@ -44,17 +46,20 @@ none_yet : (grammar : Grammar) (text : List ℕ) → IsBest grammar text 0 None
 none_yet grammar text = λ size above upto. absurd (omega (arith, above, upto))
 
 -- of one more size it is known that it is not matched
-none_longer : (grammar : Grammar) (text : List ℕ) (above upto : ℕ) → NoneMatched grammar text above upto → (IsMatched grammar (take (upto + 1) text) → ⊥) → NoneMatched grammar text above (upto + 1)
+none_longer : (grammar : Grammar) (text : List ℕ) (above upto : ℕ) → NoneMatched grammar text above upto → (IsMatched grammar (take (upto + 1) text) → ⊥)
+    → NoneMatched grammar text above (upto + 1)
 none_longer grammar text above upto none next = λ size over under matched. elim (cases_lt upto size) [
   | inl past ↦ let same : size ≡ upto + 1 = omega (arith, past, under) in next (subst (λ n. IsMatched grammar (take n text)) same matched)
   | inr within ↦ none size over within matched
 ]
 
-best_same : (grammar : Grammar) (text : List ℕ) (at : ℕ) (best : Option (ℕ × DefKind)) → IsBest grammar text at best → (IsMatched grammar (take (at + 1) text) → ⊥) → IsBest grammar text (at + 1) best
+best_same : (grammar : Grammar) (text : List ℕ) (at : ℕ) (best : Option (ℕ × DefKind)) → IsBest grammar text at best
+    → (IsMatched grammar (take (at + 1) text) → ⊥) → IsBest grammar text (at + 1) best
 best_same grammar text at None is next = none_longer grammar text 0 at is next
 best_same grammar text at (Some piece) is next = (omega (arith, is.0), is.1, none_longer grammar text piece.0 at is.2 next)
 
-best_longer : (grammar : Grammar) (text : List ℕ) (at : ℕ) (kind : DefKind) (winner : DefId) → at + 1 ≤ length text → IsMatched grammar (take (at + 1) text) → IsWinner grammar (take (at + 1) text) winner
+best_longer : (grammar : Grammar) (text : List ℕ) (at : ℕ) (kind : DefKind) (winner : DefId) → at + 1 ≤ length text
+    → IsMatched grammar (take (at + 1) text) → IsWinner grammar (take (at + 1) text) winner
     → kind_of grammar winner ≡ Some kind → IsBest grammar text (at + 1) (Some (at + 1, kind))
 best_longer grammar text at kind winner within matched wins is = (
   omega arith,
@@ -63,13 +68,15 @@ best_longer grammar text at kind winner within matched wins is = (
 )
 
 -- where all longer parts are unmatched, it is the best of the whole text
-none_all : (grammar : Grammar) (text : List ℕ) (above upto : ℕ) → NoneMatched grammar text above upto → NoneMatched grammar text upto (length text) → NoneMatched grammar text above (length text)
+none_all : (grammar : Grammar) (text : List ℕ) (above upto : ℕ) → NoneMatched grammar text above upto → NoneMatched grammar text upto (length text)
+    → NoneMatched grammar text above (length text)
 none_all grammar text above upto none others = λ size over under matched. elim (cases_lt upto size) [
   | inl past ↦ others size past under matched
   | inr within ↦ none size over within matched
 ]
 
-best_all : (grammar : Grammar) (text : List ℕ) (at : ℕ) (best : Option (ℕ × DefKind)) → at ≤ length text → IsBest grammar text at best → NoneMatched grammar text at (length text)
+best_all : (grammar : Grammar) (text : List ℕ) (at : ℕ) (best : Option (ℕ × DefKind)) → at ≤ length text → IsBest grammar text at best
+    → NoneMatched grammar text at (length text)
     → IsBest grammar text (length text) best
 best_all grammar text at None within is others = none_all grammar text 0 at is others
 best_all grammar text at (Some piece) within is others = (omega (arith, is.0, within), is.1, none_all grammar text piece.0 at is.2 others)
@@ -88,9 +95,11 @@ module _ (grammar : Grammar) (asked keys : List ScanKey) (text : List ℕ) where
   }
 
   module _ (small : AreBytes text) (at state : ℕ) (best : Option (ℕ × DefKind)) (walk : IsWalk grammar asked keys text at state best) where
-    accepted_best : (marks : List Mark) (accepted : Option DefKind) → at + 1 ≤ length text → IsStateAfter grammar (take (at + 1) text) (Set marks) → IsAccepted grammar (Set marks) accepted
+    accepted_best : (marks : List Mark) (accepted : Option DefKind) → at + 1 ≤ length text → IsStateAfter grammar (take (at + 1) text) (Set marks)
+        → IsAccepted grammar (Set marks) accepted
         → IsBest grammar text (at + 1) (best_with best (at + 1) accepted)
-    accepted_best marks None within is none = best_same grammar text at best walk.best_is (accepted_none grammar (take (at + 1) text) marks (taken_bytes (at + 1) text small) is none)
+    accepted_best marks None within is none = best_same grammar text at best walk.best_is (accepted_none grammar (take (at + 1) text) marks (taken_bytes
+        (at + 1) text small) is none)
     accepted_best marks (Some kind) within is some =
         let piece = accepted_some grammar (take (at + 1) text) marks kind (taken_bytes (at + 1) text small) is some in
         best_longer grammar text at kind piece.0 within piece.1 piece.2 piece.3
@@ -101,15 +110,18 @@ module _ (grammar : Grammar) (asked keys : List ScanKey) (text : List ℕ) where
       | inl before ↦ walk.left_asked size other before is
       | inr upto ↦
           let same : size ≡ at = omega (arith, less, upto) in
-          subst (Contains asked) (one_state grammar (take at text) walk.key other walk.after (subst (λ n. IsStateAfter grammar (take n text) other) same is)) known
+          subst (Contains asked) (one_state grammar (take at text) walk.key other walk.after (subst (λ n. IsStateAfter grammar (take n text) other) same
+          is)) known
     ]
 
-    pub walk_more : (byte number : ℕ) (marks : List Mark) (accepted : Option DefKind) → slice_get text at ≡ Some byte → slice_get keys number ≡ Some (Set marks) → LeadsToSet grammar walk.key byte marks
+    pub walk_more : (byte number : ℕ) (marks : List Mark) (accepted : Option DefKind) → slice_get text at ≡ Some byte
+        → slice_get keys number ≡ Some (Set marks) → LeadsToSet grammar walk.key byte marks
         → Contains asked walk.key → IsAccepted grammar (Set marks) accepted → IsWalk grammar asked keys text (at + 1) number (best_with best (at + 1) accepted)
     walk_more byte number marks accepted here there leads known is =
         let within : at < length text = slice_get_within text at byte here in
         let next : IsStateAfter grammar (take (at + 1) text) (Set marks) =
-        subst (λ part. IsStateAfter grammar part (Set marks)) (sym (take_snoc text at byte here)) (next_state grammar (take at text) walk.key byte marks walk.after leads) in
+        subst (λ part. IsStateAfter grammar part (Set marks)) (sym (take_snoc text at byte here)) (next_state grammar (take at text) walk.key byte marks
+        walk.after leads) in
         record {
           within = omega (arith, within);
           key = Set marks;
@@ -121,7 +133,8 @@ module _ (grammar : Grammar) (asked keys : List ScanKey) (text : List ℕ) where
 
     -- the states met are those that were left, where nothing more is met
     met_from_left : (last : ℕ) → ((size : ℕ) (other : ScanKey) → size < last → IsStateAfter grammar (take size text) other → Contains asked other)
-        → ((part rest : List ℕ) (marks : List Mark) → text ≡ part ++ rest → 0 < length rest → IsStateAfter grammar part (Set marks) → length part < last) → (0 < length text → 0 < last)
+        → ((part rest : List ℕ) (marks : List Mark) → text ≡ part ++ rest → 0 < length rest → IsStateAfter grammar part (Set marks) → length part < last)
+        → (0 < length text → 0 < last)
         → (key : ScanKey) → Meets grammar text key → Contains asked key
     met_from_left last left short some Start meets = left 0 Start (some meets) refl
     met_from_left last left short some (Set marks) meets =
@@ -141,16 +154,19 @@ module _ (grammar : Grammar) (asked keys : List ScanKey) (text : List ℕ) where
     -- no position is after a part with the byte
     dead_after : (byte : ℕ) → slice_get text at ≡ Some byte → ((mark : Mark) → LeadsTo grammar walk.key byte mark → ⊥) → IsDead grammar (take (at + 1) text)
     dead_after byte here nowhere = λ mark after.
-        nowhere mark ((leads_after grammar (take at text) walk.key byte mark walk.after).1 (subst (λ part. IsAfter grammar part mark) (take_snoc text at byte here) after))
+        nowhere mark ((leads_after grammar (take at text) walk.key byte mark walk.after).1 (subst (λ part. IsAfter grammar part mark) (take_snoc text at
+        byte here) after))
 
-    dead_longer : (byte : ℕ) → slice_get text at ≡ Some byte → ((mark : Mark) → LeadsTo grammar walk.key byte mark → ⊥) → (size : ℕ) → at < size → size ≤ length text → IsDead grammar (take size text)
+    dead_longer : (byte : ℕ) → slice_get text at ≡ Some byte → ((mark : Mark) → LeadsTo grammar walk.key byte mark → ⊥) → (size : ℕ) → at < size
+        → size ≤ length text → IsDead grammar (take size text)
     dead_longer byte here nowhere size past within =
         let more = take_longer text (at + 1) size (omega (arith, past)) within in
         let some : 0 < length (take (at + 1) text) = omega (arith, length-take-le (at + 1) text (omega (arith, past, within))) in
         subst (IsDead grammar) (sym more.1) (dead_more grammar (take (at + 1) text) more.0 some (dead_after byte here nowhere))
 
     -- the byte leads nowhere
-    pub walk_stops : (byte : ℕ) → slice_get text at ≡ Some byte → ((mark : Mark) → LeadsTo grammar walk.key byte mark → ⊥) → Contains asked walk.key → IsWalked grammar asked text best
+    pub walk_stops : (byte : ℕ) → slice_get text at ≡ Some byte → ((mark : Mark) → LeadsTo grammar walk.key byte mark → ⊥) → Contains asked walk.key
+        → IsWalked grammar asked text best
     walk_stops byte here nowhere known = record {
       best_is = best_all grammar text at best walk.within walk.best_is
           (λ size above upto. dead_unmatched grammar (take size text) (taken_bytes size text small) (dead_longer byte here nowhere size above upto));
@@ -158,7 +174,8 @@ module _ (grammar : Grammar) (asked keys : List ScanKey) (text : List ℕ) where
           (λ part rest marks begins follows state. elim (cases_lt at (length part)) [
             | inl past ↦
                 let size : length part ≤ length text = omega (arith, ap length begins, length-append part rest) in
-                let dead : IsDead grammar part = subst (IsDead grammar) (take_part text part rest begins) (dead_longer byte here nowhere (length part) past size) in
+                let dead : IsDead grammar part = subst (IsDead grammar) (take_part text part rest begins) (dead_longer byte here nowhere (length part) past
+                size) in
                 absurd (dead_state grammar part marks state dead)
             | inr within ↦ omega (arith, within)
           ])
@@ -166,7 +183,8 @@ module _ (grammar : Grammar) (asked keys : List ScanKey) (text : List ℕ) where
     }
 
 -- more was asked for, and more states have numbers
-pub walk_asked : (grammar : Grammar) (asked more keys others : List ScanKey) (text : List ℕ) (at state : ℕ) (best : Option (ℕ × DefKind)) → ((key : ScanKey) → Contains asked key → Contains more key)
+pub walk_asked : (grammar : Grammar) (asked more keys others : List ScanKey) (text : List ℕ) (at state : ℕ) (best : Option (ℕ × DefKind))
+    → ((key : ScanKey) → Contains asked key → Contains more key)
     → KeepsNumbers keys others → IsWalk grammar asked keys text at state best → IsWalk grammar more others text at state best
 walk_asked grammar asked more keys others text at state best grows keeps walk = record {
   within = walk.within;
@@ -178,7 +196,8 @@ walk_asked grammar asked more keys others text at state best grows keeps walk = 
 }
 
 -- the state is met where a byte follows
-pub state_met : (grammar : Grammar) (text : List ℕ) (at : ℕ) (key : ScanKey) → at < length text → IsStateAfter grammar (take at text) key → Meets grammar text key
+pub state_met : (grammar : Grammar) (text : List ℕ) (at : ℕ) (key : ScanKey) → at < length text → IsStateAfter grammar (take at text) key
+    → Meets grammar text key
 state_met grammar text at Start within after = omega (arith, within)
 state_met grammar text at (Set marks) within after = record {
   part = take at text;

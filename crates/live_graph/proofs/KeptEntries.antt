@@ -1,5 +1,6 @@
 -- Where a key stands among entries, and how it is put behind them.
-use Rattle.std.proofs.Common.{◌≡◌, inl, inr, ◌⊎◌, ℕ, Bool, List, [], ◌∷◌, ◌++◌, length, slice_get, position, None, Some, option_map, Contains, IsSome, refl, sym, ap, ◌∙◌, subst, true≢false, arith}
+use Rattle.std.proofs.Common.{◌≡◌, inl, inr, ◌⊎◌, ℕ, Bool, List, [], ◌∷◌, ◌++◌, length, slice_get, position, None, Some, option_map, Contains, IsSome}
+use Rattle.std.proofs.Common.{refl, sym, ap, ◌∙◌, subst, true≢false, arith}
 use Rattle.std.specs.List.{position_or_len}
 use Rattle.std.specs.Bool.{Decides}
 use Rattle.std.specs.Cmp.{IsEquivalence}
@@ -53,7 +54,13 @@ module _ {K V : Type 0} (eq : K → K → Bool) (laws : IsEquivalence eq) (same 
       let missing = Missing-position (eq key) old is in
       let entries_are : new ≡ old ++ (key, value) ∷ [] = new_is ∙ insert_entry-absent eq key value old missing.absent in
       let last : slice_get (old ++ (key, value) ∷ []) (length old) ≡ Some (key, value) =
-      slice_get_read (old ++ (key, value) ∷ []) (length (old ++ (key, value) ∷ [])) (length old) (key, value) refl (omega (arith, length-append old ((key, value) ∷ [])))
+      slice_get_read (old ++ (key, value) ∷ []) (length (old ++ (key, value) ∷ [])) (length old) (key, value) refl (omega (
+        arith,
+        length-append old ((
+          key,
+          value,
+        ) ∷ []),
+      ))
       (sym (get_or-append_seam old (key, value) [] (key, value))) in
       record {
         new_key = λ asked. true≢false (sym (subst IsSome missing.value (IsSome-lookup_from_Contains laws key old asked)));
@@ -63,12 +70,14 @@ module _ {K V : Type 0} (eq : K → K → Bool) (laws : IsEquivalence eq) (same 
       }
 
   -- a copy of the key was put there
-  pub is_put : (old new : List (K × V)) (key own : K) (value : V) (place : ℕ) → own ≡ key → position (eq key) (keys_of old) ≡ None → new ≡ insert_entry eq old own value
+  pub is_put : (old new : List (K × V)) (key own : K) (value : V) (place : ℕ) → own ≡ key → position (eq key) (keys_of old) ≡ None
+      → new ≡ insert_entry eq old own value
       → place ≡ position_or_len (eq own) (keys_of old) → IsPut old new key value place
   is_put old new key own value place own_is is new_is place_is =
       subst (λ k. IsPut old new k value place) own_is
       (is_put_own old new own value place (subst (λ k. position (eq k) (keys_of old) ≡ None) (sym own_is) is) new_is place_is)
 
 -- what stands at one place is one value
-pub value_at : {K V : Type 0} (entries : List (K × V)) (place : ℕ) (own key : K) (one other : V) → Some (own, one) ≡ slice_get entries place → slice_get entries place ≡ Some (key, other) → one ≡ other
+pub value_at : {K V : Type 0} (entries : List (K × V)) (place : ℕ) (own key : K) (one other : V) → Some (own, one) ≡ slice_get entries place
+    → slice_get entries place ≡ Some (key, other) → one ≡ other
 value_at {K = K} {V = V} entries place own key one other is that = ap (λ (p : K × V). p.1) (same_Some (own, one) (key, other) (is ∙ that))

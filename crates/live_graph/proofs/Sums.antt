@@ -9,7 +9,8 @@ module _ {Key : Type 0} (Costs : Key → ℕ → Type 0) where
   sum_push (first ∷ keys) key sum cost is costs = (is.0, is.1 + cost, is.2, sum_push keys key is.1 cost is.3 costs, omega (arith, is.4))
 
   -- keys that have one cost each have one sum
-  pub one_sum : ((key : Key) (one other : ℕ) → Costs key one → Costs key other → one ≡ other) → (keys : List Key) (one other : ℕ) → IsSum Costs keys one → IsSum Costs keys other → one ≡ other
+  pub one_sum : ((key : Key) (one other : ℕ) → Costs key one → Costs key other → one ≡ other) → (keys : List Key) (one other : ℕ) → IsSum Costs keys one
+      → IsSum Costs keys other → one ≡ other
   one_sum unique [] one other is that = is ∙ sym that
   one_sum unique (first ∷ keys) one other is that =
       let heads = unique first is.0 that.0 is.2 that.2 in
