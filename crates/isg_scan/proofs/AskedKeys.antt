@@ -9,8 +9,11 @@ use Rattle.isg_scan.specs.Asked.{Stands, AsksOnly}
 
 module _ {Key : Type 0} (old : List Key) (key : Key) (new : List Key) (joins : Joins old key new) where
   pub joined : Contains new key
-  joined = elim joins [ inl again ↦ subst (λ list. Contains list key) (sym again.1) again.0 | inr first ↦ subst (λ list. Contains list key) (sym first.1)
-      (Contains-push old key) ]
+  joined = elim joins [
+    | inl again ↦ subst (λ list. Contains list key) (sym again.1) again.0
+    | inr first ↦ subst (λ list. Contains list key) (sym first.1)
+        (Contains-push old key)
+  ]
 
   pub joined_kept : (other : Key) → Contains old other → Contains new other
   joined_kept other has = elim joins [
@@ -34,13 +37,16 @@ module _ {Base : Type 0} where
       → AsksOnly Wanted old new before after
   asks_one Wanted old new key before after wanted asks = record {
     kept = joined_kept old.scans.keys key new.scans.keys asks.asks.joins;
-    within = λ other has. elim (joined_within old.scans.keys key new.scans.keys asks.asks.joins other has) [ inl old_one ↦ inl old_one | inr same ↦
-        inr (subst Wanted same wanted) ];
+    within = λ other has. elim (joined_within old.scans.keys key new.scans.keys asks.asks.joins other has) [
+      | inl old_one ↦ inl old_one
+      | inr same ↦ inr
+          (subst Wanted same wanted)
+    ];
     rises = scan_rises old new key before after asks;
   }
 
-  pub asks_join : (First Second Wanted : ScanKey → Type 0) (old middle new : Meaning Base) (before between after : ℕ)
-      → ((key : ScanKey) → First key → Wanted key) → ((key : ScanKey) → Second key → Wanted key)
+  pub asks_join : (First Second Wanted : ScanKey → Type 0) (old middle new : Meaning Base) (before between after : ℕ) → ((key : ScanKey) → First key
+      → Wanted key) → ((key : ScanKey) → Second key → Wanted key)
       → AsksOnly First old middle before between → AsksOnly Second middle new between after → AsksOnly Wanted old new before after
   asks_join First Second Wanted old middle new before between after one two first second = record {
     kept = λ key has. second.kept key (first.kept key has);
@@ -55,5 +61,9 @@ module _ {Base : Type 0} where
   stands_same graph = record { grammar = refl; base = refl; kernels = refl }
 
   pub stands_join : (old middle new : Meaning Base) → Stands old middle → Stands middle new → Stands old new
-  stands_join old middle new first second = record { grammar = second.grammar ∙ first.grammar; base = second.base ∙ first.base; kernels =
-      second.kernels ∙ first.kernels }
+  stands_join old middle new first second = record {
+    grammar = second.grammar ∙ first.grammar;
+    base = second.base ∙ first.base;
+    kernels = second.kernels ∙
+        first.kernels;
+  }

@@ -35,8 +35,8 @@ filled_more old new from place entry since within is = record {
         let same : place ≡ p = omega (arith, here, before) in
         subst (λ q. slice_get (set new place entry) q ≡ Some entry) same (set_same new place entry (omega (arith, within, is.size)))
   ];
-  left = λ p other. set_other new place p entry (λ same. other (omega (arith, since, same)) (omega (arith, same))) ∙ is.left p
-      (λ from_p before. other from_p (omega (arith, before)));
+  left = λ p other. set_other new place p entry (λ same. other (omega (arith, since, same)) (omega (arith, same))) ∙ is.left p (λ from_p before. other
+      from_p (omega (arith, before)));
 }
 
 pub filled_all : (old new : List ℕ) (from to place entry : ℕ) → place ≡ to + 1 → IsFilledTo old new from place entry → IsFilled old new from to entry

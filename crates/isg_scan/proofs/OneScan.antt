@@ -10,8 +10,8 @@ use Rattle.edit_log.specs.declared.definitions.DefId.TheVariants.{Literal as lit
 use Rattle.edit_log.specs.declared.definitions.DefKind.TheVariants.{Token as token_of, Skip as skip}
 use Rattle.edit_log.specs.History.{Grammar}
 use Rattle.edit_log.specs.Live.{kind_of, definition_cmp}
-use Rattle.edit_log.specs.Tokens.{IsMatched, IsWinner, IsLongest, Scan, tokens, no_token, too_many, before, token_at, TokenizesFrom, end, none, skipped, full}
-use Rattle.edit_log.specs.Tokens.{more, Tokenizes}
+use Rattle.edit_log.specs.Tokens.{IsMatched, IsWinner, IsLongest, Scan, tokens, no_token, too_many, before, token_at, TokenizesFrom, end, none}
+use Rattle.edit_log.specs.Tokens.{skipped, full, more, Tokenizes}
 
 -- ---- one piece
 
@@ -73,16 +73,16 @@ data Step (grammar : Grammar) (offset room : ℕ) (text : List ℕ) (scan : Scan
       → room ≡ 0 → scan ≡ too_many offset → Step grammar offset room text scan
   takes : (piece rest : List ℕ) (winner : DefId) (kind : SymbolId) (left : ℕ) (others : Scan) → IsLongest grammar text piece rest
       → IsWinner grammar piece winner → kind_of grammar winner ≡ Some (token_of kind)
-      → room ≡ left + 1 → TokenizesFrom grammar (offset + length piece) left rest others → scan ≡ before (token_at kind offset (offset + length piece)) others
-          → Step grammar offset room text scan
+      → room ≡ left + 1 → TokenizesFrom grammar (offset + length piece) left rest others → scan ≡ before (token_at kind offset (offset + length piece))
+      others → Step grammar offset room text scan
 
 step_of : (grammar : Grammar) (offset room : ℕ) (text : List ℕ) (scan : Scan) → TokenizesFrom grammar offset room text scan → Step grammar offset room text scan
 step_of grammar offset room text scan end = ends refl refl
 step_of grammar offset room text scan (none some nothing) = stops some nothing refl
-step_of grammar offset room text scan (skipped {piece = piece} {rest = rest} {winner = winner} longest wins kind later) =
-    skips piece rest winner longest wins kind later
-step_of grammar offset room text scan (full {piece = piece} {rest = rest} {winner = winner} {kind = kind} longest wins is) =
-    fills piece rest winner kind longest wins is refl refl
+step_of grammar offset room text scan (skipped {piece = piece} {rest = rest} {winner = winner} longest wins kind later) = skips piece rest winner longest
+    wins kind later
+step_of grammar offset room text scan (full {piece = piece} {rest = rest} {winner = winner} {kind = kind} longest wins is) = fills piece rest winner kind
+    longest wins is refl refl
 step_of grammar offset room text scan (more {room = left} {piece = piece} {rest = rest} {winner = winner} {kind = kind} {scan = others} longest wins is later) =
     takes piece rest winner kind left others longest wins is refl later refl
 
@@ -119,40 +119,40 @@ one_from grammar offset room text a b (skipped {piece = p} {rest = r} {winner = 
       let same = one_longest grammar text piece p rest r longest long in
       one_from grammar (offset + length p) room r a b further
       (subst (λ t. TokenizesFrom grammar (offset + length p) room t b) same.1 (subst (λ t. TokenizesFrom grammar (offset + length t) room rest b) same.0 later))
-  | fills piece rest winner kind longest wins k full_up e ↦ cc (one_kind grammar text p piece r rest v winner skip
-      (token_of kind) long longest won wins is_skip k)
-  | takes piece rest winner kind left others longest wins k room_is later e ↦ cc (one_kind grammar text p piece r rest v winner skip
-      (token_of kind) long longest won wins is_skip k)
+  | fills piece rest winner kind longest wins k full_up e ↦ cc (one_kind grammar text p piece r rest v winner skip (token_of kind) long longest won wins
+      is_skip k)
+  | takes piece rest winner kind left others longest wins k room_is later e ↦ cc (one_kind grammar text p piece r rest v winner skip (token_of kind) long
+      longest won wins is_skip k)
 ]
-one_from grammar offset room text a b (full {piece = p} {rest = r} {winner = v} {kind = x} long won is_token) is =
-    elim (step_of grammar offset room text b is) [
-  | ends empty e ↦ absurd (no_piece grammar p r (subst (λ t. IsLongest grammar t p r) empty long))
-  | stops some nothing e ↦ absurd (nothing p r long.begins long.matched)
-  | skips piece rest winner longest wins kind later ↦ cc (one_kind grammar text p piece r rest v winner (token_of x) skip long longest won wins is_token kind)
-  | fills piece rest winner kind longest wins k full_up e ↦ sym e
-  | takes piece rest winner kind left others longest wins k room_is later e ↦ absurd (omega (arith, room_is))
-]
-one_from grammar offset room text a b (more {room = n} {piece = p} {rest = r} {winner = v} {kind = x} {scan = s} long won is_token further) is =
-    elim (step_of grammar offset room text b is) [
-  | ends empty e ↦ absurd (no_piece grammar p r (subst (λ t. IsLongest grammar t p r) empty long))
-  | stops some nothing e ↦ absurd (nothing p r long.begins long.matched)
-  | skips piece rest winner longest wins kind later ↦ cc (one_kind grammar text p piece r rest v winner (token_of x) skip long longest won wins is_token kind)
-  | fills piece rest winner kind longest wins k full_up e ↦ absurd (omega (arith, full_up))
-  | takes piece rest winner kind left others longest wins k room_is later e ↦
-      let same = one_longest grammar text piece p rest r longest long in
-      let tokens_same : token_of kind ≡ token_of x = one_kind grammar text piece p rest r winner v (token_of kind)
-          (token_of x) longest long wins won k is_token in
-      let kinds : kind ≡ x = cc tokens_same in
-      let rooms : left ≡ n = omega (arith, room_is) in
-      let behind : TokenizesFrom grammar (offset + length p) n r others =
-      subst (λ t. TokenizesFrom grammar (offset + length p) n t others) same.1
-      (subst (λ t. TokenizesFrom grammar (offset + length t) n rest others) same.0
-          (subst (λ m. TokenizesFrom grammar (offset + length piece) m rest others) rooms later)) in
-      let rests : s ≡ others = one_from grammar (offset + length p) n r s others further behind in
-      ap (before (token_at x offset (offset + length p))) rests
-      ∙ ap (λ q. before (token_at x offset (offset + length q)) others) (sym same.0) ∙ ap (λ q. before (token_at q offset (offset + length piece)) others)
+one_from grammar offset room text a b (full {piece = p} {rest = r} {winner = v} {kind = x} long won is_token) is = elim (step_of grammar offset room text b
+    is) [
+      | ends empty e ↦ absurd (no_piece grammar p r (subst (λ t. IsLongest grammar t p r) empty long))
+      | stops some nothing e ↦ absurd (nothing p r long.begins long.matched)
+      | skips piece rest winner longest wins kind later ↦ cc (one_kind grammar text p piece r rest v winner (token_of x) skip long longest won wins is_token kind)
+      | fills piece rest winner kind longest wins k full_up e ↦ sym e
+      | takes piece rest winner kind left others longest wins k room_is later e ↦ absurd (omega (arith, room_is))
+    ]
+one_from grammar offset room text a b (more {room = n} {piece = p} {rest = r} {winner = v} {kind = x} {scan = s} long won is_token further) is = elim
+    (step_of grammar offset room text b is) [
+      | ends empty e ↦ absurd (no_piece grammar p r (subst (λ t. IsLongest grammar t p r) empty long))
+      | stops some nothing e ↦ absurd (nothing p r long.begins long.matched)
+      | skips piece rest winner longest wins kind later ↦ cc (one_kind grammar text p piece r rest v winner (token_of x) skip long longest won wins is_token kind)
+      | fills piece rest winner kind longest wins k full_up e ↦ absurd (omega (arith, full_up))
+      | takes piece rest winner kind left others longest wins k room_is later e ↦
+          let same = one_longest grammar text piece p rest r longest long in
+          let tokens_same : token_of kind ≡ token_of x = one_kind grammar text piece p rest r winner v (token_of kind) (token_of x) longest long wins won k
+          is_token in
+          let kinds : kind ≡ x = cc tokens_same in
+          let rooms : left ≡ n = omega (arith, room_is) in
+          let behind : TokenizesFrom grammar (offset + length p) n r others =
+          subst (λ t. TokenizesFrom grammar (offset + length p) n t others) same.1
+          (subst (λ t. TokenizesFrom grammar (offset + length t) n rest others) same.0 (subst (λ m. TokenizesFrom grammar (offset + length piece) m rest
+          others) rooms later)) in
+          let rests : s ≡ others = one_from grammar (offset + length p) n r s others further behind in
+          ap (before (token_at x offset (offset + length p))) rests
+          ∙ ap (λ q. before (token_at x offset (offset + length q)) others) (sym same.0) ∙ ap (λ q. before (token_at q offset (offset + length piece)) others)
           (sym kinds) ∙ sym e
-]
+    ]
 
 pub one_scan : (grammar : Grammar) (text : List ℕ) (a b : Scan) → Tokenizes grammar text a → Tokenizes grammar text b → a ≡ b
 one_scan grammar text a b one other = one_from grammar 0 _ text a b one other

@@ -17,8 +17,8 @@ module _ (grammar : Grammar) (text : List ℕ) where
   -- no piece is matched
   pub none_is : IsBest grammar text (length text) None → (piece rest : List ℕ) → text ≡ piece ++ rest → IsMatched grammar piece → ⊥
   none_is none piece rest is matched =
-      none (length piece) matched.some (omega (arith, ap length is, length-append piece rest))
-          (subst (IsMatched grammar) (sym (take_part text piece rest is)) matched)
+      none (length piece) matched.some (omega (arith, ap length is, length-append piece rest)) (subst (IsMatched grammar) (sym (take_part text piece rest
+      is)) matched)
 
   pub longest_is : (size : ℕ) (kind : DefKind) → IsBest grammar text (length text) (Some (size, kind))
       → IsLongest grammar text (take size text) (drop size text)
@@ -27,8 +27,12 @@ module _ (grammar : Grammar) (text : List ℕ) where
       record {
         begins = sym (take-append-drop size text);
         matched = best.1.matched;
-        longest = λ longer others is over matched. best.2 (length longer) (omega (arith, over, taken))
-            (omega (arith, ap length is, length-append longer others))
+        longest = λ longer others is over matched. best.2 (length longer) (omega (arith, over, taken)) (omega (
+          arith,
+          ap length is,
+          length-append longer
+              others,
+        ))
             (subst (IsMatched grammar) (sym (take_part text longer others is)) matched);
       }
 
@@ -45,8 +49,8 @@ pub comes_none : (grammar : Grammar) (room : ℕ) (text left : List ℕ) → ((p
     → ComesTo grammar room text left → left ≡ text
 comes_none grammar room text left none here = refl
 comes_none grammar room text left none (past_skip {piece = piece} {rest = rest} longest wins is comes) = absurd (none piece rest longest.begins longest.matched)
-comes_none grammar room text left none (past_token {piece = piece} {rest = rest} longest wins is comes) =
-    absurd (none piece rest longest.begins longest.matched)
+comes_none grammar room text left none (past_token {piece = piece} {rest = rest} longest wins is comes) = absurd (none piece rest longest.begins
+    longest.matched)
 
 pub comes_past_skip : (grammar : Grammar) (room : ℕ) (text left piece rest : List ℕ) (winner : DefId) → IsLongest grammar text piece rest
     → IsWinner grammar piece winner → kind_of grammar winner ≡ Some skip

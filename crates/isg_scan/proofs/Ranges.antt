@@ -30,6 +30,6 @@ module _ (grammar : Grammar) (key : ScanKey) (ranges : List Range) (is : IsScanE
         target = subst (AreMarks grammar) (sym copied) (range_marks grammar key range one);
       }
 
-  pub led_nowhere : (byte : ℕ) → byte < 256 → ((range : Range) → Contains ranges range → HasByte range byte → ⊥) → (mark : Mark) → LeadsTo grammar key byte mark
-      → ⊥
+  pub led_nowhere : (byte : ℕ) → byte < 256 → ((range : Range) → Contains ranges range → HasByte range byte → ⊥) → (mark : Mark)
+      → LeadsTo grammar key byte mark → ⊥
   led_nowhere byte small none mark leads = let range = is.whole byte mark small leads in none range.0 range.1 (range.2, range.3)

@@ -1,6 +1,6 @@
 -- Reading a byte by the table.
-use Rattle.std.proofs.Common.{◌≡◌, inl, inr, ℕ, suc, ◌+◌, ◌*◌, ◌-◌, ◌<◌, ◌≤◌, List, [], ◌∷◌, length, get_or, Option, Some, slice_get, Result, Ok, Err, OnOk}
-use Rattle.std.proofs.Common.{sym, subst, arith}
+use Rattle.std.proofs.Common.{◌≡◌, inl, inr, ℕ, suc, ◌+◌, ◌*◌, ◌-◌, ◌<◌, ◌≤◌, List, [], ◌∷◌, length, get_or, Option, Some, slice_get, Result, Ok, Err}
+use Rattle.std.proofs.Common.{OnOk, sym, subst, arith}
 use Rattle.std.proofs.lemmas.Option.{slice_get_within, slice_get_cases}
 use Rattle.edit_log.specs.declared.definitions.DefKind.{DefKind}
 use Rattle.edit_log.specs.History.{Grammar}
@@ -29,8 +29,8 @@ row_there table states state byte size within less = omega (arith, size, within,
 
 module _ (grammar : Grammar) (asked keys : List ScanKey) (accepted : List (Option DefKind)) (table text : List ℕ) (small : AreBytes text) (at state : ℕ)
     (best : Option (ℕ × DefKind))
-    (knows : Knows grammar asked keys accepted table) (walk : IsWalk grammar asked keys text at state best) (byte entry : ℕ) (here : slice_get text at
-        ≡ Some byte) (less : byte < 256)
+    (knows : Knows grammar asked keys accepted table) (walk : IsWalk grammar asked keys text at state best) (byte entry : ℕ) (here : slice_get text at ≡
+    Some byte) (less : byte < 256)
     (is : slice_get table (256 * state + byte) ≡ Some entry) where
   tells : TellsEntry grammar keys asked walk.key byte entry
   tells = knows.entries.tells state byte entry walk.key walk.number less is
@@ -42,7 +42,7 @@ module _ (grammar : Grammar) (asked keys : List ScanKey) (accepted : List (Optio
 
   pub next_walk : 2 ≤ entry → (next_at next_state : ℕ) (next_best : Option (ℕ × DefKind)) → next_at ≡ at + 1 → next_state ≡ entry - 2
       → ((kind : Option DefKind) → slice_get accepted (entry - 2) ≡ Some kind → next_best ≡ best_with best (at + 1) kind)
-          → IsWalk grammar asked keys text next_at next_state next_best
+      → IsWalk grammar asked keys text next_at next_state next_best
   next_walk more next_at next_state next_best at_is state_is best_is =
       let to = tells.leads (entry - 2) (omega (arith, more)) in
       let kind = some_at accepted (entry - 2) (next_inside more) in

@@ -37,7 +37,7 @@ module _ {Base : Type 0} (old : Meaning Base) (text : List ℕ) where
   pub reading_asked : (now new : Meaning Base) (keys others : List ScanKey) (accepted kinds : List (Option DefKind)) (table rows : List ℕ) (at state : ℕ)
       (best : Option (ℕ × DefKind)) (before between after : ℕ)
       → IsReading old now keys accepted table text at state best before between → at < length text
-          → AsksOnly (λ key. slice_get keys state ≡ Some key) now new between after → Stands now new → between ≤ after
+      → AsksOnly (λ key. slice_get keys state ≡ Some key) now new between after → Stands now new → between ≤ after
       → KeepsNumbers keys others → Knows new.grammar new.scans.keys others kinds rows → IsReading old new others kinds rows text at state best before after
   reading_asked now new keys others accepted kinds table rows at state best before between after reading within asks stands on keeps knows =
       let walk = reading.walk in
@@ -45,8 +45,8 @@ module _ {Base : Type 0} (old : Meaning Base) (text : List ℕ) where
         knows = knows;
         walk = subst (λ grammar. IsWalk grammar new.scans.keys others text at state best) (sym stands.grammar)
             (walk_asked now.grammar now.scans.keys new.scans.keys keys others text at state best asks.kept keeps walk);
-        asks = asks_join (Meets old.grammar text) (λ key. slice_get keys state ≡ Some key) (Meets old.grammar text) old now new before between after
-            (λ key meets. meets)
+        asks = asks_join (Meets old.grammar text) (λ key. slice_get keys state ≡ Some key) (Meets old.grammar text) old now new before between after (λ key
+            meets. meets)
             (λ key at_key. subst (λ grammar. Meets grammar text key) reading.stands.grammar
             (subst (Meets now.grammar text) (same_Some walk.key key (sym walk.number ∙ at_key)) (state_met now.grammar text at walk.key within walk.after)))
             reading.asks asks;

@@ -1,6 +1,6 @@
 -- Scanning a text from its beginning.
-use Rattle.std.proofs.Common.{◌≡◌, inl, inr, ◌⊎◌, ℕ, ◌+◌, ◌-◌, ◌<◌, ◌≤◌, List, [], ◌∷◌, ◌++◌, length, take, drop, Some, Contains, refl, ap, sym, ◌∙◌, subst}
-use Rattle.std.proofs.Common.{arith, append-nil, length-append, length-drop}
+use Rattle.std.proofs.Common.{◌≡◌, inl, inr, ◌⊎◌, ℕ, ◌+◌, ◌-◌, ◌<◌, ◌≤◌, List, [], ◌∷◌, ◌++◌, length, take, drop, Some, Contains, refl, ap, sym, ◌∙◌}
+use Rattle.std.proofs.Common.{subst, arith, append-nil, length-append, length-drop}
 use Rattle.std.proofs.lemmas.List.{drop_all, drop-drop}
 use Rattle.std.proofs.lemmas.Grind.{common_steps}
 use Rattle.std.proofs.Math.Seq.{drop-append_seam}
@@ -11,8 +11,8 @@ use Rattle.edit_log.specs.declared.definitions.DefKind.TheVariants.{Token as tok
 use Rattle.edit_log.specs.declared.limits.TheConstants.{TOKEN_LIMIT}
 use Rattle.edit_log.specs.History.{Grammar}
 use Rattle.edit_log.specs.Live.{kind_of}
-use Rattle.edit_log.specs.Tokens.{IsMatched, IsWinner, IsLongest, Scan, tokens, no_token, too_many, before, token_at, TokenizesFrom, end, none, skipped, full}
-use Rattle.edit_log.specs.Tokens.{more, Tokenizes}
+use Rattle.edit_log.specs.Tokens.{IsMatched, IsWinner, IsLongest, Scan, tokens, no_token, too_many, before, token_at, TokenizesFrom, end, none}
+use Rattle.edit_log.specs.Tokens.{skipped, full, more, Tokenizes}
 use Rattle.isg_states.specs.declared.scan_key.ScanKey.{ScanKey}
 use Rattle.isg_states.specs.declared.scan_key.ScanKey.TheVariants.{Start, Set}
 use Rattle.isg_scan.specs.Reach.{ComesTo, here, past_skip, past_token, Begins, Meets, ReachesScan}
@@ -52,8 +52,8 @@ pub record IsScannedTo (grammar : Grammar) (text : List ℕ) (offset : ℕ) (fou
 
 -- the states that are still to be asked for are those that the rest of the scan reaches
 abbrev pub IsAskedTo : Grammar → List ℕ → List ScanKey → (room : ℕ) → List ℕ → Type 0
-IsAskedTo grammar text asked room ahead = (key : ScanKey) → ReachesScan grammar text key
-    → Contains asked key ⊎ ((left : List ℕ) × ComesTo grammar room ahead left × Meets grammar left key)
+IsAskedTo grammar text asked room ahead = (key : ScanKey) → ReachesScan grammar text key → Contains asked key ⊎ ((left : List ℕ) × ComesTo grammar room
+    ahead left × Meets grammar left key)
 
 pub scanned_none : (grammar : Grammar) (text : List ℕ) → IsScannedTo grammar text 0 []
 scanned_none grammar text = record { within = omega arith; few = omega arith; goes_on = λ rest is. is; comes = λ left is. is }
@@ -71,8 +71,8 @@ module _ (grammar : Grammar) (text : List ℕ) (offset : ℕ) (found : List Toke
   pub scanned_stop : offset < length text → ((piece rest : List ℕ) → drop offset text ≡ piece ++ rest → IsMatched grammar piece → ⊥)
       → Tokenizes grammar text (no_token offset)
   scanned_stop less nothing =
-      subst (Tokenizes grammar text) (before_all-no_token found offset)
-          (is.goes_on (no_token offset) (none (omega (arith, length-drop offset text, less)) nothing))
+      subst (Tokenizes grammar text) (before_all-no_token found offset) (is.goes_on (no_token offset) (none (omega (arith, length-drop offset text, less))
+      nothing))
 
   pub scanned_all : length text ≤ offset → Tokenizes grammar text (tokens found)
   scanned_all past =
@@ -90,8 +90,8 @@ module _ (grammar : Grammar) (text : List ℕ) (offset : ℕ) (found : List Toke
     scanned_skip kind = record {
       within = next_within;
       few = is.few;
-      goes_on = λ scan further. is.goes_on scan (skipped longest wins kind (subst (λ bytes. TokenizesFrom grammar (offset + length piece)
-          (room_after found) bytes scan) behind further));
+      goes_on = λ scan further. is.goes_on scan (skipped longest wins kind (subst (λ bytes. TokenizesFrom grammar (offset + length piece) (room_after
+          found) bytes scan) behind further));
       comes = λ left comes. is.comes left (past_skip longest wins kind (subst (λ bytes. ComesTo grammar (room_after found) bytes left) behind comes));
     }
 
@@ -110,8 +110,8 @@ module _ (grammar : Grammar) (text : List ℕ) (offset : ℕ) (found : List Toke
               subst (Tokenizes grammar text) (sym (before_all-push found token scan))
               (is.goes_on (before token scan) (subst (λ n. TokenizesFrom grammar offset n (drop offset text) (before token scan)) (sym room) step));
           comes = λ left comes.
-              let step : ComesTo grammar (less + 1) (drop offset text) left = past_token longest wins kind_is
-                  (subst (λ bytes. ComesTo grammar less bytes left) behind comes) in
+              let step : ComesTo grammar (less + 1) (drop offset text) left = past_token longest wins kind_is (subst (λ bytes. ComesTo grammar less bytes
+              left) behind comes) in
               is.comes left (subst (λ n. ComesTo grammar n (drop offset text) left) (sym room) step);
         }
 
@@ -124,10 +124,10 @@ module _ (grammar : Grammar) (text : List ℕ) (offset : ℕ) (found : List Toke
 
 -- ---- what is asked for
 
-module _ (grammar : Grammar) (text : List ℕ) (offset : ℕ) (found : List Token) (asked more_asked : List ScanKey)
-    (whole : IsAskedTo grammar text asked (room_after found) (drop offset text))
+module _ (grammar : Grammar) (text : List ℕ) (offset : ℕ) (found : List Token) (asked more_asked : List ScanKey) (whole : IsAskedTo grammar text asked
+    (room_after found) (drop offset text))
     (kept : (key : ScanKey) → Contains asked key → Contains more_asked key) (met : (key : ScanKey) → Meets grammar (drop offset text) key
-        → Contains more_asked key) where
+    → Contains more_asked key) where
   -- the rest of the scan comes no further
   asked_here : ((left : List ℕ) → ComesTo grammar (room_after found) (drop offset text) left → left ≡ drop offset text) → (key : ScanKey)
       → ReachesScan grammar text key → Contains more_asked key
@@ -136,12 +136,12 @@ module _ (grammar : Grammar) (text : List ℕ) (offset : ℕ) (found : List Toke
     | inr ahead ↦ met key (subst (λ left. Meets grammar left key) (only ahead.0 ahead.1) ahead.2)
   ]
 
-  pub asked_stop : ((piece rest : List ℕ) → drop offset text ≡ piece ++ rest → IsMatched grammar piece → ⊥) → (key : ScanKey) → ReachesScan grammar text key
-      → Contains more_asked key
+  pub asked_stop : ((piece rest : List ℕ) → drop offset text ≡ piece ++ rest → IsMatched grammar piece → ⊥) → (key : ScanKey)
+      → ReachesScan grammar text key → Contains more_asked key
   asked_stop nothing = asked_here (λ left comes. comes_none grammar (room_after found) (drop offset text) left nothing comes)
 
-  asked_past : (room : ℕ) (rest : List ℕ) → ((left : List ℕ) → ComesTo grammar (room_after found) (drop offset text) left → (left ≡ drop offset text)
-      ⊎ ComesTo grammar room rest left)
+  asked_past : (room : ℕ) (rest : List ℕ) → ((left : List ℕ) → ComesTo grammar (room_after found) (drop offset text) left
+      → (left ≡ drop offset text) ⊎ ComesTo grammar room rest left)
       → IsAskedTo grammar text more_asked room rest
   asked_past room rest further = λ key reaches. elim (whole key reaches) [
     | inl has ↦ inl (kept key has)
@@ -155,8 +155,8 @@ module _ (grammar : Grammar) (text : List ℕ) (offset : ℕ) (found : List Toke
     pub asked_skip : kind_of grammar winner ≡ Some skip → drop (offset + length piece) text ≡ rest
         → IsAskedTo grammar text more_asked (room_after found) (drop (offset + length piece) text)
     asked_skip kind behind = subst (IsAskedTo grammar text more_asked (room_after found)) (sym behind)
-        (asked_past (room_after found) rest (λ left comes. comes_past_skip grammar (room_after found)
-            (drop offset text) left piece rest winner longest wins kind comes))
+        (asked_past (room_after found) rest (λ left comes. comes_past_skip grammar (room_after found) (drop offset text) left piece rest winner longest
+        wins kind comes))
 
     pub asked_token : (kind : SymbolId) (token : Token) → kind_of grammar winner ≡ Some (token_of kind) → length found < TOKEN_LIMIT
         → drop (offset + length piece) text ≡ rest
@@ -165,13 +165,13 @@ module _ (grammar : Grammar) (text : List ℕ) (offset : ℕ) (found : List Toke
         let less = room_after (found ++ token ∷ []) in
         let room : room_after found ≡ less + 1 = omega (arith, length-append found (token ∷ []), few) in
         subst (IsAskedTo grammar text more_asked less) (sym behind)
-        (asked_past less rest (λ left comes. comes_past_token grammar (room_after found) less (drop offset text) left piece rest winner kind room longest wins
-            kind_is comes))
+        (asked_past less rest (λ left comes. comes_past_token grammar (room_after found) less (drop offset text) left piece rest winner kind room longest
+        wins kind_is comes))
 
     pub asked_full : (kind : SymbolId) → kind_of grammar winner ≡ Some (token_of kind) → length found ≡ TOKEN_LIMIT → (key : ScanKey)
         → ReachesScan grammar text key → Contains more_asked key
-    asked_full kind kind_is all = asked_here (λ left comes. comes_full grammar (room_after found) (drop offset text) left piece rest winner kind (omega (arith,
-        all)) longest wins kind_is comes)
+    asked_full kind kind_is all = asked_here (λ left comes. comes_full grammar (room_after found) (drop offset text) left piece rest winner kind (omega
+        (arith, all)) longest wins kind_is comes)
 
 -- nothing is met in no text
 none_met : (grammar : Grammar) (key : ScanKey) → Meets grammar [] key → ⊥
@@ -186,8 +186,12 @@ asked_all grammar text offset room asked whole past key reaches = elim (whole ke
   | inr ahead ↦
       let nothing : drop offset text ≡ [] = drop_all offset text past in
       let comes : ComesTo grammar room [] ahead.0 = subst (λ t. ComesTo grammar room t ahead.0) nothing ahead.1 in
-      let same : ahead.0 ≡ [] = comes_none grammar room [] ahead.0 (λ piece rest is matched. omega (arith, ap length is, length-append piece rest,
-          matched.some)) comes in
+      let same : ahead.0 ≡ [] = comes_none grammar room [] ahead.0 (λ piece rest is matched. omega (
+        arith,
+        ap length is,
+        length-append piece rest,
+        matched.some,
+      )) comes in
       absurd (none_met grammar key (subst (λ left. Meets grammar left key) same ahead.2))
 ]
 

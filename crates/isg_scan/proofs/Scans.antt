@@ -1,6 +1,6 @@
 -- A scan over a graph, piece by piece.
-use Rattle.std.proofs.Common.{◌≡◌, inl, inr, ◌⊎◌, ◌↔◌, ℕ, ◌+◌, ◌<◌, ◌≤◌, List, [], ◌∷◌, ◌++◌, length, take, drop, Option, Some, None, Contains, refl, sym, ap}
-use Rattle.std.proofs.Common.{◌∙◌, subst, arith, length-drop}
+use Rattle.std.proofs.Common.{◌≡◌, inl, inr, ◌⊎◌, ◌↔◌, ℕ, ◌+◌, ◌<◌, ◌≤◌, List, [], ◌∷◌, ◌++◌, length, take, drop, Option, Some, None, Contains, refl}
+use Rattle.std.proofs.Common.{sym, ap, ◌∙◌, subst, arith, length-drop}
 use Rattle.forest.specs.declared.symbols.SymbolId.{SymbolId}
 use Rattle.forest.specs.declared.symbols.Token.{Token}
 use Rattle.edit_log.specs.declared.definitions.DefKind.{DefKind}
@@ -16,8 +16,9 @@ use Rattle.isg_scan.specs.Taken.{IsTaken}
 use Rattle.isg_scan.specs.Walks.{IsBest, IsWalked}
 use Rattle.isg_scan.proofs.AskedKeys.{asks_none, asks_join, stands_same, stands_join}
 use Rattle.isg_scan.proofs.Pieces.{none_is, longest_is, size_is, size_some}
-use Rattle.isg_scan.proofs.ScannedTexts.{IsScannedTo, IsAskedTo, room_after, scanned_none, asked_none, meets_reached, scanned_stop, scanned_all, scanned_skip}
-use Rattle.isg_scan.proofs.ScannedTexts.{scanned_token, scanned_full, behind, asked_stop, asked_skip, asked_token, asked_full, asked_all}
+use Rattle.isg_scan.proofs.ScannedTexts.{IsScannedTo, IsAskedTo, room_after, scanned_none, asked_none, meets_reached, scanned_stop, scanned_all}
+use Rattle.isg_scan.proofs.ScannedTexts.{scanned_skip, scanned_token, scanned_full, behind, asked_stop, asked_skip, asked_token, asked_full}
+use Rattle.isg_scan.proofs.ScannedTexts.{asked_all}
 
 -- so far the text was scanned, for which the graph was asked for states that the scan reaches alone
 pub record IsScanning {Base : Type 0} (old now : Meaning Base) (keys : List ScanKey) (accepted : List (Option DefKind)) (table text : List ℕ) (offset : ℕ)
@@ -34,8 +35,8 @@ abbrev pub AsksReached : {Base : Type 0} → (old new : Meaning Base) → List �
 AsksReached old new text = (key : ScanKey) → Contains new.scans.keys key ↔ (Contains old.scans.keys key ⊎ ReachesScan old.grammar text key)
 
 module _ {Base : Type 0} (old : Meaning Base) (text : List ℕ) where
-  asks_reached : (new : Meaning Base) (before after : ℕ) → AsksOnly (ReachesScan old.grammar text) old new before after
-      → ((key : ScanKey) → ReachesScan old.grammar text key → Contains new.scans.keys key)
+  asks_reached : (new : Meaning Base) (before after : ℕ) → AsksOnly (ReachesScan old.grammar text) old new before after → ((key : ScanKey)
+      → ReachesScan old.grammar text key → Contains new.scans.keys key)
       → AsksReached old new text
   asks_reached new before after asks whole = λ key. (asks.within key, λ either. elim either [ inl has ↦ asks.kept key has | inr reaches ↦ whole key reaches ])
 
@@ -70,18 +71,18 @@ module _ {Base : Type 0} (old : Meaning Base) (text : List ℕ) where
       met_here key meets = walked.met_asked key (subst (λ grammar. Meets grammar (drop offset text) key) (sym all_stands.grammar) meets)
 
       pub all_asks : AsksOnly (ReachesScan old.grammar text) old new before after
-      all_asks = asks_join (ReachesScan old.grammar text) (Meets now.grammar (drop offset text)) (ReachesScan old.grammar text) old now new before between after
-          (λ key reaches. reaches)
-          (λ key meets. meets_reached old.grammar text offset found scanning.scanned key
-              (subst (λ grammar. Meets grammar (drop offset text) key) scanning.stands.grammar meets))
+      all_asks = asks_join (ReachesScan old.grammar text) (Meets now.grammar (drop offset text)) (ReachesScan old.grammar text) old now new before between
+          after (λ key reaches. reaches)
+          (λ key meets. meets_reached old.grammar text offset found scanning.scanned key (subst (λ grammar. Meets grammar (drop offset text) key)
+          scanning.stands.grammar meets))
           scanning.asks asks
 
       pub scan_stops : offset < length text → best ≡ None → Tokenizes old.grammar text (no_token offset) × AsksReached old new text
       scan_stops less is =
           let nothing = none_is old.grammar (drop offset text) (subst (IsBest old.grammar (drop offset text) (length (drop offset text))) is best_here) in (
             scanned_stop old.grammar text offset found scanning.scanned less nothing,
-            asks_reached new before after all_asks (asked_stop old.grammar text offset found now.scans.keys new.scans.keys scanning.asked asks.kept met_here
-                nothing),
+            asks_reached new before after all_asks (asked_stop old.grammar text offset found now.scans.keys new.scans.keys scanning.asked asks.kept
+                met_here nothing),
           )
 
       module _ (size : ℕ) (kind : DefKind) (is : best ≡ Some (size, kind)) where
@@ -99,11 +100,11 @@ module _ {Base : Type 0} (old : Meaning Base) (text : List ℕ) where
         scan_full symbol kind_is all =
             let longest = longest_is old.grammar (drop offset text) size kind piece_here in
             let own = piece_here.1.kind_is ∙ ap Some kind_is in (
-              scanned_full old.grammar text offset found scanning.scanned (take size (drop offset text))
-                  (drop size (drop offset text)) piece_here.1.winner longest piece_here.1.wins symbol own all,
+              scanned_full old.grammar text offset found scanning.scanned (take size (drop offset text)) (drop size (drop offset text)) piece_here.1.winner
+                  longest piece_here.1.wins symbol own all,
               asks_reached new before after all_asks
                   (asked_full old.grammar text offset found now.scans.keys new.scans.keys scanning.asked asks.kept met_here (take size (drop offset text))
-                      (drop size (drop offset text)) piece_here.1.winner longest piece_here.1.wins
+                  (drop size (drop offset text)) piece_here.1.winner longest piece_here.1.wins
                   symbol own all),
             )
 
@@ -111,8 +112,15 @@ module _ {Base : Type 0} (old : Meaning Base) (text : List ℕ) where
           scan_on : (more : List Token) → IsScannedTo old.grammar text (offset + size) more
               → IsAskedTo old.grammar text new.scans.keys (room_after more) (drop (offset + size) text)
               → IsScanning old new others kinds rows text (offset + size) more before after
-          scan_on more scanned asked = record { knows = knows; scanned = scanned; asked = asked; asks = all_asks; stands = all_stands; never_back =
-              omega (arith, scanning.never_back, on) }
+          scan_on more scanned asked = record {
+            knows = knows;
+            scanned = scanned;
+            asked = asked;
+            asks = all_asks;
+            stands = all_stands;
+            never_back = omega
+                (arith, scanning.never_back, on);
+          }
 
           taken_kind : (k : DefKind) → kind ≡ k → (more : List Token) → IsTaken k offset (offset + size) found more
               → IsScanning old new others kinds rows text (offset + size) more before after
@@ -127,11 +135,11 @@ module _ {Base : Type 0} (old : Meaning Base) (text : List ℕ) where
               let past = behind old.grammar text offset found scanning.scanned piece rest winner longest wins in
               subst (λ list. IsScanning old new others kinds rows text (offset + size) list before after) (sym taken)
               (scan_on found
-              (subst (λ n. IsScannedTo old.grammar text (offset + n) found) length_is
-                  (scanned_skip old.grammar text offset found scanning.scanned piece rest winner longest wins own))
+              (subst (λ n. IsScannedTo old.grammar text (offset + n) found) length_is (scanned_skip old.grammar text offset found scanning.scanned piece
+              rest winner longest wins own))
               (subst (λ n. IsAskedTo old.grammar text new.scans.keys (room_after found) (drop (offset + n) text)) length_is
               (asked_skip old.grammar text offset found now.scans.keys new.scans.keys scanning.asked asks.kept met_here piece rest winner longest wins own
-                  past)))
+              past)))
           taken_kind (token_of symbol) kind_is more taken =
               let piece = take size (drop offset text) in
               let rest = drop size (drop offset text) in
@@ -147,8 +155,8 @@ module _ {Base : Type 0} (old : Meaning Base) (text : List ℕ) where
               (subst (λ n. IsScannedTo old.grammar text (offset + n) (found ++ token_at symbol offset (offset + n) ∷ [])) length_is
               (scanned_token old.grammar text offset found scanning.scanned piece rest winner longest wins symbol own taken.0))
               (subst (λ n. IsAskedTo old.grammar text new.scans.keys (room_after (found ++ token ∷ [])) (drop (offset + n) text)) length_is
-              (asked_token old.grammar text offset found now.scans.keys new.scans.keys scanning.asked asks.kept met_here piece rest winner longest wins symbol
-                  token own taken.0 past)))
+              (asked_token old.grammar text offset found now.scans.keys new.scans.keys scanning.asked asks.kept met_here piece rest winner longest wins
+              symbol token own taken.0 past)))
 
           pub scan_more : (more : List Token) → IsTaken kind offset (offset + size) found more
               → IsScanning old new others kinds rows text (offset + size) more before after

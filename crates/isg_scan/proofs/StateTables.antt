@@ -1,6 +1,6 @@
 -- What a scan knows of its states, and how it learns more.
-use Rattle.std.proofs.Common.{◌≡◌, inl, inr, ◌⊎◌, ℕ, zero, suc, ◌+◌, ◌*◌, ◌-◌, ◌<◌, ◌≤◌, List, [], ◌∷◌, ◌++◌, length, take, replicate, get_or, Option, Some}
-use Rattle.std.proofs.Common.{None, Result, Ok, Err, IfOk, slice_get, Contains, refl, sym, ap, ◌∙◌, subst, arith, length-append}
+use Rattle.std.proofs.Common.{◌≡◌, inl, inr, ◌⊎◌, ℕ, zero, suc, ◌+◌, ◌*◌, ◌-◌, ◌<◌, ◌≤◌, List, [], ◌∷◌, ◌++◌, length, take, replicate, get_or, Option}
+use Rattle.std.proofs.Common.{Some, None, Result, Ok, Err, IfOk, slice_get, Contains, refl, sym, ap, ◌∙◌, subst, arith, length-append}
 use Rattle.std.specs.List.{position}
 use Rattle.std.proofs.lemmas.List.Quantifiers.{position-Some}
 use Rattle.isg_states.specs.Sameness.{key_eq, key_eq-decides}
@@ -40,8 +40,12 @@ slice_get_last xs y x i is = elim (slice_get_parts xs (y ∷ []) i x is) [
 ]
 
 slice_get_same : (n i a x : ℕ) → slice_get (replicate n a) i ≡ Some x → x ≡ a
-slice_get_same n i a x is = sym (get_or_from_slice_get (replicate n a) i x a is) ∙ get_or-replicate n i a a
-    (omega (arith, slice_get_within (replicate n a) i x is, length-replicate n a))
+slice_get_same n i a x is = sym (get_or_from_slice_get (replicate n a) i x a is) ∙ get_or-replicate n i a a (omega (
+  arith,
+  slice_get_within (replicate n a)
+      i x is,
+  length-replicate n a,
+))
 
 -- ---- entries
 
@@ -54,8 +58,8 @@ untold grammar keys asked key byte entry none = record {
 }
 
 -- an entry tells the same where more states are known, and more were asked for
-pub told_more : (grammar : Grammar) (keys others asked more : List ScanKey) (key : ScanKey) (byte entry : ℕ) → KeepsNumbers keys others
-    → ((k : ScanKey) → Contains asked k → Contains more k)
+pub told_more : (grammar : Grammar) (keys others asked more : List ScanKey) (key : ScanKey) (byte entry : ℕ) → KeepsNumbers keys others → ((k : ScanKey)
+    → Contains asked k → Contains more k)
     → TellsEntry grammar keys asked key byte entry → TellsEntry grammar others more key byte entry
 told_more grammar keys others asked more key byte entry keeps grows tells = record {
   nowhere = tells.nowhere;
@@ -70,8 +74,8 @@ pub table_asked : (grammar : Grammar) (keys asked more : List ScanKey) (table : 
     → IsTable grammar keys asked table → IsTable grammar keys more table
 table_asked grammar keys asked more table grows is = record {
   size = is.size;
-  tells = λ number byte entry key at small there. told_more grammar keys keys asked more key byte entry (λ n k here. here) grows
-      (is.tells number byte entry key at small there);
+  tells = λ number byte entry key at small there. told_more grammar keys keys asked more key byte entry (λ n k here. here) grows (is.tells number byte
+      entry key at small there);
 }
 
 -- a row more, of a state of which nothing is known
@@ -81,8 +85,8 @@ table_row grammar keys asked key table is = record {
   size = omega (arith, length-append table (replicate 256 0), length-append keys (key ∷ []), is.size, length-replicate {A = ℕ} 256 0);
   tells = λ number byte entry other at small there. elim (slice_get_parts table (replicate 256 0) (256 * number + byte) entry there) [
     | inl front ↦ elim (slice_get_last keys key other number at) [
-      | inl before ↦ told_more grammar keys (keys ++ key ∷ []) asked asked other byte entry (λ n k here. slice_get-append keys (key ∷ []) n k here)
-          (λ k has. has)
+      | inl before ↦ told_more grammar keys (keys ++ key ∷ []) asked asked other byte entry (λ n k here. slice_get-append keys (key ∷ []) n k here) (λ k
+          has. has)
           (is.tells number byte entry other before small front)
       | inr last ↦ absurd (omega (arith, slice_get_within table (256 * number + byte) entry front, last.0, is.size))
     ]
@@ -92,29 +96,57 @@ table_row grammar keys asked key table is = record {
 
 pub table_filled : (grammar : Grammar) (keys asked : List ScanKey) (old new : List ℕ) (state low high entry : ℕ) (key : ScanKey)
     → IsTable grammar keys asked old → slice_get keys state ≡ Some key → high < 256
-    → IsFilled old new (256 * state + low) (256 * state + high) entry → ((byte : ℕ) → low ≤ byte → byte ≤ high → TellsEntry grammar keys asked key byte entry)
-        → IsTable grammar keys asked new
+    → IsFilled old new (256 * state + low) (256 * state + high) entry → ((byte : ℕ) → low ≤ byte → byte ≤ high
+    → TellsEntry grammar keys asked key byte entry) → IsTable grammar keys asked new
 table_filled grammar keys asked old new state low high entry key is own small filled told = record {
   size = filled.size ∙ is.size;
   tells = λ number byte found other at less there. elim (cases_lt byte low) [
-    | inl under ↦ is.tells number byte found other at less (sym (filled.left (256 * number + byte) (λ from to. omega (arith, from, to, less, small, under)))
-        ∙ there)
+    | inl under ↦ is.tells number byte found other at less (sym (filled.left (256 * number + byte) (λ from to. omega (
+      arith,
+      from,
+      to,
+      less,
+      small,
+      under,
+    ))) ∙ there)
     | inr over ↦ elim (cases_lt high byte) [
-      | inl above ↦ is.tells number byte found other at less (sym (filled.left (256 * number + byte) (λ from to. omega (arith, from, to, less, small, above,
-          over))) ∙ there)
+      | inl above ↦ is.tells number byte found other at less (sym (filled.left (256 * number + byte) (λ from to. omega (
+        arith,
+        from,
+        to,
+        less,
+        small,
+        above,
+        over,
+      ))) ∙ there)
       | inr upto ↦ elim (cases_lt number state) [
-        | inl before ↦ is.tells number byte found other at less (sym (filled.left (256 * number + byte) (λ from to. omega (arith, from, to, less, small,
-            before))) ∙ there)
+        | inl before ↦ is.tells number byte found other at less (sym (filled.left (256 * number + byte) (λ from to. omega (
+          arith,
+          from,
+          to,
+          less,
+          small,
+          before,
+        ))) ∙ there)
         | inr since ↦ elim (cases_lt state number) [
-          | inl behind ↦ is.tells number byte found other at less (sym (filled.left (256 * number + byte) (λ from to. omega (arith, from, to, less, small,
-              behind))) ∙ there)
+          | inl behind ↦ is.tells number byte found other at less (sym (filled.left (256 * number + byte) (λ from to. omega (
+            arith,
+            from,
+            to,
+            less,
+            small,
+            behind,
+          ))) ∙ there)
           | inr until ↦
               let same : number ≡ state = omega (arith, since, until) in
               let key_is : key ≡ other = same_Some key other (sym own ∙ ap (slice_get keys) (sym same) ∙ at) in
-              let entry_is : entry ≡ found = same_Some entry found (sym (filled.written (256 * number + byte) (omega (arith, same, over)) (omega (arith, same,
-                  upto))) ∙ there) in
-              subst (λ e. TellsEntry grammar keys asked other byte e) entry_is (subst (λ k. TellsEntry grammar keys asked k byte entry) key_is
-                  (told byte over upto))
+              let entry_is : entry ≡ found = same_Some entry found (sym (filled.written (256 * number + byte) (omega (arith, same, over)) (omega (
+                arith,
+                same,
+                upto,
+              ))) ∙ there) in
+              subst (λ e. TellsEntry grammar keys asked other byte e) entry_is (subst (λ k. TellsEntry grammar keys asked k byte entry) key_is (told byte
+              over upto))
         ]
       ]
     ]
@@ -174,15 +206,15 @@ last_at [] x = refl
 last_at (y ∷ list) x = last_at list x
 
 -- a list with so many more entries at its end
-pub resized : (list : List ℕ) (size more old : ℕ) → old ≡ length list → size ≡ old + more
-    → take size list ++ replicate (size - old) 0 ≡ list ++ replicate more 0
+pub resized : (list : List ℕ) (size more old : ℕ) → old ≡ length list → size ≡ old + more → take size list ++ replicate (size - old) 0 ≡ list ++ replicate
+    more 0
 resized list size more old old_is size_is =
     let left : size - old ≡ more = omega (arith, size_is) in
     ap (λ front. front ++ replicate (size - old) 0) (take_all size list (omega (arith, old_is, size_is))) ∙ ap (λ n. list ++ replicate n 0) left
 
 pub read_at : {X : Type 0} (list xs : List X) (place : ℕ) (x : X) → list ≡ xs → place < length xs → x ≡ get_or list place x → slice_get xs place ≡ Some x
-read_at list xs place x same within is = ap (λ l. slice_get l place) (sym same) ∙ slice_get_read list (length list) place x refl
-    (subst (λ l. place < length l) (sym same) within) is
+read_at list xs place x same within is = ap (λ l. slice_get l place) (sym same) ∙ slice_get_read list (length list) place x refl (subst (λ l. place <
+    length l) (sym same) within) is
 
 pub if_ok_more : {X E : Type 0} (result : Result X E) (P Q : X → Type 0) → ((x : X) → P x → Q x) → IfOk result P → IfOk result Q
 if_ok_more (Ok x) P Q more holds = more x holds
@@ -190,8 +222,8 @@ if_ok_more (Err e) P Q more holds = tt
 
 -- ---- what was learned
 
-module _ (grammar : Grammar) (keys asked more : List ScanKey) (accepted : List (Option DefKind)) (old new : List ℕ) (state byte : ℕ) (key : ScanKey)
-    (own : slice_get keys state ≡ Some key) (known : Contains more key)
+module _ (grammar : Grammar) (keys asked more : List ScanKey) (accepted : List (Option DefKind)) (old new : List ℕ) (state byte : ℕ) (key : ScanKey) (own :
+    slice_get keys state ≡ Some key) (known : Contains more key)
     (grows : (k : ScanKey) → Contains asked k → Contains more k) where
   -- the byte leads nowhere
   pub learned_none : Knows grammar asked keys accepted old → byte < 256 → ((mark : Mark) → LeadsTo grammar key byte mark → ⊥)
@@ -211,7 +243,7 @@ module _ (grammar : Grammar) (keys asked more : List ScanKey) (accepted : List (
   pub learned_set : (range : Range) (others : List ScanKey) (kinds : List (Option DefKind)) (rows : List ℕ) (entry : ℕ) → IsTable grammar keys asked old
       → KeepsNumbers keys others
       → ((seen : List ScanKey) → IsTable grammar keys seen old → Knows grammar seen others kinds rows) → LeadsToState others range.2 entry
-          → IsLedRange grammar key byte range
+      → IsLedRange grammar key byte range
       → IsFilled rows new (256 * state + range.0) (256 * state + range.1) entry → Knows grammar more others kinds new
   learned_set range others kinds rows entry is keeps knows to led filled =
       let after = knows more (table_asked grammar keys asked more old grows is) in

@@ -1,6 +1,6 @@
 -- Reading a text byte by byte from where a piece begins.
-use Rattle.std.proofs.Common.{◌≡◌, inl, inr, ℕ, ◌+◌, ◌-◌, ◌<◌, ◌≤◌, List, [], ◌∷◌, ◌++◌, length, take, drop, Option, Some, None, slice_get, Contains, refl, sym}
-use Rattle.std.proofs.Common.{ap, ◌∙◌, subst, arith, length-append, length-drop}
+use Rattle.std.proofs.Common.{◌≡◌, inl, inr, ℕ, ◌+◌, ◌-◌, ◌<◌, ◌≤◌, List, [], ◌∷◌, ◌++◌, length, take, drop, Option, Some, None, slice_get, Contains}
+use Rattle.std.proofs.Common.{refl, sym, ap, ◌∙◌, subst, arith, length-append, length-drop}
 use Rattle.std.proofs.lemmas.Bool.{cases_lt}
 use Rattle.std.proofs.lemmas.List.{take-append-drop, take_more, length-take-le}
 use Rattle.std.proofs.Math.Seq.{take-append_seam, take-append-add}
@@ -58,8 +58,8 @@ best_same : (grammar : Grammar) (text : List ℕ) (at : ℕ) (best : Option (ℕ
 best_same grammar text at None is next = none_longer grammar text 0 at is next
 best_same grammar text at (Some piece) is next = (omega (arith, is.0), is.1, none_longer grammar text piece.0 at is.2 next)
 
-best_longer : (grammar : Grammar) (text : List ℕ) (at : ℕ) (kind : DefKind) (winner : DefId) → at + 1 ≤ length text → IsMatched grammar (take (at + 1) text)
-    → IsWinner grammar (take (at + 1) text) winner
+best_longer : (grammar : Grammar) (text : List ℕ) (at : ℕ) (kind : DefKind) (winner : DefId) → at + 1 ≤ length text
+    → IsMatched grammar (take (at + 1) text) → IsWinner grammar (take (at + 1) text) winner
     → kind_of grammar winner ≡ Some kind → IsBest grammar text (at + 1) (Some (at + 1, kind))
 best_longer grammar text at kind winner within matched wins is = (
   omega arith,
@@ -98,8 +98,8 @@ module _ (grammar : Grammar) (asked keys : List ScanKey) (text : List ℕ) where
     accepted_best : (marks : List Mark) (accepted : Option DefKind) → at + 1 ≤ length text → IsStateAfter grammar (take (at + 1) text) (Set marks)
         → IsAccepted grammar (Set marks) accepted
         → IsBest grammar text (at + 1) (best_with best (at + 1) accepted)
-    accepted_best marks None within is none = best_same grammar text at best walk.best_is
-        (accepted_none grammar (take (at + 1) text) marks (taken_bytes (at + 1) text small) is none)
+    accepted_best marks None within is none = best_same grammar text at best walk.best_is (accepted_none grammar (take (at + 1) text) marks (taken_bytes
+        (at + 1) text small) is none)
     accepted_best marks (Some kind) within is some =
         let piece = accepted_some grammar (take (at + 1) text) marks kind (taken_bytes (at + 1) text small) is some in
         best_longer grammar text at kind piece.0 within piece.1 piece.2 piece.3
@@ -110,18 +110,18 @@ module _ (grammar : Grammar) (asked keys : List ScanKey) (text : List ℕ) where
       | inl before ↦ walk.left_asked size other before is
       | inr upto ↦
           let same : size ≡ at = omega (arith, less, upto) in
-          subst (Contains asked) (one_state grammar (take at text) walk.key other walk.after (subst (λ n. IsStateAfter grammar (take n text) other) same is))
-              known
+          subst (Contains asked) (one_state grammar (take at text) walk.key other walk.after (subst (λ n. IsStateAfter grammar (take n text) other) same
+          is)) known
     ]
 
-    pub walk_more : (byte number : ℕ) (marks : List Mark) (accepted : Option DefKind) → slice_get text at ≡ Some byte → slice_get keys number ≡ Some (Set marks)
-        → LeadsToSet grammar walk.key byte marks
+    pub walk_more : (byte number : ℕ) (marks : List Mark) (accepted : Option DefKind) → slice_get text at ≡ Some byte
+        → slice_get keys number ≡ Some (Set marks) → LeadsToSet grammar walk.key byte marks
         → Contains asked walk.key → IsAccepted grammar (Set marks) accepted → IsWalk grammar asked keys text (at + 1) number (best_with best (at + 1) accepted)
     walk_more byte number marks accepted here there leads known is =
         let within : at < length text = slice_get_within text at byte here in
         let next : IsStateAfter grammar (take (at + 1) text) (Set marks) =
-        subst (λ part. IsStateAfter grammar part (Set marks)) (sym (take_snoc text at byte here))
-            (next_state grammar (take at text) walk.key byte marks walk.after leads) in
+        subst (λ part. IsStateAfter grammar part (Set marks)) (sym (take_snoc text at byte here)) (next_state grammar (take at text) walk.key byte marks
+        walk.after leads) in
         record {
           within = omega (arith, within);
           key = Set marks;
@@ -134,7 +134,7 @@ module _ (grammar : Grammar) (asked keys : List ScanKey) (text : List ℕ) where
     -- the states met are those that were left, where nothing more is met
     met_from_left : (last : ℕ) → ((size : ℕ) (other : ScanKey) → size < last → IsStateAfter grammar (take size text) other → Contains asked other)
         → ((part rest : List ℕ) (marks : List Mark) → text ≡ part ++ rest → 0 < length rest → IsStateAfter grammar part (Set marks) → length part < last)
-            → (0 < length text → 0 < last)
+        → (0 < length text → 0 < last)
         → (key : ScanKey) → Meets grammar text key → Contains asked key
     met_from_left last left short some Start meets = left 0 Start (some meets) refl
     met_from_left last left short some (Set marks) meets =
@@ -154,8 +154,8 @@ module _ (grammar : Grammar) (asked keys : List ScanKey) (text : List ℕ) where
     -- no position is after a part with the byte
     dead_after : (byte : ℕ) → slice_get text at ≡ Some byte → ((mark : Mark) → LeadsTo grammar walk.key byte mark → ⊥) → IsDead grammar (take (at + 1) text)
     dead_after byte here nowhere = λ mark after.
-        nowhere mark ((leads_after grammar (take at text) walk.key byte mark walk.after).1 (subst (λ part. IsAfter grammar part mark)
-            (take_snoc text at byte here) after))
+        nowhere mark ((leads_after grammar (take at text) walk.key byte mark walk.after).1 (subst (λ part. IsAfter grammar part mark) (take_snoc text at
+        byte here) after))
 
     dead_longer : (byte : ℕ) → slice_get text at ≡ Some byte → ((mark : Mark) → LeadsTo grammar walk.key byte mark → ⊥) → (size : ℕ) → at < size
         → size ≤ length text → IsDead grammar (take size text)
@@ -174,8 +174,8 @@ module _ (grammar : Grammar) (asked keys : List ScanKey) (text : List ℕ) where
           (λ part rest marks begins follows state. elim (cases_lt at (length part)) [
             | inl past ↦
                 let size : length part ≤ length text = omega (arith, ap length begins, length-append part rest) in
-                let dead : IsDead grammar part = subst (IsDead grammar) (take_part text part rest begins)
-                    (dead_longer byte here nowhere (length part) past size) in
+                let dead : IsDead grammar part = subst (IsDead grammar) (take_part text part rest begins) (dead_longer byte here nowhere (length part) past
+                size) in
                 absurd (dead_state grammar part marks state dead)
             | inr within ↦ omega (arith, within)
           ])

@@ -1,6 +1,6 @@
 -- Where a key stands among entries, and how it is put behind them.
-use Rattle.std.proofs.Common.{◌≡◌, inl, inr, ◌⊎◌, ℕ, Bool, List, [], ◌∷◌, ◌++◌, length, slice_get, position, None, Some, option_map, Contains, IsSome, refl}
-use Rattle.std.proofs.Common.{sym, ap, ◌∙◌, subst, true≢false, arith}
+use Rattle.std.proofs.Common.{◌≡◌, inl, inr, ◌⊎◌, ℕ, Bool, List, [], ◌∷◌, ◌++◌, length, slice_get, position, None, Some, option_map, Contains, IsSome}
+use Rattle.std.proofs.Common.{refl, sym, ap, ◌∙◌, subst, true≢false, arith}
 use Rattle.std.specs.List.{position_or_len}
 use Rattle.std.specs.Bool.{Decides}
 use Rattle.std.specs.Cmp.{IsEquivalence}
@@ -54,8 +54,13 @@ module _ {K V : Type 0} (eq : K → K → Bool) (laws : IsEquivalence eq) (same 
       let missing = Missing-position (eq key) old is in
       let entries_are : new ≡ old ++ (key, value) ∷ [] = new_is ∙ insert_entry-absent eq key value old missing.absent in
       let last : slice_get (old ++ (key, value) ∷ []) (length old) ≡ Some (key, value) =
-      slice_get_read (old ++ (key, value) ∷ []) (length (old ++ (key, value) ∷ [])) (length old) (key, value) refl
-          (omega (arith, length-append old ((key, value) ∷ [])))
+      slice_get_read (old ++ (key, value) ∷ []) (length (old ++ (key, value) ∷ [])) (length old) (key, value) refl (omega (
+        arith,
+        length-append old ((
+          key,
+          value,
+        ) ∷ []),
+      ))
       (sym (get_or-append_seam old (key, value) [] (key, value))) in
       record {
         new_key = λ asked. true≢false (sym (subst IsSome missing.value (IsSome-lookup_from_Contains laws key old asked)));

@@ -27,8 +27,8 @@ module _ {Base : Type 0} where
         scans = is.scans;
         kernels = is.kernels;
         scans_cost = same_sum IsScanCost old.grammar new.grammar old.scans.own new.scans.own is.scans asks.grammar idle.0 is.scans_cost;
-        kernels_cost = same_sum (λ g. IsCost g.rules) old.grammar new.grammar old.kernels.own new.kernels.own is.kernels asks.grammar
-            (ap (λ k. k.own) asks.kernels) is.kernels_cost;
+        kernels_cost = same_sum (λ g. IsCost g.rules) old.grammar new.grammar old.kernels.own new.kernels.own is.kernels asks.grammar (ap (λ k. k.own)
+            asks.kernels) is.kernels_cost;
         sum = omega (arith, is.sum);
       };
     }
@@ -40,8 +40,8 @@ module _ {Base : Type 0} where
         kernels = is.kernels;
         scans_cost = same_sum IsScanCost old.grammar new.grammar (old.scans.own ++ key ∷ []) new.scans.own (is.scans + busy.2.0) asks.grammar busy.1
             (sum_push (IsScanCost old.grammar) old.scans.own key is.scans busy.2.0 is.scans_cost busy.2.1);
-        kernels_cost = same_sum (λ g. IsCost g.rules) old.grammar new.grammar old.kernels.own new.kernels.own is.kernels asks.grammar
-            (ap (λ k. k.own) asks.kernels) is.kernels_cost;
+        kernels_cost = same_sum (λ g. IsCost g.rules) old.grammar new.grammar old.kernels.own new.kernels.own is.kernels asks.grammar (ap (λ k. k.own)
+            asks.kernels) is.kernels_cost;
         sum = omega (arith, is.sum);
       };
     }
@@ -67,8 +67,8 @@ module _ {Base : Type 0} where
         scans = is.scans;
         kernels = is.kernels + busy.2.0;
         scans_cost = same_sum IsScanCost old.grammar new.grammar old.scans.own new.scans.own is.scans asks.grammar (ap (λ k. k.own) asks.scans) is.scans_cost;
-        kernels_cost = same_sum (λ g. IsCost g.rules) old.grammar new.grammar (old.kernels.own ++ key ∷ []) new.kernels.own
-            (is.kernels + busy.2.0) asks.grammar busy.1
+        kernels_cost = same_sum (λ g. IsCost g.rules) old.grammar new.grammar (old.kernels.own ++ key ∷ []) new.kernels.own (is.kernels + busy.2.0)
+            asks.grammar busy.1
             (sum_push (IsCost old.grammar.rules) old.kernels.own key is.kernels busy.2.0 is.kernels_cost busy.2.1);
         sum = omega (arith, is.sum);
       };
@@ -77,11 +77,21 @@ module _ {Base : Type 0} where
 
   -- nothing rose
   pub rise_none : (graph : Meaning Base) (steps : ℕ) → RisesAsCost graph graph steps steps
-  rise_none graph steps = record { rise = 0; steps = omega arith; cost = λ cost is. record { scans = is.scans; kernels = is.kernels; scans_cost = is.scans_cost;
-      kernels_cost = is.kernels_cost; sum = omega (arith, is.sum) } }
+  rise_none graph steps = record {
+    rise = 0;
+    steps = omega arith;
+    cost = λ cost is. record {
+      scans = is.scans;
+      kernels = is.kernels;
+      scans_cost =
+          is.scans_cost;
+      kernels_cost = is.kernels_cost;
+      sum = omega (arith, is.sum);
+    };
+  }
 
-  pub rise_join : (old middle new : Meaning Base) (before between after : ℕ) → RisesAsCost old middle before between → RisesAsCost middle new between after
-      → RisesAsCost old new before after
+  pub rise_join : (old middle new : Meaning Base) (before between after : ℕ) → RisesAsCost old middle before between
+      → RisesAsCost middle new between after → RisesAsCost old new before after
   rise_join old middle new before between after first second = record {
     rise = first.rise + second.rise;
     steps = omega (arith, first.steps, second.steps);

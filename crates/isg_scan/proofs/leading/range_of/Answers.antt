@@ -9,16 +9,20 @@ pub loop-range-preserved : goal.loop-range-preserved
 loop-range-preserved c = λ range there has.
     let within : c.loop-range.range-index < length c.args.ranges.now = c.loop-range-test.true in
     elim (Contains-push_cases (take c.loop-range.range-index c.args.ranges.now) c.range-item.result range
-    (subst (λ list. Contains list range) (take_more c.args.ranges.now c.loop-range.range-index c.range-item.result within
-        ∙ ap (λ r. take c.loop-range.range-index c.args.ranges.now ++ r ∷ []) (sym c.range-item.is)) there)) [
+    (subst (λ list. Contains list range) (take_more c.args.ranges.now c.loop-range.range-index c.range-item.result within ∙ ap (λ r. take
+    c.loop-range.range-index c.args.ranges.now ++ r ∷ []) (sym c.range-item.is)) there)) [
       | inl before ↦ c.loop-range.invariant range before has
       | inr same ↦ elim c.else-range-byte.branch [
-        | else-range-byte-via-then-range-byte+else-byte-range w ↦ absurd (omega (arith, w.if-byte-range.false, subst (λ r. HasByte r c.args.byte)
-            (sym same) has))
+        | else-range-byte-via-then-range-byte+else-byte-range w ↦ absurd (omega (
+          arith,
+          w.if-byte-range.false,
+          subst (λ r. HasByte r c.args.byte) (sym
+              same) has,
+        ))
         | else-range-byte-via-else-range-byte w ↦ absurd (omega (arith, w.if-range-byte.false, subst (λ r. HasByte r c.args.byte) (sym same) has))
       ]
     ]
 
 pub returns : goal.returns
-returns c = λ range there has. c.loop-range.invariant range (subst (λ list. Contains list range)
-    (sym (take_all c.loop-range.range-index c.args.ranges.now c.loop-range-test.false)) there) has
+returns c = λ range there has. c.loop-range.invariant range (subst (λ list. Contains list range) (sym (take_all c.loop-range.range-index c.args.ranges.now
+    c.loop-range-test.false)) there) has

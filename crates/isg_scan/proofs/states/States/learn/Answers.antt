@@ -21,9 +21,9 @@ fill-requires-clause-inside g c =
 pub returns-in_ok-entry-in-Some-clause-asks : goal.returns-in_ok-entry-in-Some-clause-asks
 returns-in_ok-entry-in-Some-clause-asks g c = λ key own.
     let there = read_at c.as_slice.result.now c.args.self.now.keys.keys c.args.state c.index-as_slice-state.result c.as_slice.ensures.keys c.requires.state
-        c.index-as_slice-state.is in
-    subst (λ k. AsksScan (g.G.Graph.means c.args.graph.now) k (g.G.Graph.means c.led.new.graph) c.args.steps.now c.led.new.steps)
-        (same_Some c.index-as_slice-state.result key (sym there ∙ own)) c.in_ok-low.ensures.asks
+    c.index-as_slice-state.is in
+    subst (λ k. AsksScan (g.G.Graph.means c.args.graph.now) k (g.G.Graph.means c.led.new.graph) c.args.steps.now c.led.new.steps) (same_Some
+    c.index-as_slice-state.result key (sym there ∙ own)) c.in_ok-low.ensures.asks
 
 pub returns-in_ok-entry-in-Some-clause-knows : goal.returns-in_ok-entry-in-Some-clause-knows
 returns-in_ok-entry-in-Some-clause-knows g c =
@@ -35,13 +35,13 @@ returns-in_ok-entry-in-Some-clause-knows g c =
     let there = read_at c.as_slice.result.now self.keys.keys c.args.state key c.as_slice.ensures.keys c.requires.state c.index-as_slice-state.is in
     let same : c.grammar.result.now.grammar ≡ old.grammar = c.grammar.ensures ∙ c.in_ok-low.ensures.stands.grammar in
     let led = led_some old.grammar key c.args.byte c.in_ok-low.field-0 (c.in-Some.low, c.in-Some.high, c.in-Some.target) c.in_ok-low.ensures.led c.in-Some.is in
-    subst (λ grammar. Knows grammar new.scans.keys c.entry_for.new.self.keys.keys c.entry_for.new.self.accepted.items c.fill.new.table.items)
-        (sym c.in_ok-low.ensures.stands.grammar)
-    (learned_set old.grammar self.keys.keys old.scans.keys new.scans.keys self.accepted.items self.table.items c.fill.new.table.items c.args.state c.args.byte
-        key there
+    subst (λ grammar. Knows grammar new.scans.keys c.entry_for.new.self.keys.keys c.entry_for.new.self.accepted.items c.fill.new.table.items) (sym
+    c.in_ok-low.ensures.stands.grammar)
+    (learned_set old.grammar self.keys.keys old.scans.keys new.scans.keys self.accepted.items self.table.items c.fill.new.table.items c.args.state
+    c.args.byte key there
     (joined old.scans.keys key new.scans.keys joins) (joined_kept old.scans.keys key new.scans.keys joins)
     (c.in-Some.low, c.in-Some.high, c.in-Some.target) c.entry_for.new.self.keys.keys c.entry_for.new.self.accepted.items c.entry_for.new.self.table.items
-        c.in_ok-entry-in-Some.entry
+    c.in_ok-entry-in-Some.entry
     c.requires.knows.entries c.in_ok-entry-in-Some.ensures.keeps
     (λ seen is. subst (λ grammar. Knows grammar seen c.entry_for.new.self.keys.keys c.entry_for.new.self.accepted.items c.entry_for.new.self.table.items) same
     (c.in_ok-entry-in-Some.ensures.knows seen (subst (λ grammar. IsTable grammar self.keys.keys seen self.table.items) (sym same) is)))
@@ -50,9 +50,9 @@ returns-in_ok-entry-in-Some-clause-knows g c =
 pub returns-in-None-clause-asks : goal.returns-in-None-clause-asks
 returns-in-None-clause-asks g c = λ key own.
     let there = read_at c.as_slice.result.now c.args.self.now.keys.keys c.args.state c.index-as_slice-state.result c.as_slice.ensures.keys c.requires.state
-        c.index-as_slice-state.is in
-    subst (λ k. AsksScan (g.G.Graph.means c.args.graph.now) k (g.G.Graph.means c.led.new.graph) c.args.steps.now c.led.new.steps)
-        (same_Some c.index-as_slice-state.result key (sym there ∙ own)) c.in_ok-low.ensures.asks
+    c.index-as_slice-state.is in
+    subst (λ k. AsksScan (g.G.Graph.means c.args.graph.now) k (g.G.Graph.means c.led.new.graph) c.args.steps.now c.led.new.steps) (same_Some
+    c.index-as_slice-state.result key (sym there ∙ own)) c.in_ok-low.ensures.asks
 
 pub returns-in-None-clause-knows : goal.returns-in-None-clause-knows
 returns-in-None-clause-knows g c =
@@ -64,6 +64,6 @@ returns-in-None-clause-knows g c =
     let there = read_at c.as_slice.result.now self.keys.keys c.args.state key c.as_slice.ensures.keys c.requires.state c.index-as_slice-state.is in
     subst (λ grammar. Knows grammar new.scans.keys self.keys.keys self.accepted.items c.fill-in-None.new.table.items) (sym c.in_ok-low.ensures.stands.grammar)
     (learned_none old.grammar self.keys.keys old.scans.keys new.scans.keys self.accepted.items self.table.items c.fill-in-None.new.table.items c.args.state
-        c.args.byte key there
+    c.args.byte key there
     (joined old.scans.keys key new.scans.keys joins) (joined_kept old.scans.keys key new.scans.keys joins)
     c.requires.knows c.ranges.byte.fits (led_none old.grammar key c.args.byte c.in_ok-low.field-0 c.in_ok-low.ensures.led c.in-None.is) c.fill-in-None.ensures)

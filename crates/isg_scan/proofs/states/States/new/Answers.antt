@@ -11,8 +11,8 @@ pub returns : goal.returns
 returns c =
     let keys : c.insert.new.self.keys ≡ Start ∷ [] = c.in_ok-insert.ensures.keys ∙ ap (λ list. insert_key key_eq list Start) c.new-keys.ensures.empty in
     let accepted : c.push.new.self.items ≡ None ∷ [] = c.in_ok-push.ensures.items ∙ ap (λ list. list ++ None ∷ []) c.new-accepted.ensures.items in
-    let table : c.resize.new.self.items ≡ replicate 256 0 = c.in_ok-resize.ensures.items ∙ ap (λ list. take 256 list
-        ++ replicate (256 - vec_len c.new-table.result) 0) c.new-table.ensures.items ∙ ap (λ n. replicate (256 - n) 0) c.new-table.ensures.len in
-    subst (λ k. KnowsNothingYet k c.push.new.self.items c.resize.new.self.items) (sym keys) (subst (λ a. KnowsNothingYet (Start ∷ []) a c.resize.new.self.items)
-        (sym accepted)
+    let table : c.resize.new.self.items ≡ replicate 256 0 = c.in_ok-resize.ensures.items ∙ ap (λ list. take 256 list ++ replicate (256 - vec_len
+    c.new-table.result) 0) c.new-table.ensures.items ∙ ap (λ n. replicate (256 - n) 0) c.new-table.ensures.len in
+    subst (λ k. KnowsNothingYet k c.push.new.self.items c.resize.new.self.items) (sym keys) (subst (λ a. KnowsNothingYet (Start ∷ []) a
+    c.resize.new.self.items) (sym accepted)
     (subst (KnowsNothingYet (Start ∷ []) (None ∷ [])) (sym table) knows_start))
