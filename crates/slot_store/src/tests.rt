@@ -6,7 +6,7 @@ use crate::opening::open_still;
 use crate::page::{Look, Page, Put};
 use crate::pass::Pass;
 use crate::pinned::Pinned;
-use pin_rule::content::AnyRow;
+use pin_rule::content::{AnyRow, Content};
 use pin_rule::sizes::Sizes;
 use std::alloc::Global;
 use std::test::Fail;
@@ -25,6 +25,16 @@ fn pin(pass: Pass<AnyRow>) -> Option<Pinned<AnyRow>> {
 fn first_word(user: &mut Pinned<AnyRow>, key: u64) -> Option<u64> {
     match user.find(&[key]) {
         Look::Found(payload) => payload.first().copied(),
+        Look::Initial { place: _ } => None,
+        Look::PageFull => None,
+    }
+}
+
+/// The payload's last word, where the key is found, whatever page it is
+/// and whatever its rows hold.
+fn last_word<C: Content, P: Page<C>>(page: &mut P, key: u64) -> Option<u64> {
+    match page.find(&[key]) {
+        Look::Found(payload) => payload.last().copied(),
         Look::Initial { place: _ } => None,
         Look::PageFull => None,
     }
@@ -126,6 +136,7 @@ fn a_row_of_eight_words_has_six_for_key_and_payload(rt: HostRuntime) -> Result<(
     let mut user = pin(users.pop().ok_or("a user")?).ok_or("a pin")?;
     assert_eq!(rt; user.publish(&[1], &[1, 2, 3, 4, 5, 6]), Put::TooWide);
     assert_eq!(rt; user.publish(&[1], &[1, 2, 3, 4, 5]), Put::Made);
+    assert_eq!(rt; last_word::<AnyRow, Pinned<AnyRow>>(&mut user, 1), Some(5));
     assert_eq!(rt; first_word(&mut user, 1), Some(1));
     Ok(())
 }
