@@ -14,7 +14,7 @@ use std::thread;
 use std::thread::Threads;
 
 /// Pins the current version; none where no pin is left.
-fn pin(pass: Pass<AnyRow>) -> Option<Pinned<AnyRow>> {
+fn pin<C: Content>(pass: Pass<C>) -> Option<Pinned<C>> {
     match pass.pin() {
         Ok(pinned) => Some(pinned),
         Err(_) => None,
@@ -30,14 +30,37 @@ fn first_word(user: &mut Pinned<AnyRow>, key: u64) -> Option<u64> {
     }
 }
 
-/// The payload's last word, where the key is found, whatever page it is
-/// and whatever its rows hold.
-fn last_word<C: Content, P: Page<C>>(page: &mut P, key: u64) -> Option<u64> {
+/// The content whose rows have a payload of one word.
+struct OneWord;
+
+impl Content for OneWord {
+    ghost use Rattle.std.specs.Prelude.{◌≡◌, slice_index};
+
+    ghost lawful = { λ _. Unit {0} };
+
+    ghost fits = { λ _ row. slice_index row 1 ≡ 1 };
+
+    ghost empty = { tt };
+}
+
+/// The word of the row with the key, on any page of this content: that there is
+/// one is what `find` says of the payload that it lends.
+fn only_word<P: Page<OneWord>>(page: &mut P, key: u64) -> Option<u64> {
     match page.find(&[key]) {
-        Look::Found(payload) => payload.last().copied(),
+        Look::Found(payload) => Some(payload[0]),
         Look::Initial { place: _ } => None,
         Look::PageFull => None,
     }
+}
+
+#[test]
+fn a_page_of_one_word_rows_lends_a_word(rt: HostRuntime) -> Result<(), Fail> {
+    let mut users = open_still::<OneWord>(rt.alloc(), two_pins(), 1)?;
+    let mut pinned = pin(users.pop().ok_or("a user")?).ok_or("a pin")?;
+    let put = pinned.publish(&[7], &[70]);
+    let word = only_word::<Pinned<OneWord>>(&mut pinned, 7);
+    assert_eq!(rt; (put == Put::Made, word), (true, Some(70)));
+    Ok(())
 }
 
 /// The place where the key would stand, if it is not found.
@@ -136,7 +159,6 @@ fn a_row_of_eight_words_has_six_for_key_and_payload(rt: HostRuntime) -> Result<(
     let mut user = pin(users.pop().ok_or("a user")?).ok_or("a pin")?;
     assert_eq!(rt; user.publish(&[1], &[1, 2, 3, 4, 5, 6]), Put::TooWide);
     assert_eq!(rt; user.publish(&[1], &[1, 2, 3, 4, 5]), Put::Made);
-    assert_eq!(rt; last_word::<AnyRow, Pinned<AnyRow>>(&mut user, 1), Some(5));
     assert_eq!(rt; first_word(&mut user, 1), Some(1));
     Ok(())
 }
