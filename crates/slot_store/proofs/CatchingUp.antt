@@ -10,20 +10,17 @@ use lib.ListN.{get_elem?}
 use Rattle.atomic_table.specs.Seated.{TableId}
 use lib.Dec.{eqb}
 use Rattle.std.specs.Prelude.{Some, true, false, Bool}
-use Rattle.pin_rule.specs.declared.sizes.Sizes.{Sizes}
 use Rattle.pin_rule.specs.declared.content.Entry.{Entry}
 use Rattle.pin_rule.specs.declared.view.View.{View}
-use Rattle.pin_rule.specs.declared.view.Pin.{Pin}
 use Rattle.pin_rule.specs.declared.view.Step.{Step}
-use Rattle.pin_rule.specs.Lists.{Each}
 use Rattle.pin_rule.specs.Views.{now, IsPrefix}
-use Rattle.pin_rule.specs.Steps.{noted, loaded_log, is_below, is_next, with_word, with_words, after_load_log}
+use Rattle.pin_rule.specs.Steps.{noted, loaded_log, is_below, is_next, with_word, after_load_log}
 use Rattle.pin_rule.proofs.Lists.{each_append}
 use Rattle.slot_store.specs.declared.site.Site.{Site}
 use Rattle.pin_rule.proofs.KindLoadLog.{has_at}
 use Rattle.slot_store.specs.Meaning.{meaning_of}
 use Rattle.slot_store.specs.Answers.{ReadsLog}
-use Rattle.slot_store.specs.Logs.{IsLogLoad, LogMoves, IsBehind, ReadsNext, CatchesUp, ReadsKnown, IsEntryOf}
+use Rattle.slot_store.specs.Logs.{IsLogLoad, LogMoves, ReadsNext, CatchesUp, ReadsKnown, IsEntryOf}
 
 pub prefix_self : (l : List Entry) → IsPrefix l l
 prefix_self l = ([], sym (append-nil l))

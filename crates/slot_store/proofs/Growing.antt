@@ -1,6 +1,5 @@
 -- What stays true of a view and of the steps that were added as more steps follow.
 use Rattle.std.proofs.Common.{ℕ, List, [], ◌++◌, length, subst, inl, inr, append_assoc, append-nil, sym, refl, ap, ◌∙◌}
-use Rattle.pin_rule.specs.declared.sizes.Sizes.{Sizes}
 use Rattle.slot_store.specs.declared.site.Site.{Site}
 use Rattle.pin_rule.specs.declared.content.Entry.{Entry}
 use Rattle.pin_rule.specs.declared.view.View.{View}

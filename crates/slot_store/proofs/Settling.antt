@@ -1,6 +1,5 @@
 -- The walk of a row to its place.
 use Rattle.std.proofs.Common.{◌≡◌, ℕ, suc, ◌+◌, ◌<◌, ◌≤◌, List, [], ◌∷◌, ◌++◌, length, append_assoc, sym, ap, ◌∙◌, subst, arith}
-use Rattle.pin_rule.specs.declared.sizes.Sizes.{Sizes}
 use Rattle.slot_store.specs.declared.site.Site.{Site}
 use Rattle.pin_rule.specs.declared.content.Entry.{Entry}
 use Rattle.pin_rule.specs.declared.view.View.{View}

@@ -10,7 +10,6 @@ use Rattle.pin_rule.specs.declared.content.Entry.{Entry}
 use Rattle.pin_rule.specs.declared.view.View.{View}
 use Rattle.pin_rule.specs.declared.view.OwnRow.{OwnRow}
 use Rattle.pin_rule.specs.declared.view.Step.{Step}
-use Rattle.pin_rule.specs.Layout.{row_word}
 use Rattle.pin_rule.specs.declared.ops.Op.TheVariants as op
 use Rattle.pin_rule.specs.Lists.{In}
 use Rattle.pin_rule.specs.Steps.{without, written, wrote_row, after_write_row}

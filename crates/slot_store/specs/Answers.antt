@@ -103,3 +103,9 @@ Publishes m n key payload put = (added : List Step) × (n ≡ extended m added) 
 -- the call added loads of log words alone
 abbrev pub ReadsLog : Meaning → Meaning → Type 0
 ReadsLog m n = (added : List Step) × (n ≡ extended m added) × Each IsLogLoad added
+
+-- the payload that is lent makes a row that fits
+abbrev pub LendsFitting : (List ℕ → Type 0) → List ℕ → Look → Type 0
+LendsFitting fits key (look.Found payload) = fits (row_of key payload.now)
+LendsFitting fits key (look.Initial place) = Unit {0}
+LendsFitting fits key look.PageFull = Unit {0}

@@ -1,8 +1,5 @@
 -- What a pass does when it pins the current version and when it drops the pin, by the steps that it adds.
-use Rattle.std.specs.Prelude.{◌≡◌, ◌≢◌, ℕ, ◌+◌, ◌≤◌, List, [], ◌∷◌, ◌++◌, length, None}
-use Rattle.atomic_table.specs.Seated.{TableId}
-use Rattle.pin_rule.specs.declared.sizes.Sizes.{Sizes}
-use Rattle.pin_rule.specs.declared.content.Entry.{Entry}
+use Rattle.std.specs.Prelude.{◌≡◌, ℕ, ◌+◌, ◌≤◌, List, [], ◌∷◌, ◌++◌, length, None}
 use Rattle.pin_rule.specs.declared.view.Step.{Step}
 use Rattle.pin_rule.specs.Layout.{version_named, page_named}
 use Rattle.pin_rule.specs.Lists.{Each}

@@ -4,7 +4,7 @@ ghost use mathlib.Core.Option.{none};
 ghost use Rattle.std.specs.Borrow.{sem, follows_so};
 ghost use Rattle.slot_store.specs.Keys.{row_of};
 ghost use Rattle.slot_store.specs.Logs.{IsEntryOf};
-ghost use Rattle.slot_store.specs.Answers.{Finds, Publishes, ReadsLog};
+ghost use Rattle.slot_store.specs.Answers.{Finds, LendsFitting, Publishes, ReadsLog};
 
 use pin_rule::content::Content;
 
@@ -58,7 +58,8 @@ pub trait Page<C: Content> {
     /// Looks for the row with this key.
     fn find(&mut self, key: &[u64]) -> Look<'_>
         requires { 0 < length key.now }
-        ensures* { sem 𝓛 (follows_so Self.row Self.row self.entry.ghost_name none (λ _ _. ⊤) (λ n. Finds C.fits (means self.old) (means n) key.now result)) };
+        ensures lent { LendsFitting (C.fits (means self.old).log) key.now result }
+        ensures* found { sem 𝓛 (follows_so Self.row Self.row self.entry.ghost_name none (λ _ _. ⊤) (λ n. Finds C.fits (means self.old) (means n) key.now result)) };
 
     /// Publishes a row, if the page has none with this key.
     fn publish(&mut self, key: &[u64], payload: &[u64]) -> Put

@@ -6,7 +6,7 @@ use crate::opening::open_still;
 use crate::page::{Look, Page, Put};
 use crate::pass::Pass;
 use crate::pinned::Pinned;
-use pin_rule::content::AnyRow;
+use pin_rule::content::{AnyRow, Content};
 use pin_rule::sizes::Sizes;
 use std::alloc::Global;
 use std::test::Fail;
@@ -14,7 +14,7 @@ use std::thread;
 use std::thread::Threads;
 
 /// Pins the current version; none where no pin is left.
-fn pin(pass: Pass<AnyRow>) -> Option<Pinned<AnyRow>> {
+fn pin<C: Content>(pass: Pass<C>) -> Option<Pinned<C>> {
     match pass.pin() {
         Ok(pinned) => Some(pinned),
         Err(_) => None,
@@ -28,6 +28,39 @@ fn first_word(user: &mut Pinned<AnyRow>, key: u64) -> Option<u64> {
         Look::Initial { place: _ } => None,
         Look::PageFull => None,
     }
+}
+
+/// The content whose rows have a payload of one word.
+struct OneWord;
+
+impl Content for OneWord {
+    ghost use Rattle.std.specs.Prelude.{◌≡◌, slice_index};
+
+    ghost lawful = { λ _. Unit {0} };
+
+    ghost fits = { λ _ row. slice_index row 1 ≡ 1 };
+
+    ghost empty = { tt };
+}
+
+/// The word of the row with the key, on any page of this content: that there is
+/// one is what `find` says of the payload that it lends.
+fn only_word<P: Page<OneWord>>(page: &mut P, key: u64) -> Option<u64> {
+    match page.find(&[key]) {
+        Look::Found(payload) => Some(payload[0]),
+        Look::Initial { place: _ } => None,
+        Look::PageFull => None,
+    }
+}
+
+#[test]
+fn a_page_of_one_word_rows_lends_a_word(rt: HostRuntime) -> Result<(), Fail> {
+    let mut users = open_still::<OneWord>(rt.alloc(), two_pins(), 1)?;
+    let mut pinned = pin(users.pop().ok_or("a user")?).ok_or("a pin")?;
+    let put = pinned.publish(&[7], &[70]);
+    let word = only_word::<Pinned<OneWord>>(&mut pinned, 7);
+    assert_eq!(rt; (put == Put::Made, word), (true, Some(70)));
+    Ok(())
 }
 
 /// The place where the key would stand, if it is not found.

@@ -1,7 +1,7 @@
-use Rattle.std.proofs.Common.{◌≡◌, ◌<◌, ◌≤◌, ℕ, refl, sym, ap, ◌∙◌, arith}
+use Rattle.std.proofs.Common.{arith}
 use Rattle.pin_rule.specs.Hands.{view_of}
 use Rattle.pin_rule.proofs.KindLoadLog.{keeps_load_log}
-use Rattle.slot_store.proofs.CatchingUp.{stays, no_words, one_word, all_words, knows_more}
+use Rattle.slot_store.proofs.CatchingUp.{all_words}
 use Rattle.slot_store.proofs.catching.read_known.Goals as goal
 
 pub load_log-requires-clause-keeps : goal.load_log-requires-clause-keeps

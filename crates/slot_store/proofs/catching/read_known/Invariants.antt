@@ -1,4 +1,4 @@
-use Rattle.std.proofs.Common.{◌≡◌, ◌≢◌, ◌<◌, ℕ, length, slice_index}
+use Rattle.std.proofs.Common.{◌≡◌, ◌≢◌}
 use Rattle.pin_rule.specs.Hands.{view_of, table_of}
 use Rattle.pin_rule.specs.Told.{Tells}
 use Rattle.slot_store.specs.Logs.{ReadsKnown}

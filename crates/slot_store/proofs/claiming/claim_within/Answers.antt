@@ -1,6 +1,5 @@
 use Rattle.std.proofs.Common.{◌≡◌, ◌<◌, refl, ap, ◌∙◌, arith}
 use Rattle.pin_rule.specs.declared.sizes.Sizes.{Sizes}
-use Rattle.slot_store.specs.declared.site.Site.{Site}
 use Rattle.pin_rule.specs.Hands.{view_of, sizes_of}
 use Rattle.pin_rule.proofs.KindClaim.{keeps_claim}
 use Rattle.slot_store.proofs.Growing.{work_on}

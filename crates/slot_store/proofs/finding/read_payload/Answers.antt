@@ -1,6 +1,5 @@
 use Rattle.std.proofs.Common.{◌≡◌, ◌+◌, ◌≤◌, ℕ, length, length-set, refl, ap, ◌∙◌, arith}
 use Rattle.pin_rule.specs.declared.sizes.Sizes.{Sizes}
-use Rattle.slot_store.specs.declared.site.Site.{Site}
 use Rattle.pin_rule.specs.Hands.{view_of, sizes_of}
 use Rattle.pin_rule.proofs.KindLoads.{keeps_load_row}
 use Rattle.slot_store.proofs.Growing.{work_on, told_at}

@@ -1,4 +1,4 @@
-use Rattle.std.proofs.Common.{◌≡◌, ◌≢◌, ◌≤◌, ℕ, zero, suc, inl, refl, ◌∙◌, arith}
+use Rattle.std.proofs.Common.{◌≢◌, ◌≤◌, ℕ, zero, suc, inl, refl, ◌∙◌, arith}
 use Rattle.pin_rule.specs.Hands.{view_of}
 use Rattle.pin_rule.proofs.KindPin.{keeps_pin}
 use Rattle.slot_store.proofs.pass.Pass.pin.Goals as goal

@@ -8,11 +8,11 @@ use Rattle.slot_store.proofs.using.PinnedPage.find.Goals as goal
 
 pub returns-in-PageFull : goal.returns-in-PageFull
 returns-in-PageFull g c = let p = c.args.self.now in let q = c.look-glance.new.hand in let k = c.in-PageFull.ensures.look in
-    ((refl, (λ _. tt), finds p.site (view_of p.hand) (view_of q) (table_of p.hand) (table_of q) k.added k.moves k.own c.in-PageFull.ensures.table g.C.Content.fits c.args.key.now look.PageFull p.measured k.is), tt)
+    ((refl, (λ _. tt), finds p.site (view_of p.hand) (view_of q) (table_of p.hand) (table_of q) k.added k.moves k.own c.in-PageFull.ensures.table g.C.Content.fits c.args.key.now look.PageFull p.measured k.is), record { lent = tt; found = tt })
 
 pub returns-in-Initial : goal.returns-in-Initial
 returns-in-Initial g c = let p = c.args.self.now in let q = c.look-glance.new.hand in let k = c.in-Initial.ensures.look in
-    ((refl, (λ _. tt), finds p.site (view_of p.hand) (view_of q) (table_of p.hand) (table_of q) k.added k.moves k.own c.in-Initial.ensures.table g.C.Content.fits c.args.key.now (look.Initial c.in-Initial.place) p.measured k.is), tt)
+    ((refl, (λ _. tt), finds p.site (view_of p.hand) (view_of q) (table_of p.hand) (table_of q) k.added k.moves k.own c.in-Initial.ensures.table g.C.Content.fits c.args.key.now (look.Initial c.in-Initial.place) p.measured k.is), record { lent = tt; found = tt })
 
 pub returns-in-Found : goal.returns-in-Found
 returns-in-Found g c =
@@ -25,5 +25,5 @@ returns-in-Found g c =
         finds p.site (view_of p.hand) (view_of q) (table_of p.hand) (table_of q) k.added k.moves k.own c.in-Found.ensures.table F c.args.key.now
             (look.Found (record { ref_ptr = c.as_slice.result.ref_ptr; now = take n c.as_slice.result.now })) p.measured found,
       ),
-      tt,
+      record { lent = found.fitting; found = tt },
     )
