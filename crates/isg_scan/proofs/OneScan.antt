@@ -128,7 +128,8 @@ one_from grammar offset room text a b (full {piece = p} {rest = r} {winner = v} 
     is) [
       | ends empty e ↦ absurd (no_piece grammar p r (subst (λ t. IsLongest grammar t p r) empty long))
       | stops some nothing e ↦ absurd (nothing p r long.begins long.matched)
-      | skips piece rest winner longest wins kind later ↦ cc (one_kind grammar text p piece r rest v winner (token_of x) skip long longest won wins is_token kind)
+      | skips piece rest winner longest wins kind later ↦ cc
+          (one_kind grammar text p piece r rest v winner (token_of x) skip long longest won wins is_token kind)
       | fills piece rest winner kind longest wins k full_up e ↦ sym e
       | takes piece rest winner kind left others longest wins k room_is later e ↦ absurd (omega (arith, room_is))
     ]
@@ -136,7 +137,8 @@ one_from grammar offset room text a b (more {room = n} {piece = p} {rest = r} {w
     (step_of grammar offset room text b is) [
       | ends empty e ↦ absurd (no_piece grammar p r (subst (λ t. IsLongest grammar t p r) empty long))
       | stops some nothing e ↦ absurd (nothing p r long.begins long.matched)
-      | skips piece rest winner longest wins kind later ↦ cc (one_kind grammar text p piece r rest v winner (token_of x) skip long longest won wins is_token kind)
+      | skips piece rest winner longest wins kind later ↦ cc
+          (one_kind grammar text p piece r rest v winner (token_of x) skip long longest won wins is_token kind)
       | fills piece rest winner kind longest wins k full_up e ↦ absurd (omega (arith, full_up))
       | takes piece rest winner kind left others longest wins k room_is later e ↦
           let same = one_longest grammar text piece p rest r longest long in

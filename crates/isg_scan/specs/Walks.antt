@@ -17,7 +17,7 @@ IsStateAfter grammar part Start = part ≡ []
 IsStateAfter grammar part (Set marks) = (0 < length part) × ListsMarks (IsAfter grammar part) marks × (0 < length marks)
 
 -- the first so many bytes are matched, won by a definition of this kind
-pub record IsPiece (grammar : Grammar) (text : List ℕ) (length_of_piece : ℕ) (kind : DefKind) : Type 0 where
+pub record IsMatchedPiece (grammar : Grammar) (text : List ℕ) (length_of_piece : ℕ) (kind : DefKind) : Type 0 where
   pub within : length_of_piece ≤ length text
   pub matched : IsMatched grammar (take length_of_piece text)
   pub winner : DefId
@@ -31,7 +31,7 @@ NoneMatched grammar text above upto = (size : ℕ) → above < size → size ≤
 -- the longest matched piece of at most so many bytes: its length and its kind
 abbrev pub IsBest : Grammar → List ℕ → ℕ → Option (ℕ × DefKind) → Type 0
 IsBest grammar text upto best = MatchOption best (NoneMatched grammar text 0 upto)
-    (λ piece. (piece.0 ≤ upto) × IsPiece grammar text piece.0 piece.1 × NoneMatched grammar text piece.0 upto)
+    (λ piece. (piece.0 ≤ upto) × IsMatchedPiece grammar text piece.0 piece.1 × NoneMatched grammar text piece.0 upto)
 
 -- the best piece after a state that accepts this, where so many bytes are read
 abbrev pub best_with : Option (ℕ × DefKind) → (at : ℕ) → Option DefKind → Option (ℕ × DefKind)

@@ -6,7 +6,7 @@ ghost use Rattle.isg_states.specs.declared.scan_key.ScanKey.{ScanKey};
 ghost use Rattle.live_graph.specs.Cost.{RisesAsCost};
 ghost use Rattle.isg_scan.specs.Reach.{ReachesScan};
 ghost use Rattle.isg_scan.specs.Answers.{EndsWith, UnlessNoMemory};
-ghost use Rattle.isg_scan.specs.Taken.{IsTaken, IsRefusal};
+ghost use Rattle.isg_scan.specs.Taken.{IsTaken, IsOneTooMany};
 
 use crate::scan_error::ScanError;
 use crate::states::States;
@@ -32,7 +32,7 @@ fn take_piece(
     requires order { from ≤ to }
     requires small { to < 2 ^ 32 }
     ensures taken { OnOk result (IsTaken kind from to tokens.old.items tokens.new.items) }
-    ensures refused { IfErr result (IsRefusal kind from tokens.old.items) }
+    ensures refused { IfErr result (IsOneTooMany kind from tokens.old.items) }
 {
     let DefKind::Token(kind) = kind else {
         return Ok(());
