@@ -1,4 +1,4 @@
-use Rattle.std.proofs.Common.{◌≡◌, List, true, false, take, sym, ◌∙◌, subst, arith, Contains}
+use Rattle.std.proofs.Common.{◌≡◌, List, true, take, sym, subst, arith, Contains}
 use Rattle.std.proofs.lemmas.List.{take_all}
 use Rattle.isg_states.specs.declared.mark.Mark.{Mark}
 use Rattle.graph_content_tests.specs.LiveMarks.{IsLiveMark}
