@@ -89,14 +89,29 @@ behind : (n : ℕ) (xs : List ℕ) → length xs ≤ 8 * n → Behind xs (pads n
 unfolding pads
 behind zero [] h = record { zeros = []; are = tt; whole_is = refl }
 behind zero (x ∷ xs) h = absurd (omega arith)
-behind (suc n) [] h = record { zeros = 0 ∷ 0 ∷ 0 ∷ 0 ∷ 0 ∷ 0 ∷ 0 ∷ 0 ∷ pads n []; are =
-    (refl, (refl, (refl, (refl, (refl, (refl, (refl, (refl, nothing_behind n)))))))); whole_is = refl }
-behind (suc n) (a ∷ []) h = record { zeros = 0 ∷ 0 ∷ 0 ∷ 0 ∷ 0 ∷ 0 ∷ 0 ∷ pads n []; are =
-    (refl, (refl, (refl, (refl, (refl, (refl, (refl, nothing_behind n))))))); whole_is = refl }
-behind (suc n) (a ∷ b ∷ []) h = record { zeros = 0 ∷ 0 ∷ 0 ∷ 0 ∷ 0 ∷ 0 ∷ pads n []; are = (refl, (refl, (refl, (refl, (refl, (refl, nothing_behind n))))));
-    whole_is = refl }
-behind (suc n) (a ∷ b ∷ c ∷ []) h = record { zeros = 0 ∷ 0 ∷ 0 ∷ 0 ∷ 0 ∷ pads n []; are = (refl, (refl, (refl, (refl, (refl, nothing_behind n))))); whole_is =
-    refl }
+behind (suc n) [] h = record {
+  zeros = 0 ∷ 0 ∷ 0 ∷ 0 ∷ 0 ∷ 0 ∷ 0 ∷ 0 ∷ pads n [];
+  are =
+      (refl, (refl, (refl, (refl, (refl, (refl, (refl, (refl, nothing_behind n))))))));
+  whole_is = refl;
+}
+behind (suc n) (a ∷ []) h = record {
+  zeros = 0 ∷ 0 ∷ 0 ∷ 0 ∷ 0 ∷ 0 ∷ 0 ∷ pads n [];
+  are =
+      (refl, (refl, (refl, (refl, (refl, (refl, (refl, nothing_behind n)))))));
+  whole_is = refl;
+}
+behind (suc n) (a ∷ b ∷ []) h = record {
+  zeros = 0 ∷ 0 ∷ 0 ∷ 0 ∷ 0 ∷ 0 ∷ pads n [];
+  are = (refl, (refl, (refl, (refl, (refl, (refl, nothing_behind n))))));
+  whole_is = refl;
+}
+behind (suc n) (a ∷ b ∷ c ∷ []) h = record {
+  zeros = 0 ∷ 0 ∷ 0 ∷ 0 ∷ 0 ∷ pads n [];
+  are = (refl, (refl, (refl, (refl, (refl, nothing_behind n)))));
+  whole_is =
+      refl;
+}
 behind (suc n) (a ∷ b ∷ c ∷ d ∷ []) h = record { zeros = 0 ∷ 0 ∷ 0 ∷ 0 ∷ pads n []; are = (refl, (refl, (refl, (refl, nothing_behind n)))); whole_is = refl }
 behind (suc n) (a ∷ b ∷ c ∷ d ∷ e ∷ []) h = record { zeros = 0 ∷ 0 ∷ 0 ∷ pads n []; are = (refl, (refl, (refl, nothing_behind n))); whole_is = refl }
 behind (suc n) (a ∷ b ∷ c ∷ d ∷ e ∷ f ∷ []) h = record { zeros = 0 ∷ 0 ∷ pads n []; are = (refl, (refl, nothing_behind n)); whole_is = refl }
@@ -221,7 +236,7 @@ put_byte zero xs byte i j at within short h is = absurd (omega arith)
 put_byte (suc n) xs byte zero j at within short h is =
     let same : length xs ≡ j = omega arith in
     subst (λ (m : ℕ). put (packed_words (suc n) xs) 0 (byte * 2 ^ (m * 8) % 2 ^ 64) ≡ packed_words (suc n) (xs ++ byte ∷ [])) same
-        (put_first n xs byte (omega arith) h is)
+    (put_first n xs byte (omega arith) h is)
 put_byte (suc n) [] byte (suc i) j at within short h is = absurd (omega arith)
 put_byte (suc n) (a ∷ []) byte (suc i) j at within short h is = absurd (omega arith)
 put_byte (suc n) (a ∷ b ∷ []) byte (suc i) j at within short h is = absurd (omega arith)
@@ -232,4 +247,4 @@ put_byte (suc n) (a ∷ b ∷ c ∷ d ∷ e ∷ f ∷ []) byte (suc i) j at with
 put_byte (suc n) (a ∷ b ∷ c ∷ d ∷ e ∷ f ∷ g ∷ []) byte (suc i) j at within short h is = absurd (omega arith)
 put_byte (suc n) (a ∷ b ∷ c ∷ d ∷ e ∷ f ∷ g ∷ k ∷ rest) byte (suc i) j at within short h is =
     ap (λ words. from_le_bytes w64 (a ∷ b ∷ c ∷ d ∷ e ∷ f ∷ g ∷ k ∷ []) ∷ words)
-        (put_byte n rest byte i j (omega arith) within (omega arith) h.1.1.1.1.1.1.1.1 is)
+    (put_byte n rest byte i j (omega arith) within (omega arith) h.1.1.1.1.1.1.1.1 is)

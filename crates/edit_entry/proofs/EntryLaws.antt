@@ -211,8 +211,11 @@ read_no_reason text edit reads why is = let e : ◌≡◌ {A = Result Edit BadEd
 
 other_cause : (words : List ℕ) (edit : Edit) → length words ≡ 32 → AreWords words → ¬ IsLengthTooLong words → edit_of (text_in words) ≡ Ok edit
     → ¬ (words ≡ entry_of edit) → IsRefusedFor words NotCanonical
-other_cause words edit len are small reads other = (small, read_no_reason (text_in words) edit reads,
-    λ is. other (canonical_is_entry words edit len are small reads is))
+other_cause words edit len are small reads other = (
+  small,
+  read_no_reason (text_in words) edit reads,
+  λ is. other (canonical_is_entry words edit len are small reads is),
+)
 
 -- a text that was read as an edit that is written otherwise
 pub other_words : (words : List ℕ) (edit : Edit) → length words ≡ 32 → AreWords words → ¬ IsLengthTooLong words → edit_of (text_in words) ≡ Ok edit
@@ -235,8 +238,11 @@ by_words : (words : List ℕ) (edit : Edit) (same : Bool) → bytes_eq words (en
     → edit_of (text_in words) ≡ Ok edit → IsSound edit → IsEntry words ⊎ IsNone words
 by_words words edit true told len are small reads sound = inl (record { edit = edit; sound = sound; is = (bytes_eq-Decides words (entry_of edit)).0 told })
 by_words words edit false told len are small reads sound =
-    inr (record { cause = NotCanonical; is = other_cause words edit len are small reads (λ is. absurd (false≢true (sym told
-        ∙ (bytes_eq-Decides words (entry_of edit)).1 is))) })
+    inr (record {
+      cause = NotCanonical;
+      is = other_cause words edit len are small reads (λ is. absurd (false≢true (sym told
+          ∙ (bytes_eq-Decides words (entry_of edit)).1 is)));
+    })
 
 by_text : (words : List ℕ) (r : Result Edit BadEdit) → edit_of (text_in words) ≡ r → length words ≡ 32 → AreWords words → ¬ IsLengthTooLong words
     → IsLine (text_in words) → IsEntry words ⊎ IsNone words
@@ -244,10 +250,16 @@ by_text words (Ok edit) reads len are small line =
     by_words words edit (bytes_eq words (entry_of edit)) refl len are small reads (all_sound (text_in words) (Ok edit) line (text_bytes words) reads)
 by_text words (Err (bad_edit.Shape offset)) reads len are small line = inr (record { cause = Text (bad_edit.Shape offset); is = (small, (line, reads)) })
 by_text words (Err (bad_edit.BadName offset)) reads len are small line = inr (record { cause = Text (bad_edit.BadName offset); is = (small, (line, reads)) })
-by_text words (Err (bad_edit.BadLiteral offset)) reads len are small line = inr (record { cause = Text (bad_edit.BadLiteral offset); is =
-    (small, (line, reads)) })
-by_text words (Err (bad_edit.TooManySymbols offset)) reads len are small line = inr (record { cause = Text (bad_edit.TooManySymbols offset); is =
-    (small, (line, reads)) })
+by_text words (Err (bad_edit.BadLiteral offset)) reads len are small line = inr (record {
+  cause = Text (bad_edit.BadLiteral offset);
+  is =
+      (small, (line, reads));
+})
+by_text words (Err (bad_edit.TooManySymbols offset)) reads len are small line = inr (record {
+  cause = Text (bad_edit.TooManySymbols offset);
+  is =
+      (small, (line, reads));
+})
 by_text words (Err (bad_edit.TooLong offset)) reads len are small line = inr (record { cause = Text (bad_edit.TooLong offset); is = (small, (line, reads)) })
 by_text words (Err bad_edit.NoMemory) reads len are small line = absurd (never_memory (text_in words) reads)
 

@@ -61,7 +61,7 @@ pub pushed_closes : (words text : List ℕ) (byte : ℕ) → words ≡ words_for
 pushed_closes words text byte packed of short is =
     let grown : length (text ++ byte ∷ []) ≡ length text + 1 = length_push text byte in
     closes (pushed words byte) (text ++ byte ∷ []) (ap (λ ws. pushed ws byte) packed ∙ pushed-go text byte of short is) (joined_bytes text byte of is)
-        (omega arith)
+    (omega arith)
 
 -- ---- a whole text
 

@@ -83,11 +83,11 @@ symbols_stay_rule g r well accepted =
     let named = each_contained _ g.rules there.0 well.lefts is.0 in
     let right = each_contained _ g.rules there.0 well.rights is.0 in
     let left : IsPlaced g.symbols (symbol_at g.symbols there.0.left) = rw (symbol_at_get g.symbols there.0.left (Named named.0) named.1)
-        (placed_from_get g.symbols (Named named.0) there.0.left.0 named.1) in
+    (placed_from_get g.symbols (Named named.0) there.0.left.0 named.1) in
     let name : Named (text_of g.symbols there.0).left ≡ symbol_at g.symbols there.0.left =
-        rw (symbol_at_get g.symbols there.0.left (Named named.0) named.1) refl in
+    rw (symbol_at_get g.symbols there.0.left (Named named.0) named.1) refl in
     let placed : ArePlaced g.symbols (Named (text_of g.symbols there.0).left ∷ (text_of g.symbols there.0).right) =
-        (subst (λ (s : Symbol). IsPlaced g.symbols s) (sym name) left, parts_placed g.symbols there.0.right right.0) in
+    (subst (λ (s : Symbol). IsPlaced g.symbols s) (sym name) left, parts_placed g.symbols there.0.right right.0) in
     with_symbols-same g.symbols (Named r.left ∷ r.right) (subst (λ (text : RuleText). ArePlaced g.symbols (Named text.left ∷ text.right)) is.1 placed)
 
 pub symbols_stay_definition : (g : Grammar) (skip : Bool) (name : List ℕ) → IsWellFormed g → IsAccepted g (drops skip name)
@@ -115,7 +115,7 @@ same_test : (g : Grammar) (r : RuleText) (live other : Rule) → IsWellFormed g 
     → reads g.symbols r other ≡ (other.number.0 == live.number.0)
 same_test g r live other well at there =
     let one : other.number.0 ≡ live.number.0 → other ≡ live = λ e. distinct_map (λ (r : Rule). r.number.0) g.rules other live
-        (sorted_keys (λ (r : Rule). r.number.0) g.rules well.rule_order) there at.0 e in
+    (sorted_keys (λ (r : Rule). r.number.0) g.rules well.rule_order) there at.0 e in
     same_answers (reads g.symbols r other) (other.number.0 == live.number.0)
     (λ e.
     let text : text_of g.symbols other ≡ r = (rule_eq-decides (text_of g.symbols other) r).0 e in
@@ -132,7 +132,7 @@ rules_dropped g r live well accepted is =
     let at = written g r live is in
     ap (λ (symbols : List Symbol). filter (λ other. not (reads symbols r other)) g.rules) stay
     ∙ filter_same (λ other. not (reads g.symbols r other)) (λ other. not (other.number.0 == live.number.0)) g.rules
-        (all_contained _ g.rules (λ other c. ap not (same_test g r live other well at c)))
+    (all_contained _ g.rules (λ other c. ap not (same_test g r live other well at c)))
 
 -- one definition at most has the name
 pub one_named : (g : Grammar) (name : List ℕ) (a b : Definition) → IsWellFormed g → Contains g.definitions a → Contains g.definitions b
@@ -185,8 +185,12 @@ growing : (g : Grammar) (edit : Edit) → IsWellFormed g → IsFree g edit → l
 growing g edit well free few =
     let grows = with_symbols-grows g.symbols (symbols_of edit) in
     let not_full : g.version ≡ LOG_LIMIT → ⊥ = eqb-false g.version LOG_LIMIT (when_none (g.version == LOG_LIMIT) _ free.fullness) in
-    well_grown g (with_symbols g.symbols (symbols_of edit)) well (omega (arith, well.version, not_full)) (record { more = grows.more; is = grows.is; few =
-        omega (arith, grows.few) }) (with_symbols-distinct g.symbols (symbols_of edit) well.distinct)
+    well_grown g (with_symbols g.symbols (symbols_of edit)) well (omega (arith, well.version, not_full)) (record {
+      more = grows.more;
+      is = grows.is;
+      few =
+          omega (arith, grows.few);
+    }) (with_symbols-distinct g.symbols (symbols_of edit) well.distinct)
 
 rule_well : (g : Grammar) (r : RuleText) → IsWellFormed g → IsAccepted g (AddRule r) → IsWellFormed (after g (AddRule r))
 unfolding after
@@ -198,7 +202,7 @@ rule_well g r well accepted =
     let grows = with_symbols-grows g.symbols (symbols_of edit) in
     let placed = with_symbols-placed g.symbols (symbols_of edit) in
     let texts : map (text_of symbols) g.rules ≡ map (text_of g.symbols) g.rules = ap (λ ss. map (text_of ss) g.rules) grows.is
-        ∙ texts-grow g.symbols grows.more g.rules well.lefts well.rights in
+    ∙ texts-grow g.symbols grows.more g.rules well.lefts well.rights in
     let undefined = none_any (has_name g.symbols r.left) g.definitions (when_none (is_defined g r.left) _ free.clash) in
     let unwritten = none_found (reads g.symbols r) g.rules (map_none _ (rule_found g r) free.twin) in
     well_with_rule (with_its g edit) (numbered symbols (g.version + 1) r) (growing g edit well free (omega (arith, short)))
@@ -209,8 +213,8 @@ rule_well g r well accepted =
       right = (numbers_within symbols r.right placed.1, omega (arith, short, length-map r.right (number_of symbols)));
       text = λ c.
           let there : Contains (map (text_of g.symbols) g.rules) r = subst (λ (x : RuleText). Contains (map (text_of g.symbols) g.rules) x)
-              (text_of-numbered symbols (g.version + 1) r placed)
-              (subst (λ (xs : List RuleText). Contains xs (text_of symbols (numbered symbols (g.version + 1) r))) texts c) in
+          (text_of-numbered symbols (g.version + 1) r placed)
+          (subst (λ (xs : List RuleText). Contains xs (text_of symbols (numbered symbols (g.version + 1) r))) texts c) in
           let at = contains_map_from (text_of g.symbols) g.rules r there in
           let yes = (rule_eq-decides (text_of g.symbols at.from) r).1 at.is in
           let no = each_contained _ g.rules at.from unwritten at.there in
@@ -290,7 +294,7 @@ well_formed_after g (DropRule r) well accepted =
 well_formed_after g (AddToken d) well accepted =
     let free = free g (AddToken d) accepted.taken in
     well_with_definition (with_its g (AddToken d)) _ (growing g (AddToken d) well free (omega arith))
-        (new_definition g false d well (added_unused g false d free))
+    (new_definition g false d well (added_unused g false d free))
 well_formed_after g (DropToken name) well accepted =
     let free = free g (DropToken name) accepted.taken in
     well_without_definitions (with_its g (DropToken name)) _ (growing g (DropToken name) well free (omega arith))

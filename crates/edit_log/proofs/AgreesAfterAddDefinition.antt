@@ -88,7 +88,7 @@ module _ (version : ℕ) (symbols new_symbols : List Symbol) (rules : List Rule)
       let add = add_planned held edit p plan in
       let seen : map seen_of new ≡ (after held (adds add.skip add.text)).definitions =
       ap (map seen_of) is ∙ map-append seen_of definitions (p.live ∷ []) ∙ ap (λ (live : Definition). map seen_of definitions ++ live ∷ []) add.new.is ∙ sym
-          (one_more held add.skip add.text) in
+      (one_more held add.skip add.text) in
       let same = same_grammar (grammar_in (version + 1) new_symbols rules new) (after held (adds add.skip add.text))
       (sym (version_next held (adds add.skip add.text))) (symbols-are ∙ sym add.fresh.symbols) (sym (rules_kept held add.skip add.text)) seen in
       same ∙ ap (after held) (sym add.is)
@@ -97,7 +97,7 @@ module _ (version : ℕ) (symbols new_symbols : List Symbol) (rules : List Rule)
       (old_uses uses : List ℕ) (old_literals literals : List (Option Table))
       (old_live live : List DefId) (spare : List Rule)
       → Agrees held finds old_names old_lefts old_uses old_literals definitions old_live spare → IsAccepted held edit
-          → IsPlanFor held edit (planned.AddDefinition p)
+      → IsPlanFor held edit (planned.AddDefinition p)
       → new_symbols ≡ symbols ++ symbols_in p.fresh.items → new ≡ definitions ++ p.live ∷ []
       → lefts ≡ with_fresh old_lefts p.fresh.items → uses ≡ uses_with old_uses p.fresh.items → literals ≡ literals_with old_literals p.fresh.items
       → names p.name ≡ Some p.live.number → ((other : List ℕ) → bytes_eq p.name other ≡ false → names other ≡ old_names other)
@@ -113,7 +113,7 @@ module _ (version : ℕ) (symbols new_symbols : List Symbol) (rules : List Rule)
       let number : p.live.number ≡ next = ap (λ (live : Definition). live.number) add.new.is in
       let come : names add.text.name ≡ Some next = ap names (sym add.name) ∙ told ∙ ap Some number in
       let apart : (other : List ℕ) → bytes_eq add.text.name other ≡ false → names other ≡ old_names other =
-          λ other e. others other (subst (λ (name : List ℕ). bytes_eq name other ≡ false) (sym add.name) e) in
+      λ other e. others other (subst (λ (name : List ℕ). bytes_eq name other ≡ false) (sym add.name) e) in
       let lists = subst (λ (n : RuleId). ListsDefinitions (λ other. Contains old_live other ⊎ (other ≡ named n)) live) number (put agrees.has_live.order) in
       subst (λ (g : Grammar). Agrees g finds names lefts uses literals new live spare) (sym same) (record {
         well_formed = well_formed_after held (adds add.skip add.text) well taken;

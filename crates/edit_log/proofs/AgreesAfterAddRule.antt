@@ -107,8 +107,16 @@ pub left_within : (replica : Replica) (p : NewRule) (lefts new : List (Vec RuleI
     → p.live.left.0 < length new
 left_within replica p lefts new add are new-is =
     let left : p.live.left.0 ≡ place_of (after replica.grammar (AddRule p.text)).symbols (Named p.text.left) = ap (λ (r : Rule). r.left.0) add.live in
-    omega (arith, left, placed_left replica.grammar p.text, grown_length replica p add, are.len, ap length new-is,
-        length-append lefts (map (λ (one : FreshSymbol). one.rules) p.fresh.items), length_rules p.fresh.items)
+    omega (
+      arith,
+      left,
+      placed_left replica.grammar p.text,
+      grown_length replica p add,
+      are.len,
+      ap length new-is,
+      length-append lefts (map (λ (one : FreshSymbol). one.rules) p.fresh.items),
+      length_rules p.fresh.items,
+    )
 
 -- the left side has its number already, or comes behind all numbers
 left_cases : (replica : Replica) (p : NewRule) → IsRuleToAdd replica p → (there : Bool) → nat_lt (place_of replica.grammar.symbols (Named p.text.left))
@@ -117,7 +125,7 @@ left_cases : (replica : Replica) (p : NewRule) → IsRuleToAdd replica p → (th
 left_cases replica p add true is =
     let left : p.live.left.0 ≡ place_of (after replica.grammar (AddRule p.text)).symbols (Named p.text.left) = ap (λ (r : Rule). r.left.0) add.live in
     left ∙ ap (λ ss. place_of ss (Named p.text.left)) add.fresh.symbols ∙ place_of-append replica.grammar.symbols (symbols_in p.fresh.items) (Named p.text.left)
-        (ltb-true _ _ is)
+    (ltb-true _ _ is)
 left_cases replica p add false is = by (nat_lt p.live.left.0 (length replica.grammar.symbols)) refl
   where
     at : slice_get (after replica.grammar (AddRule p.text)).symbols p.live.left.0 ≡ Some (Named p.text.left)
@@ -132,7 +140,7 @@ left_cases replica p add false is = by (nat_lt p.live.left.0 (length replica.gra
     by : (within : Bool) → nat_lt p.live.left.0 (length replica.grammar.symbols) ≡ within → length replica.grammar.symbols ≤ p.live.left.0
     by true within =
         let old = front replica.grammar.symbols (symbols_in p.fresh.items) p.live.left.0 (Named p.text.left) (ltb-true _ _ within)
-            (subst (λ ss. slice_get ss p.live.left.0 ≡ Some (Named p.text.left)) add.fresh.symbols at) in
+        (subst (λ ss. slice_get ss p.live.left.0 ≡ Some (Named p.text.left)) add.fresh.symbols at) in
         absurd (omega (arith, placed_from_get replica.grammar.symbols (Named p.text.left) p.live.left.0 old, ltb-false _ _ is))
     by false within = ltb-false _ _ within
 
@@ -168,14 +176,17 @@ left_room replica p lefts new add are room-is new-is list is =
         let old = in_front lefts (map (λ (one : FreshSymbol). one.rules) p.fresh.items) p.live.left.0 list within at in
         let room : slice_get replica.room.under (place_of replica.grammar.symbols (Named p.text.left)) ≡ Some (room_of list) =
         ap (λ us. slice_get us (place_of replica.grammar.symbols (Named p.text.left))) room-is ∙ ap (slice_get (map room_of lefts)) (sym same)
-            ∙ slice_get-map room_of lefts p.live.left.0 ∙ ap (option_map room_of) old in
+        ∙ slice_get-map room_of lefts p.live.left.0 ∙ ap (option_map room_of) old in
         let some : 1 ≤ room_of list = subst (λ o. IfSome o (λ count. 1 ≤ count)) room add.under in
         omega (arith, some)
     by false there at =
         let past = left_cases replica p add false there in
         let some = fresh_room p.fresh.items (p.live.left.0 - length lefts) list add.fresh.each
-            (behind lefts (map (λ (one : FreshSymbol). one.rules) p.fresh.items) p.live.left.0 (p.live.left.0 - length lefts) list (omega (arith, past,
-            are.len)) at) in
+        (behind lefts (map (λ (one : FreshSymbol). one.rules) p.fresh.items) p.live.left.0 (p.live.left.0 - length lefts) list (omega (
+          arith,
+          past,
+          are.len,
+        )) at) in
         omega (arith, some)
 
 -- ---- the right side
@@ -187,7 +198,7 @@ right_within replica p uses add len part there =
     let all = numbers_within (after replica.grammar (AddRule p.text)).symbols p.text.right (placed_right replica.grammar p.text) in
     let is : p.live.right ≡ map (number_of (after replica.grammar (AddRule p.text)).symbols) p.text.right = ap (λ (r : Rule). r.right) add.live in
     let within = each_contained (λ (x : SymbolId). x.0 < length (after replica.grammar (AddRule p.text)).symbols)
-        (map (number_of (after replica.grammar (AddRule p.text)).symbols) p.text.right) part all (subst (λ xs. Contains xs part) is there) in
+    (map (number_of (after replica.grammar (AddRule p.text)).symbols) p.text.right) part all (subst (λ xs. Contains xs part) is there) in
     omega (arith, within, len)
 
 length_numbers : (symbols xs : List Symbol) → length (map (number_of symbols) xs) ≡ length xs
@@ -197,7 +208,7 @@ length_numbers symbols (x ∷ xs) = ap suc (length_numbers symbols xs)
 pub right_short : (replica : Replica) (p : NewRule) → IsRuleToAdd replica p → length p.live.right ≤ 16
 right_short replica p add =
     let is : length p.live.right ≡ length p.text.right = ap (λ (r : Rule). length r.right) add.live ∙ length_numbers
-        (after replica.grammar (AddRule p.text)).symbols p.text.right in
+    (after replica.grammar (AddRule p.text)).symbols p.text.right in
     omega (arith, is, short_right p.text add.accepted.proper.0)
 
 -- ---- how often a symbol is used at most
@@ -238,8 +249,11 @@ pub uses_fit : (g : Grammar) (fresh : List FreshSymbol) (uses new : List ℕ) (m
 uses_fit g fresh uses new more well are new-is short place = by (slice_get uses place) refl
   where
     total : length g.rules ≤ 16384
-    total = omega (arith, few_rules g.rules zero g.version (omega arith) well.rule_order (positive g.rules g.version well.rule_numbers) well.rule_numbers,
-        well.version)
+    total = omega (
+      arith,
+      few_rules g.rules zero g.version (omega arith) well.rule_order (positive g.rules g.version well.rule_numbers) well.rule_numbers,
+      well.version,
+    )
 
     zeros : (fresh : List FreshSymbol) (i : ℕ) → slice_index_or (map (λ (one : FreshSymbol). zero) fresh) i zero ≡ zero
     zeros [] i = refl
@@ -262,9 +276,9 @@ uses_fit g fresh uses new more well are new-is short place = by (slice_get uses 
         omega (arith, none_there, short)
     by (Some n) is =
         let count : slice_index_or new place zero ≡ n = ap (λ us. slice_index_or us place zero) new-is ∙ read uses
-            (map (λ (one : FreshSymbol). zero) fresh) place n is in
+        (map (λ (one : FreshSymbol). zero) fresh) place n is in
         let known : n ≡ all_occurrences (record { 0 = place }) g.rules = same_Some n (all_occurrences (record { 0 = place }) g.rules)
-            (sym is ∙ are.counts place (omega (arith, slice_get_within uses place n is, are.len))) in
+        (sym is ∙ are.counts place (omega (arith, slice_get_within uses place n is, are.len))) in
         omega (arith, count, known, few_uses g.symbols (record { 0 = place }) g.rules well.rights, total, short)
 
 -- ---- the rules
@@ -279,12 +293,12 @@ below_next replica p (r ∷ rules) add all = (omega (arith, all.0.1, ap (λ (l :
 pub after_rule : (replica : Replica) (p : NewRule) (symbols : List Symbol) (rules : List Rule) → IsRuleToAdd replica p
     → symbols ≡ replica.grammar.symbols ++ symbols_in p.fresh.items → rules ≡ replica.grammar.rules ++ p.live ∷ []
     → (record { version = replica.grammar.version + 1; symbols = symbols; rules = rules; definitions = replica.grammar.definitions }) ≡ after replica.grammar
-        (AddRule p.text)
+    (AddRule p.text)
 unfolding after
 after_rule replica p symbols rules add symbols-are rules-are =
     let all : symbols ≡ with_symbols replica.grammar.symbols (Named p.text.left ∷ p.text.right) = symbols-are ∙ sym add.fresh.symbols in
     let listed : rules ≡ replica.grammar.rules ++ numbered (with_symbols replica.grammar.symbols (Named p.text.left ∷ p.text.right))
-        (replica.grammar.version + 1) p.text ∷ [] = rules-are ∙ ap (λ l. replica.grammar.rules ++ l ∷ []) add.live in
+    (replica.grammar.version + 1) p.text ∷ [] = rules-are ∙ ap (λ l. replica.grammar.rules ++ l ∷ []) add.live in
     (λ i. record { version = replica.grammar.version + 1; symbols = all i; rules = listed i; definitions = replica.grammar.definitions })
 
 same_numbers : (g : Grammar) (r : RuleText) → numbers_in (after g (AddRule r)).definitions ≡ numbers_in g.definitions
@@ -298,7 +312,7 @@ pub agrees_rule_added : (replica : Replica) (p : NewRule) (definitions : List Na
     → new_numbers p.text ≡ Some p.live.number → ((other : RuleText) → rule_eq p.text other ≡ false → new_numbers other ≡ numbers other)
     → length new_lefts ≡ length (with_fresh lefts p.fresh.items)
     → ((place : ℕ) → under new_lefts place ≡ (if place == p.live.left.0 then under (with_fresh lefts p.fresh.items) place ++ p.live.number ∷ [] else under
-        (with_fresh lefts p.fresh.items) place))
+    (with_fresh lefts p.fresh.items) place))
     → grown ≡ uses_with uses p.fresh.items → length new_uses ≡ length grown
     → ((place : ℕ) → slice_get new_uses place ≡ option_map (λ n. n + occurrences (record { 0 = place }) p.live.right) (slice_get grown place))
     → new_literals ≡ literals_with literals p.fresh.items
@@ -312,16 +326,16 @@ agrees_rule_added replica p definitions numbers new_numbers names lefts new_left
     let next = well_formed_after g (AddRule text) well add.accepted in
     let number : p.live.number ≡ record { 0 = g.version + 1 } = ap (λ (r : Rule). r.number) add.live in
     let grown_uses : AreUses (after g (AddRule text)).symbols g.rules grown = subst (AreUses (after g (AddRule text)).symbols g.rules) (sym grown-is)
-        (uses_grown g (AddRule text) uses p.fresh.items well add.fresh agrees.has_uses) in
+    (uses_grown g (AddRule text) uses p.fresh.items well add.fresh agrees.has_uses) in
     let are_uses = uses_rule_added g text grown new_uses p.live.right well add.accepted grown_uses (ap (λ (r : Rule). r.right) add.live) uses-len counts in
     let are_literals : AreLiteralTables (after g (AddRule text)).symbols new_literals = subst (AreLiteralTables (after g (AddRule text)).symbols)
-        (sym literals-are) (literals_grown g (AddRule text) literals p.fresh.items add.fresh agrees.has_literals) in
+    (sym literals-are) (literals_grown g (AddRule text) literals p.fresh.items add.fresh agrees.has_literals) in
     let grown_live : ListsDefinitions (IsLiveBy new_literals grown (numbers_in g.definitions)) live =
     subst (λ ls. ListsDefinitions (IsLiveBy ls grown (numbers_in g.definitions)) live) (sym literals-are)
-        (subst (λ us. ListsDefinitions (IsLiveBy (literals_with literals p.fresh.items) us (numbers_in g.definitions)) live) (sym grown-is)
+    (subst (λ us. ListsDefinitions (IsLiveBy (literals_with literals p.fresh.items) us (numbers_in g.definitions)) live) (sym grown-is)
     (live_grown g (AddRule text) uses literals p.fresh.items live well add.fresh agrees.has_uses agrees.has_literals agrees.has_live)) in
     let new_listed = subst (λ ns. ListsDefinitions (IsLiveBy new_literals new_uses ns) new_live) (sym (same_numbers g text))
-        (live-leads (numbers_in g.definitions) grown_live) in
+    (live-leads (numbers_in g.definitions) grown_live) in
     record {
       well_formed = next;
       finds_rules = finds_rule_added g text numbers new_numbers well add.accepted agrees.finds_rules (number-is ∙ ap Some number) others-are;

@@ -66,11 +66,21 @@ pub drop_planned : (g : Grammar) (edit : Edit) (p : OldDefinition) → IsPlanFor
 drop_planned g (AddRule r) p is = absurd is
 drop_planned g (DropRule r) p is = absurd is
 drop_planned g (AddToken d) p is = absurd is
-drop_planned g (DropToken name) p is = record { skip = false; is = ap DropToken (sym is.0); live = is.1.0; found = ap (definition_found g false) is.0 ∙ is.1.1;
-    number = is.1.2 }
+drop_planned g (DropToken name) p is = record {
+  skip = false;
+  is = ap DropToken (sym is.0);
+  live = is.1.0;
+  found = ap (definition_found g false) is.0 ∙ is.1.1;
+  number = is.1.2;
+}
 drop_planned g (AddSkip d) p is = absurd is
-drop_planned g (DropSkip name) p is = record { skip = true; is = ap DropSkip (sym is.0); live = is.1.0; found = ap (definition_found g true) is.0 ∙ is.1.1;
-    number = is.1.2 }
+drop_planned g (DropSkip name) p is = record {
+  skip = true;
+  is = ap DropSkip (sym is.0);
+  live = is.1.0;
+  found = ap (definition_found g true) is.0 ∙ is.1.1;
+  number = is.1.2;
+}
 
 -- ---- the grammar after it
 
@@ -104,11 +114,11 @@ module _ (version : ℕ) (symbols : List Symbol) (rules : List Rule) (definition
       let taken = subst (IsAccepted held) drop.is accepted in
       let seen : map seen_of new ≡ (after held (drops drop.skip p.name)).definitions =
       ap (map seen_of) is ∙ seen_without p.number definitions ∙ ap (λ (n : RuleId). filter (λ (live : Definition). not (live.number.0 == n.0))
-          (map seen_of definitions)) drop.number
+      (map seen_of definitions)) drop.number
       ∙ sym (definitions_dropped held drop.skip p.name drop.live well taken drop.found) in
       let same = same_grammar (grammar_in (version + 1) symbols rules new) (after held (drops drop.skip p.name))
       (sym (version_next held (drops drop.skip p.name))) (sym (symbols_stay_definition held drop.skip p.name well taken))
-          (sym (rules_stay held drop.skip p.name)) seen in
+      (sym (rules_stay held drop.skip p.name)) seen in
       same ∙ ap (after held) (sym drop.is)
 
   pub agrees_definition_dropped : (finds : RuleText → Option RuleId) (old_names names : List ℕ → Option RuleId) (lefts : List (Vec RuleId Global))
@@ -124,7 +134,7 @@ module _ (version : ℕ) (symbols : List Symbol) (rules : List Rule) (definition
       let taken = subst (IsAccepted held) drop.is accepted in
       let same = definition_gone well accepted plan is ∙ ap (after held) drop.is in
       let lists = subst (λ (n : RuleId). ListsDefinitions (λ other. Contains old_live other × (other ≡ named n → ⊥)) live) drop.number
-          (removed agrees.has_live.order) in
+      (removed agrees.has_live.order) in
       subst (λ (g : Grammar). Agrees g finds names lefts uses literals new live spare) (sym same) (record {
         well_formed = well_formed_after held (drops drop.skip p.name) well taken;
         finds_rules = finds_rules_dropped held drop.skip p.name finds well taken agrees.finds_rules;

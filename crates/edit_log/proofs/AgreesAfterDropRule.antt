@@ -104,7 +104,7 @@ rule_dropped g edit p gone well plan is =
     let finds = found (λ (r : Rule). r.number.0 == p.number.0) g.rules gone is in
     let number : gone.number.0 ≡ drop.0.number.0 = eqb-true gone.number.0 p.number.0 finds.passes ∙ ap (λ (n : RuleId). n.0) drop.1.number in
     let same : drop.0 ≡ gone = sym (distinct_map (λ (r : Rule). r.number.0) g.rules gone drop.0 (sorted_keys (λ (r : Rule). r.number.0) g.rules well.rule_order)
-        finds.there there number) in
+    finds.there there number) in
     subst (λ (r : Rule). IsRuleDrop g edit p r) same drop.1
 
 -- ---- what the steps ask
@@ -122,22 +122,22 @@ module _ (g : Grammar) (edit : Edit) (p : OldRule) (gone : Rule) (well : IsWellF
   left_ascends lefts are =
       subst (λ (numbers : List RuleId). IsStrictlyIncreasing (map (λ n. n.0) numbers)) (sym (are.lists gone.left.0 left_within))
       (increasing (filter (λ (r : Rule). r.left.0 == gone.left.0) g.rules) (IsStrictlySortedBy-filter rule_cmp
-          (λ (r : Rule). r.left.0 == gone.left.0) g.rules well.rule_order))
+      (λ (r : Rule). r.left.0 == gone.left.0) g.rules well.rule_order))
 
   pub left_there : (lefts : List (Vec RuleId Global)) → AreLefts g.symbols g.rules lefts → Contains (under lefts gone.left.0) p.number
   left_there lefts are =
       let drop = rule_dropped g edit p gone well plan is in
       let kept = contains_kept (λ (r : Rule). r.left.0 == gone.left.0) g.rules gone gone_there (eq-eqb gone.left.0 gone.left.0 refl) in
       let numbers : Contains (numbers_of_left g.rules gone.left) gone.number = contains_map (λ (r : Rule). r.number)
-          (filter (λ (r : Rule). r.left.0 == gone.left.0) g.rules) gone kept in
+      (filter (λ (r : Rule). r.left.0 == gone.left.0) g.rules) gone kept in
       subst (λ (list : List RuleId). Contains list p.number) (sym (are.lists gone.left.0 left_within))
-          (subst (λ (n : RuleId). Contains (numbers_of_left g.rules gone.left) n) (sym drop.number) numbers)
+      (subst (λ (n : RuleId). Contains (numbers_of_left g.rules gone.left) n) (sym drop.number) numbers)
 
   pub parts_within : (uses : List ℕ) (right : List SymbolId) → AreUses g.symbols g.rules uses → right ≡ gone.right → AreWithin right (length uses)
   parts_within uses right are same part there =
       let within = each_contained (λ (r : Rule). IsRight g.symbols r.right) g.rules gone well.rights gone_there in
       let less = each_contained (λ (s : SymbolId). s.0 < length g.symbols) gone.right part within.0
-          (subst (λ (parts : List SymbolId). Contains parts part) same there) in
+      (subst (λ (parts : List SymbolId). Contains parts part) same there) in
       omega (arith, less, are.len)
 
   pub parts_counted : (uses : List ℕ) (right : List SymbolId) → AreUses g.symbols g.rules uses → right ≡ gone.right → (place count : ℕ)
@@ -175,12 +175,12 @@ module _ (version : ℕ) (symbols : List Symbol) (rules new : List Rule) (defini
   pub agrees_rule_dropped : (old_numbers numbers : RuleText → Option RuleId) (names : List ℕ → Option RuleId) (old_lefts lefts : List (Vec RuleId Global))
       (old_uses uses : List ℕ) (literals : List (Option Table)) (old_live live : List DefId) (spare : List Rule)
       → Agrees held old_numbers names old_lefts old_uses literals definitions old_live spare → IsAccepted held edit → IsPlanFor held edit (planned.DropRule p)
-          → rule_of rules p.number ≡ Some gone
+      → rule_of rules p.number ≡ Some gone
       → new ≡ filter (λ r. not (r.number.0 == p.number.0)) rules
       → numbers p.text ≡ None → ((other : RuleText) → rule_eq p.text other ≡ false → numbers other ≡ old_numbers other)
       → length lefts ≡ length old_lefts
       → ((place : ℕ) → under lefts place ≡ (if place == gone.left.0 then filter (λ n. not (n.0 == p.number.0))
-          (under old_lefts place) else under old_lefts place))
+      (under old_lefts place) else under old_lefts place))
       → (right : List SymbolId) → right ≡ gone.right → length uses ≡ length old_uses
       → ((place : ℕ) → slice_get uses place ≡ option_map (λ n. n - occurrences (record { 0 = place }) right) (slice_get old_uses place))
       → (some : List (Option Table)) → some ≡ literals
@@ -194,13 +194,13 @@ module _ (version : ℕ) (symbols : List Symbol) (rules new : List Rule) (defini
       let same = rule_gone well accepted plan gone-is is ∙ ap (after held) drop.is in
       let next_well = well_formed_after held (DropRule p.text) well taken in
       let lists = subst (λ (n : RuleId). (place : ℕ) → under lefts place ≡ (if place == gone.left.0 then filter (λ m. not (m.0 == n.0))
-          (under old_lefts place) else under old_lefts place)) drop.number lefts-are in
+      (under old_lefts place) else under old_lefts place)) drop.number lefts-are in
       let counts = subst (λ (parts : List SymbolId). (place : ℕ) → slice_get uses place ≡ option_map (λ n. n - occurrences (record { 0 = place }) parts)
-          (slice_get old_uses place)) right-is uses-are in
+      (slice_get old_uses place)) right-is uses-are in
       let next_uses = uses_rule_dropped held p.text old_uses uses gone well taken drop.found agrees.has_uses uses-len counts in
       let next_literals = subst (λ (ss : List Symbol). AreLiteralTables ss literals) (sym (symbols_stay_rule held p.text well taken)) agrees.has_literals in
       let kept = subst (λ (ls : List (Option Table)). (known : List RuleId) → ListsDefinitions (IsLiveBy ls old_uses known) old_live → ListsDefinitions
-          (IsLiveBy ls uses known) live) some-is lives in
+      (IsLiveBy ls uses known) live) some-is lives in
       let by = kept (numbers_in held.definitions) (live_to held old_uses literals old_live well agrees.has_uses agrees.has_literals agrees.has_live) in
       let by_next = subst (λ (ds : List Definition). ListsDefinitions (IsLiveBy literals uses (numbers_in ds)) live) (sym (definitions_stay held p.text)) by in
       subst (λ (g : Grammar). Agrees g numbers names lefts uses literals definitions live spare) (sym same) (record {

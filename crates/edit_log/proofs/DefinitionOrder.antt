@@ -224,7 +224,7 @@ module _ (xs : List DefId) (x : DefId) (sorted : IsStrictlySortedBy definition_c
   take_there at within found =
       let whole : take at xs ++ x ∷ drop (suc at) xs ≡ xs =
       ap (λ y. take at xs ++ y ∷ drop (suc at) xs) (sym (at_found at found)) ∙ ap (λ ys. take at xs ++ ys) (sym (drop-cons xs at x within))
-          ∙ take-append-drop at xs in
+      ∙ take-append-drop at xs in
       let is = around (take at xs) (drop (suc at) xs) x (subst (IsStrictlySortedBy definition_cmp) (sym whole) sorted) in
       record {
         order = is.sorted;

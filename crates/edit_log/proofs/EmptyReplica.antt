@@ -40,9 +40,9 @@ one_place one place within = omega arith
 pub agrees_empty : (symbols : List Symbol) (rules : List Rule) (numbers : RuleText → Option RuleId) (names : List ℕ → Option RuleId)
     (lefts : List (Vec RuleId Global)) (one : Vec RuleId Global) (uses : List ℕ) (literals : List (Option Table))
     (definitions : List NamedDefinition) (live : List DefId) (spare : List Rule) → symbols ≡ start → rules ≡ [] → ((r : RuleText) → numbers r ≡ None)
-        → ((name : List ℕ) → names name ≡ None) → lefts ≡ one ∷ [] → one.items ≡ []
+    → ((name : List ℕ) → names name ≡ None) → lefts ≡ one ∷ [] → one.items ≡ []
     → uses ≡ 0 ∷ [] → literals ≡ None ∷ [] → definitions ≡ [] → live ≡ [] → spare ≡ []
-        → Agrees (grammar_in 0 symbols rules definitions) numbers names lefts uses literals definitions live spare
+    → Agrees (grammar_in 0 symbols rules definitions) numbers names lefts uses literals definitions live spare
 unfolding IsStrictlySortedBy
 agrees_empty symbols rules numbers names lefts one uses literals definitions live spare symbols-is rules-is no_number no_name lefts-are one-is uses-are
     literals-are definitions-are live-is spare-is =

@@ -38,7 +38,7 @@ reads_same g edit r well =
     let left = named_within g.symbols live.left (each_contained _ g.rules live well.lefts there) in
     let right = each_contained _ g.rules live well.rights there in
     let same : text_of (grown_by g edit) live ≡ text_of g.symbols live = ap (λ ss. text_of ss live) grows.is
-        ∙ text_of-grow g.symbols grows.more live left right.0 in
+    ∙ text_of-grow g.symbols grows.more live left right.0 in
     ap (λ text. rule_eq text r) same))
 
 names_same : (g : Grammar) (edit : Edit) (name : List ℕ) → IsWellFormed g
@@ -48,14 +48,14 @@ names_same g edit name well =
     find_same (has_name (grown_by g edit) name) (has_name g.symbols name) g.definitions (all_contained _ g.definitions (λ live there.
     let within = named_within g.symbols live.name (each_contained _ g.definitions live well.names there) in
     let same : symbol_at (grown_by g edit) live.name ≡ symbol_at g.symbols live.name = ap (λ ss. symbol_at ss live.name) grows.is
-        ∙ symbol_at-grow g.symbols grows.more live.name within in
+    ∙ symbol_at-grow g.symbols grows.more live.name within in
     ap (λ s. symbol_eq s (Named name)) same))
 
 -- ---- rules
 
 pub finds_rule_added : (g : Grammar) (r : RuleText) (old new : RuleText → Option RuleId) → IsWellFormed g → IsAccepted g (AddRule r) → FindsRules g old
     → new r ≡ Some (record { 0 = g.version + 1 }) → ((other : RuleText) → rule_eq r other ≡ false → new other ≡ old other)
-        → FindsRules (after g (AddRule r)) new
+    → FindsRules (after g (AddRule r)) new
 unfolding after
 finds_rule_added g r old new well accepted finds added kept other = by (rule_eq r other) refl
   where
@@ -64,27 +64,27 @@ finds_rule_added g r old new well accepted finds added kept other = by (rule_eq 
 
     by : (same : Bool) → rule_eq r other ≡ same
         → new other ≡ option_map (λ live. live.number) (find (reads (grown_by g (AddRule r)) other) (g.rules ++ numbered (grown_by g (AddRule r))
-            (g.version + 1) r ∷ []))
+        (g.version + 1) r ∷ []))
     by true is =
         let one : r ≡ other = (rule_eq-decides r other).0 is in
         let twin : find (reads g.symbols other) g.rules ≡ None = ap (λ x. find (reads g.symbols x) g.rules) (sym one) ∙ map_none _ (rule_found g r)
-            (free g (AddRule r) accepted.taken).twin in
+        (free g (AddRule r) accepted.taken).twin in
         let passes : reads (grown_by g (AddRule r)) other (numbered (grown_by g (AddRule r)) (g.version + 1) r) ≡ true = ap (λ t. rule_eq t other) text ∙ is in
         ap new (sym one) ∙ added ∙ sym (ap (option_map (λ (live : Rule). live.number)) (find_push-last (reads (grown_by g (AddRule r)) other) g.rules
-            (numbered (grown_by g (AddRule r)) (g.version + 1) r) (reads_same g (AddRule r) other well ∙ twin) passes))
+        (numbered (grown_by g (AddRule r)) (g.version + 1) r) (reads_same g (AddRule r) other well ∙ twin) passes))
     by false is =
         let fails : reads (grown_by g (AddRule r)) other (numbered (grown_by g (AddRule r)) (g.version + 1) r) ≡ false = ap (λ t. rule_eq t other) text ∙ is in
         kept other is
         ∙ finds other
         ∙ sym (ap (option_map (λ (live : Rule). live.number)) (find_push-first (reads (grown_by g (AddRule r)) other) g.rules (numbered (grown_by g (AddRule r))
-            (g.version + 1) r) fails ∙ reads_same g (AddRule r) other well))
+        (g.version + 1) r) fails ∙ reads_same g (AddRule r) other well))
 
 pub finds_rule_dropped : (g : Grammar) (r : RuleText) (old new : RuleText → Option RuleId) → IsWellFormed g → IsAccepted g (DropRule r) → FindsRules g old
     → new r ≡ None → ((other : RuleText) → rule_eq r other ≡ false → new other ≡ old other) → FindsRules (after g (DropRule r)) new
 unfolding after
 finds_rule_dropped g r old new well accepted finds dropped kept other =
     subst (λ (symbols : List Symbol). new other ≡ option_map (λ live. live.number) (find (reads symbols other)
-        (filter (λ live. not (reads symbols r live)) g.rules))) (sym (symbols_stay_rule g r well accepted)) (by (rule_eq r other) refl)
+    (filter (λ live. not (reads symbols r live)) g.rules))) (sym (symbols_stay_rule g r well accepted)) (by (rule_eq r other) refl)
   where
     by : (same : Bool) → rule_eq r other ≡ same → new other ≡ option_map (λ live. live.number)
         (find (reads g.symbols other) (filter (λ live. not (reads g.symbols r live)) g.rules))
@@ -92,14 +92,14 @@ finds_rule_dropped g r old new well accepted finds dropped kept other =
         let one : r ≡ other = (rule_eq-decides r other).0 is in
         let gone : find (reads g.symbols r) (filter (λ live. not (reads g.symbols r live)) g.rules) ≡ None =
         find_none _ _ (all_contained _ _ (λ live there. not-true (reads g.symbols r live) (each_contained _ _ live
-            (filter_passes (λ live. not (reads g.symbols r live)) g.rules) there))) in
+        (filter_passes (λ live. not (reads g.symbols r live)) g.rules) there))) in
         ap new (sym one) ∙ dropped ∙ sym (ap (λ x. option_map (λ (live : Rule). live.number) (find (reads g.symbols x)
-            (filter (λ live. not (reads g.symbols r live)) g.rules))) (sym one) ∙ ap (option_map (λ (live : Rule). live.number)) gone)
+        (filter (λ live. not (reads g.symbols r live)) g.rules))) (sym one) ∙ ap (option_map (λ (live : Rule). live.number)) gone)
     by false is =
         let stays = find_kept (reads g.symbols other) (λ live. not (reads g.symbols r live)) g.rules (all_contained _ g.rules (λ live there passes.
         let text : text_of g.symbols live ≡ other = (rule_eq-decides (text_of g.symbols live) other).0 passes in
         ap not (false_from_ne_true (reads g.symbols r live) (λ e. both_ways (rule_eq r other) is ((rule_eq-decides r other).1
-            (sym ((rule_eq-decides (text_of g.symbols live) r).0 e) ∙ text)))))) in
+        (sym ((rule_eq-decides (text_of g.symbols live) r).0 e) ∙ text)))))) in
         kept other is ∙ finds other ∙ sym (ap (option_map (λ (live : Rule). live.number)) stays)
 
 pub finds_rules_added : (g : Grammar) (skip : Bool) (d : DefText) (old : RuleText → Option RuleId) → IsWellFormed g → IsAccepted g (adds skip d)
@@ -130,29 +130,29 @@ named_so g skip d name =
 definition_added : (g : Grammar) (skip : Bool) (d : DefText) (old new : List ℕ → Option RuleId) → IsWellFormed g → IsUnused g d.name → FindsDefinitions g old
     → new d.name ≡ Some (record { 0 = g.version + 1 }) → ((other : List ℕ) → bytes_eq d.name other ≡ false → new other ≡ old other) → (other : List ℕ)
     → new other ≡ option_map (λ live. live.number) (find (has_name (with_symbols g.symbols (Named d.name ∷ [])) other) (g.definitions
-        ++ defined (with_symbols g.symbols (Named d.name ∷ [])) (g.version + 1) skip d ∷ []))
+    ++ defined (with_symbols g.symbols (Named d.name ∷ [])) (g.version + 1) skip d ∷ []))
 definition_added g skip d old new well free finds added kept other = by (bytes_eq d.name other) refl
   where
     by : (same : Bool) → bytes_eq d.name other ≡ same
         → new other ≡ option_map (λ live. live.number) (find (has_name (with_symbols g.symbols (Named d.name ∷ [])) other) (g.definitions
-            ++ defined (with_symbols g.symbols (Named d.name ∷ [])) (g.version + 1) skip d ∷ []))
+        ++ defined (with_symbols g.symbols (Named d.name ∷ [])) (g.version + 1) skip d ∷ []))
     by true is =
         let one : d.name ≡ other = (bytes_eq-Decides d.name other).0 is in
         let none : find (has_name g.symbols other) g.definitions ≡ None = ap (λ name. find (has_name g.symbols name) g.definitions) (sym one) ∙ find_none
-            (has_name g.symbols d.name) g.definitions free.names in
+        (has_name g.symbols d.name) g.definitions free.names in
         let last = find_push-last (has_name (with_symbols g.symbols (Named d.name ∷ [])) other) g.definitions
-            (defined (with_symbols g.symbols (Named d.name ∷ [])) (g.version + 1) skip d)
+        (defined (with_symbols g.symbols (Named d.name ∷ [])) (g.version + 1) skip d)
         (names_same g (AddSkip d) other well ∙ none) (named_so g skip d other ∙ is) in
         ap new (sym one) ∙ added ∙ sym (ap (option_map (λ (live : Definition). live.number)) last)
     by false is =
         let first = find_push-first (has_name (with_symbols g.symbols (Named d.name ∷ [])) other) g.definitions
-            (defined (with_symbols g.symbols (Named d.name ∷ [])) (g.version + 1) skip d) (named_so g skip d other ∙ is) in
+        (defined (with_symbols g.symbols (Named d.name ∷ [])) (g.version + 1) skip d) (named_so g skip d other ∙ is) in
         kept other is ∙ finds other ∙ sym (ap (option_map (λ (live : Definition). live.number)) (first ∙ names_same g (AddSkip d) other well))
 
 pub finds_definition_added : (g : Grammar) (skip : Bool) (d : DefText) (old new : List ℕ → Option RuleId) → IsWellFormed g → IsAccepted g (adds skip d)
     → FindsDefinitions g old
     → new d.name ≡ Some (record { 0 = g.version + 1 }) → ((other : List ℕ) → bytes_eq d.name other ≡ false → new other ≡ old other)
-        → FindsDefinitions (after g (adds skip d)) new
+    → FindsDefinitions (after g (adds skip d)) new
 unfolding after
 finds_definition_added g true d old new well accepted finds added kept = definition_added g true d old new well
     (added_unused g true d (free g (adds true d) accepted.taken)) finds added kept
@@ -173,12 +173,12 @@ definition_dropped g name live old new well there called finds dropped kept othe
         let gone : find (has_name g.symbols name) (filter (λ x. not (x.number.0 == live.number.0)) g.definitions) ≡ None =
         find_none _ _ (all_contained _ _ (λ x c.
         let apart = not-true (x.number.0 == live.number.0) (each_contained _ _ x
-            (filter_passes (λ (x : Definition). not (x.number.0 == live.number.0)) g.definitions) c) in
+        (filter_passes (λ (x : Definition). not (x.number.0 == live.number.0)) g.definitions) c) in
         let in_all = contains_filter (λ (x : Definition). not (x.number.0 == live.number.0)) g.definitions x c in
         false_from_ne_true (has_name g.symbols name x) (λ e. both_ways (x.number.0 == live.number.0) apart (eq-eqb x.number.0 live.number.0
-            (ap (λ (d : Definition). d.number.0) (one_named g name x live well in_all there e called)))))) in
+        (ap (λ (d : Definition). d.number.0) (one_named g name x live well in_all there e called)))))) in
         ap new (sym one) ∙ dropped ∙ sym (ap (λ n. option_map (λ (live : Definition). live.number) (find (has_name g.symbols n)
-            (filter (λ x. not (x.number.0 == live.number.0)) g.definitions))) (sym one) ∙ ap (option_map (λ (live : Definition). live.number)) gone)
+        (filter (λ x. not (x.number.0 == live.number.0)) g.definitions))) (sym one) ∙ ap (option_map (λ (live : Definition). live.number)) gone)
     by false is =
         let stays = find_kept (has_name g.symbols other) (λ x. not (x.number.0 == live.number.0)) g.definitions (all_contained _ g.definitions (λ x c passes.
         ap not (false_from_ne_true (x.number.0 == live.number.0) (λ e.
@@ -186,7 +186,7 @@ definition_dropped g name live old new well there called finds dropped kept othe
         let his : symbol_at g.symbols x.name ≡ Named other = (symbol_eq-decides (symbol_at g.symbols x.name) (Named other)).0 passes in
         let its : symbol_at g.symbols live.name ≡ Named name = (symbol_eq-decides (symbol_at g.symbols live.name) (Named name)).0 called in
         both_ways (bytes_eq name other) is ((symbol_eq-decides (Named name) (Named other)).1 (sym its ∙ ap (λ (d : Definition). symbol_at g.symbols d.name)
-            (sym same) ∙ his)))))) in
+        (sym same) ∙ his)))))) in
         kept other is ∙ finds other ∙ sym (ap (option_map (λ (live : Definition). live.number)) stays)
 
 pub finds_definition_dropped : (g : Grammar) (skip : Bool) (name : List ℕ) (old new : List ℕ → Option RuleId) → IsWellFormed g → IsAccepted g (drops skip name)
@@ -197,9 +197,9 @@ finds_definition_dropped g skip name old new well accepted finds dropped kept ot
     let at = called g skip name live.0 live.1 in
     let inner = definition_dropped g name live.0 old new well at.0 at.1 finds dropped kept other in
     subst (λ (symbols : List Symbol). new other ≡ option_map (λ live. live.number) (find (has_name symbols other) (after g (drops skip name)).definitions))
-        (sym (symbols_stay_definition g skip name well accepted))
+    (sym (symbols_stay_definition g skip name well accepted))
     (subst (λ (definitions : List Definition). new other ≡ option_map (λ live. live.number) (find (has_name g.symbols other) definitions))
-        (sym (definitions_dropped g skip name live.0 well accepted live.1)) inner)
+    (sym (definitions_dropped g skip name live.0 well accepted live.1)) inner)
 
 pub finds_definitions_added : (g : Grammar) (r : RuleText) (old : List ℕ → Option RuleId) → IsWellFormed g → IsAccepted g (AddRule r) → FindsDefinitions g old
     → FindsDefinitions (after g (AddRule r)) old

@@ -17,7 +17,7 @@ module _ {X : Type 0} (test : X → Bool) (xs : List X) (i : ℕ) (x : X) (at : 
   first_here passes =
       let within = slice_get_within xs i x at in
       let not_below : i < position_or_len test xs → ⊥ = λ less. both_ways (test x) (ap test (sym (get_or_from_slice_get xs i x x at))
-          ∙ fails_before_first test xs i x less) passes in
+      ∙ fails_before_first test xs i x less) passes in
       let same : position_or_len test xs ≡ i = omega (arith, not_below) in
       rw (same, lt-ltb i (length xs) within) refl
 
@@ -27,7 +27,7 @@ module _ {X : Type 0} (test : X → Bool) (xs : List X) (i : ℕ) (x : X) (at : 
       let apart : position_or_len test xs ≡ i → ⊥ = λ same.
       let less : position_or_len test xs < length xs = omega arith in
       both_ways (test x) fails (ap test (sym (get_or_from_slice_get xs (position_or_len test xs) x x (ap (slice_get xs) same ∙ at)))
-          ∙ passes_at_first test xs x less) in
+      ∙ passes_at_first test xs x less) in
       omega (arith, apart)
 
 pub nowhere : {X : Type 0} (test : X → Bool) (xs : List X) → length xs ≤ position_or_len test xs → position test xs ≡ None
@@ -100,7 +100,7 @@ pub in_neither : (known fresh : List Symbol) (s : Symbol) → position (symbol_e
 in_neither known fresh s none absent =
     let behind = place_of-behind known fresh s (position_past (symbol_eq s) known none) in
     let past : length (known ++ fresh) ≤ place_of (known ++ fresh) s =
-        rw behind (omega (arith, length-append known fresh, position_past (symbol_eq s) fresh absent)) in
+    rw behind (omega (arith, length-append known fresh, position_past (symbol_eq s) fresh absent)) in
     let all : known ++ (fresh ++ s ∷ []) ≡ (known ++ fresh) ++ s ∷ [] = sym (append_assoc known fresh (s ∷ [])) in
     record {
       list = rw (le-ltb (place_of (known ++ fresh) s) (length (known ++ fresh)) past) all;

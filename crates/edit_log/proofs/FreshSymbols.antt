@@ -32,10 +32,10 @@ pub next_new : (known keys : List Symbol) (fresh done rest : List FreshSymbol) (
     → position (symbol_eq one.symbol) keys ≡ None
 next_new known keys fresh done rest one next apart is =
     let symbols : symbols_in fresh ≡ symbols_in done ++ one.symbol ∷ symbols_in rest = ap symbols_in next.front ∙ map-append
-        (λ (one : FreshSymbol). one.symbol) done (one ∷ rest) in
+    (λ (one : FreshSymbol). one.symbol) done (one ∷ rest) in
     let all : known ++ symbols_in fresh ≡ keys ++ one.symbol ∷ symbols_in rest =
     ap (λ ss. known ++ ss) symbols ∙ sym (append_assoc known (symbols_in done) (one.symbol ∷ symbols_in rest)) ∙ ap (λ ss. ss ++ one.symbol ∷ symbols_in rest)
-        (sym is) in
+    (sym is) in
     not_there keys one.symbol (distinct_middle keys (symbols_in rest) one.symbol (subst (λ (ss : List Symbol). IsDistinct ss) all apart))
 
 pub next_done : (fresh done rest : List FreshSymbol) (one : FreshSymbol) → IsNext fresh done rest one → fresh ≡ (done ++ one ∷ []) ++ rest

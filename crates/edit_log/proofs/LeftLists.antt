@@ -38,7 +38,7 @@ filter_map {X} {Y} f test (x ∷ xs) = by (test (f x)) (filter_map f test xs)
   where
     by : (passes : Bool) → map f (filter (λ x. test (f x)) xs) ≡ filter test (map f xs)
         → map f (if passes then x ∷ filter (λ x. test (f x)) xs else filter (λ x. test (f x)) xs) ≡
-            (if passes then f x ∷ filter test (map f xs) else filter test (map f xs))
+        (if passes then f x ∷ filter test (map f xs) else filter test (map f xs))
     by true rest = ap (λ ys. f x ∷ ys) rest
     by false rest = rest
 
@@ -142,7 +142,7 @@ lefts_rule_added g r lefts new fresh left number well accepted are_fresh are lef
   lists = λ place within.
       let rule = numbered (with_symbols g.symbols (symbols_of (AddRule r))) (g.version + 1) r in
       let old : under (with_fresh lefts fresh) place ≡ numbers_of_left g.rules (record { 0 = place }) = under_with lefts fresh are_fresh.each place
-          ∙ everywhere g lefts well are place in
+      ∙ everywhere g lefts well are place in
       lists place
       ∙ (λ i. if place == (left-is i).0 then old i ++ number-is i ∷ [] else old i)
       ∙ sym (left_added g.rules rule place);
@@ -151,17 +151,17 @@ lefts_rule_added g r lefts new fresh left number well accepted are_fresh are lef
 left_dropped : (g : Grammar) (live : Rule) (place : ℕ) → IsWellFormed g → Contains g.rules live
     → numbers_of_left (filter (λ other. not (other.number.0 == live.number.0)) g.rules) (record { 0 = place })
     ≡ (if place == live.left.0 then filter (λ n. not (n.0 == live.number.0)) (numbers_of_left g.rules (record { 0 = place })) else numbers_of_left g.rules
-        (record { 0 = place }))
+    (record { 0 = place }))
 left_dropped g live place well there = elim (cases_eq place live.left.0) [
   | inl e ↦ rw (eq-eqb place live.left.0 e)
       (ap (map (λ (r : Rule). r.number)) (filter_swap (λ (r : Rule). r.left.0 == place) (λ (r : Rule). not (r.number.0 == live.number.0)) g.rules)
       ∙ filter_map (λ (r : Rule). r.number) (λ n. not (n.0 == live.number.0)) (filter (λ (r : Rule). r.left.0 == place) g.rules))
   | inr other ↦ rw (ne_eqb place live.left.0 other)
       (ap (map (λ (r : Rule). r.number)) (filter_kept (λ (r : Rule). r.left.0 == place) (λ (r : Rule). not (r.number.0 == live.number.0)) g.rules
-          (all_contained _ g.rules (λ r c at.
+      (all_contained _ g.rules (λ r c at.
       ap not (false_from_ne_true (r.number.0 == live.number.0) (λ e.
       let same : r ≡ live = distinct_map (λ (r : Rule). r.number.0) g.rules r live (sorted_keys (λ (r : Rule). r.number.0) g.rules well.rule_order) c there
-          (eqb-true r.number.0 live.number.0 e) in
+      (eqb-true r.number.0 live.number.0 e) in
       other (sym (eqb-true r.left.0 place at) ∙ ap (λ (r : Rule). r.left.0) same)))))))
 ]
 
@@ -202,7 +202,7 @@ rules_stay g false name = refl
 
 pub lefts_definition_dropped : (g : Grammar) (skip : Bool) (name : List ℕ) (lefts : List (Vec RuleId Global))
     → IsWellFormed g → IsAccepted g (drops skip name) → AreLefts g.symbols g.rules lefts
-        → AreLefts (after g (drops skip name)).symbols (after g (drops skip name)).rules lefts
+    → AreLefts (after g (drops skip name)).symbols (after g (drops skip name)).rules lefts
 lefts_definition_dropped g skip name lefts well accepted are = record {
   len = are.len ∙ ap length (sym (symbols_stay_definition g skip name well accepted));
   lists = λ place within. everywhere g lefts well are place ∙ ap (λ rules. numbers_of_left rules (record { 0 = place })) (sym (rules_stay g skip name));

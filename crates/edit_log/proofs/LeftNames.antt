@@ -76,7 +76,7 @@ left_by_list g name place numbers well at is = ap (λ ns. not (length ns == 0)) 
         by : (is : Bool) → is ≡ symbol_eq (symbol_at g.symbols r.left) (Named name)
             → not (length (numbers_of_left rules (record { 0 = place })) == 0) ≡ list_any (λ live. symbol_eq (symbol_at g.symbols live.left) (Named name)) rules
             → not (length (map (λ (r : Rule). r.number) (cond is (r ∷ filter (λ (r : Rule). r.left.0 == place) rules)
-                (filter (λ (r : Rule). r.left.0 == place) rules))) == 0)
+            (filter (λ (r : Rule). r.left.0 == place) rules))) == 0)
             ≡ (symbol_eq (symbol_at g.symbols r.left) (Named name) || list_any (λ live. symbol_eq (symbol_at g.symbols live.left) (Named name)) rules)
         by true is rest = ap not (ne_eqb (suc (length (numbers_of_left rules (record { 0 = place })))) 0 (λ e. omega (arith, e))) ∙ ap
             (λ b. b || list_any (λ (live : Rule). symbol_eq (symbol_at g.symbols live.left) (Named name)) rules) is

@@ -84,8 +84,11 @@ numbers_without (x ∷ xs) gone n = by (x.number.0 == gone.0) refl (numbers_with
         )
     by false is rest = (
       λ c. elim (contains_cases x.number (numbers_in (filter (λ other. not (other.number.0 == gone.0)) xs)) n c) [
-        | inl e ↦ (subst (Contains (numbers_in (x ∷ xs))) e (contains_first x.number (numbers_in xs)), λ gone-is. eqb-false x.number.0 gone.0 is
-            (ap (λ (r : RuleId). r.0) (e ∙ gone-is)))
+        | inl e ↦ (
+          subst (Contains (numbers_in (x ∷ xs))) e (contains_first x.number (numbers_in xs)),
+          λ gone-is. eqb-false x.number.0 gone.0 is
+              (ap (λ (r : RuleId). r.0) (e ∙ gone-is)),
+        )
         | inr d ↦ let known = rest.0 d in (contains_later x.number (numbers_in xs) n known.0, known.1)
       ],
       λ w. elim (contains_cases x.number (numbers_in xs) n w.0) [
@@ -107,8 +110,10 @@ unfolding after
 added_rules g true d = refl
 added_rules g false d = refl
 
-added_numbers : (g : Grammar) (skip : Bool) (d : DefText) → numbers_in (after g (adds skip d)).definitions ≡ numbers_in g.definitions ++ record { 0 =
-    g.version + 1 } ∷ []
+added_numbers : (g : Grammar) (skip : Bool) (d : DefText) → numbers_in (after g (adds skip d)).definitions ≡ numbers_in g.definitions ++ record {
+  0 =
+      g.version + 1;
+} ∷ []
 unfolding after
 added_numbers g true d = map-append (λ (live : Definition). live.number) g.definitions _
 added_numbers g false d = map-append (λ (live : Definition). live.number) g.definitions _
@@ -126,9 +131,9 @@ live_added g skip d well (named n) =
     let new : RuleId = record { 0 = g.version + 1 } in (
       λ live. elim (Contains-push_cases (numbers_in g.definitions) new n (subst (λ numbers. Contains numbers n) (added_numbers g skip d)
           ((live_named (after g (adds skip d)) n).0 live))) [
-        | inl c ↦ inl ((live_named g n).1 c)
-        | inr e ↦ inr (ap named (sym e))
-      ],
+            | inl c ↦ inl ((live_named g n).1 c)
+            | inr e ↦ inr (ap named (sym e))
+          ],
       λ w. (live_named (after g (adds skip d)) n).1 (subst (λ numbers. Contains numbers n) (sym (added_numbers g skip d)) (elim w [
         | inl live ↦ Contains-append_left (numbers_in g.definitions) (new ∷ []) n ((live_named g n).0 live)
         | inr e ↦ let same : n ≡ new = cc in subst (Contains (numbers_in g.definitions ++ new ∷ [])) (sym same) (Contains-push (numbers_in g.definitions) new)

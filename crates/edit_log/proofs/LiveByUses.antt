@@ -32,8 +32,11 @@ numbers_in definitions = map (λ live. live.number) definitions
 
 -- a list of definitions lists those that are so otherwise too
 pub lists_same : (P Q : DefId → Type 0) (live : List DefId) → ((d : DefId) → P d ↔ Q d) → ListsDefinitions P live → ListsDefinitions Q live
-lists_same P Q live same lists = record { order = lists.order; members =
-    λ d. (λ c. (same d).0 ((lists.members d).0 c), λ q. (lists.members d).1 ((same d).1 q)) }
+lists_same P Q live same lists = record {
+  order = lists.order;
+  members =
+      λ d. (λ c. (same d).0 ((lists.members d).0 c), λ q. (lists.members d).1 ((same d).1 q));
+}
 
 -- ---- tests and sums
 

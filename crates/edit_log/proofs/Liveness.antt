@@ -76,7 +76,7 @@ pub literals_grown : (g : Grammar) (edit : Edit) (literals : List (Option Table)
     → AreLiteralTables (after g edit).symbols (literals_with literals fresh)
 literals_grown g edit literals fresh are_fresh are =
     rw are_fresh.symbols (all_zip_append ArePositionsOfSymbol g.symbols (map (λ one. one.symbol) fresh) literals (map (λ one. one.positions) fresh) are
-        (fresh_literals fresh are_fresh.each))
+    (fresh_literals fresh are_fresh.each))
 
 get_left : {A : Type 0} (xs ys : List A) (k : ℕ) → k < length xs → slice_get (xs ++ ys) k ≡ slice_get xs k
 get_left [] ys k less = absurd (omega arith)
@@ -101,7 +101,7 @@ pub uses_grown : (g : Grammar) (edit : Edit) (uses : List ℕ) (fresh : List Fre
 uses_grown g edit uses fresh well are_fresh are =
     let symbols = g.symbols ++ map (λ (one : FreshSymbol). one.symbol) fresh in
     let long : length symbols ≡ length g.symbols + length fresh = length-append g.symbols (map (λ (one : FreshSymbol). one.symbol) fresh) ∙ ap
-        (λ n. length g.symbols + n) (length-map fresh (λ (one : FreshSymbol). one.symbol)) in
+    (λ n. length g.symbols + n) (length-map fresh (λ (one : FreshSymbol). one.symbol)) in
     rw are_fresh.symbols (record {
       len = length-append uses (map (λ one. 0) fresh) ∙ omega (arith, length-map fresh (λ (one : FreshSymbol). zero), long, are.len);
       counts = λ place within. elim (cases_lt place (length g.symbols)) [
@@ -124,7 +124,7 @@ uses_rule_added g r grown new right well accepted are right-is len counts = reco
       let s : SymbolId = record { 0 = place } in
       let rule : Rule = numbered (after g (AddRule r)).symbols (g.version + 1) r in
       counts place ∙ ap (option_map (λ n. n + occurrences s right)) (are.counts place within) ∙ ap Some
-          (ap (λ parts. all_occurrences s g.rules + occurrences s parts) right-is ∙ sym (counted_push s g.rules rule));
+      (ap (λ parts. all_occurrences s g.rules + occurrences s parts) right-is ∙ sym (counted_push s g.rules rule));
 }
 
 pub uses_rule_dropped : (g : Grammar) (r : RuleText) (uses new : List ℕ) (live : Rule) → IsWellFormed g → IsAccepted g (DropRule r) → rule_found g r ≡ Some live
@@ -159,8 +159,12 @@ by_grown g uses literals fresh long (literal s) = (
     )
     | inr more ↦
         let within = slice_get_within (uses_with uses fresh) s.0 count there in
-        let none = get_right uses fresh s.0 more (omega (arith, within, length-append uses (map (λ one. 0) fresh),
-            length-map fresh (λ (one : FreshSymbol). zero))) in
+        let none = get_right uses fresh s.0 more (omega (
+          arith,
+          within,
+          length-append uses (map (λ one. 0) fresh),
+          length-map fresh (λ (one : FreshSymbol). zero),
+        )) in
         let same : count ≡ 0 = cc in
         absurd (omega (arith, same, some))
   ],
@@ -191,7 +195,7 @@ live_grown g edit uses literals fresh live well are_fresh are_uses are_literals 
 pub live_definition_added : (g : Grammar) (skip : Bool) (d : DefText) (old new : List DefId) → IsWellFormed g → IsAccepted g (adds skip d)
     → ListsDefinitions (IsLive g) old
     → ListsDefinitions (λ other. Contains old other ⊎ (other ≡ named (record { 0 = g.version + 1 }))) new
-        → ListsDefinitions (IsLive (after g (adds skip d))) new
+    → ListsDefinitions (IsLive (after g (adds skip d))) new
 live_definition_added g skip d old new well accepted lists added = lists_same _ _ new (λ other.
     let live = live_added g skip d well other in (
       λ w. live.1 (elim w [ inl c ↦ inl ((lists.members other).0 c) | inr e ↦ inr e ]),

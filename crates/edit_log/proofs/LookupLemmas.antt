@@ -42,7 +42,7 @@ found_seen (live ∷ definitions) number = by (has_number number live) (found_se
   where
     by : (is : Bool) → option_map seen_of (find (has_number number) definitions) ≡ find (λ (d : Definition). d.number.0 == number.0) (map seen_of definitions)
         → option_map seen_of (cond is (Some live) (find (has_number number) definitions)) ≡ cond is (Some (seen_of live))
-            (find (λ (d : Definition). d.number.0 == number.0) (map seen_of definitions))
+        (find (λ (d : Definition). d.number.0 == number.0) (map seen_of definitions))
     by true rest = refl
     by false rest = rest
 
@@ -72,8 +72,12 @@ used_literal uses literals numbers symbol same = (there, from)
         by one one-is count count-is true unused-is some = absurd cc
         by None one-is count count-is false unused-is some = absurd cc
         by (Some None) one-is count count-is false unused-is some = absurd cc
-        by (Some (Some table)) one-is None count-is false unused-is some = absurd (omega (arith, same, slice_get_within literals place (Some table) one-is,
-            past uses place count-is))
+        by (Some (Some table)) one-is None count-is false unused-is some = absurd (omega (
+          arith,
+          same,
+          slice_get_within literals place (Some table) one-is,
+          past uses place count-is,
+        ))
           where
             past : {X : Type 0} (xs : List X) (i : ℕ) → slice_get xs i ≡ None → length xs ≤ i
             past [] i is = omega arith
@@ -185,10 +189,13 @@ named_found definitions test number order told = by (find test definitions) refl
         let finds = found test definitions live is in
         let same : live.number ≡ number = same_Some live.number number told in
         let numbers = sorted_keys (λ (d : Definition). d.number.0) definitions order in
-        find_only (λ d. d.number.0 == number.0) definitions live (record { there = finds.there; passes =
-            eq-eqb live.number.0 number.0 (ap (λ (n : RuleId). n.0) same) })
+        find_only (λ d. d.number.0 == number.0) definitions live (record {
+          there = finds.there;
+          passes =
+              eq-eqb live.number.0 number.0 (ap (λ (n : RuleId). n.0) same);
+        })
         (λ other there passes. distinct_map (λ (d : Definition). d.number.0) definitions other live numbers there finds.there
-            (eqb-true other.number.0 number.0 passes ∙ sym (ap (λ (n : RuleId). n.0) same)))
+        (eqb-true other.number.0 number.0 passes ∙ sym (ap (λ (n : RuleId). n.0) same)))
 
 -- ---- what the code is told
 
@@ -198,9 +205,9 @@ pub told_live : (g : Grammar) (some_uses : List ℕ) (some_literals : List (Opti
     → option_map (λ p. p.now) told ≡ live_literal some_uses some_literals symbol.0 → told ≡ Some table → IsLive g (literal symbol)
 told_live g some_uses some_literals uses literals symbol told table well are_uses are_literals uses-is literals-is is told-is =
     let some : Some table.now ≡ live_literal uses literals symbol.0 = ap (option_map (λ p. p.now)) (sym told-is) ∙ is ∙ ap
-        (λ us. live_literal us some_literals symbol.0) uses-is ∙ ap (λ ls. live_literal uses ls symbol.0) literals-is in
+    (λ us. live_literal us some_literals symbol.0) uses-is ∙ ap (λ ls. live_literal uses ls symbol.0) literals-is in
     (literal_live g uses literals symbol well are_uses are_literals (same_length g uses literals are_uses are_literals)).0
-        (subst (λ o. IsTrue (is_some o)) some refl)
+    (subst (λ o. IsTrue (is_some o)) some refl)
 
 pub told_dead : (g : Grammar) (some_uses : List ℕ) (some_literals : List (Option Table)) (uses : List ℕ) (literals : List (Option Table)) (symbol : SymbolId)
     (told : Option (Bor Table))
@@ -208,7 +215,7 @@ pub told_dead : (g : Grammar) (some_uses : List ℕ) (some_literals : List (Opti
     → option_map (λ p. p.now) told ≡ live_literal some_uses some_literals symbol.0 → told ≡ None → IsLive g (literal symbol) → ⊥
 told_dead g some_uses some_literals uses literals symbol told well are_uses are_literals uses-is literals-is is told-is live =
     let none : None ≡ live_literal uses literals symbol.0 = ap (option_map (λ p. p.now)) (sym told-is) ∙ is ∙ ap
-        (λ us. live_literal us some_literals symbol.0) uses-is ∙ ap (λ ls. live_literal uses ls symbol.0) literals-is in
+    (λ us. live_literal us some_literals symbol.0) uses-is ∙ ap (λ ls. live_literal uses ls symbol.0) literals-is in
     let some = (literal_live g uses literals symbol well are_uses are_literals (same_length g uses literals are_uses are_literals)).1 live in
     let never : IsTrue (is_some {T = Table} None) = subst (λ o. IsTrue (is_some o)) (sym none) some in
     absurd cc
@@ -216,16 +223,16 @@ told_dead g some_uses some_literals uses literals symbol told well are_uses are_
 -- the kind of a found definition
 kind_found : (definitions : List NamedDefinition) (number : RuleId) (told : Option (Bor NamedDefinition)) (list : List NamedDefinition) → list ≡ definitions
     → option_map (λ live. live.now) told ≡ find (has_number number) list → option_map (λ live. seen_of live.now) told ≡ find (λ live. live.number.0 == number.0)
-        (map seen_of definitions)
+    (map seen_of definitions)
 kind_found definitions number told list list-is is = found_told definitions number told (is ∙ ap (find (has_number number)) list-is)
 
 pub named_live : (definitions : List NamedDefinition) (number : RuleId) (told : Option (Bor NamedDefinition)) (live : Bor NamedDefinition)
     (list : List NamedDefinition) → list ≡ definitions
     → option_map (λ live. live.now) told ≡ find (has_number number) list → told ≡ Some live
-        → IsTrue (is_some (option_map kind_of_definition (find (λ live. live.number.0 == number.0) (map seen_of definitions))))
+    → IsTrue (is_some (option_map kind_of_definition (find (λ live. live.number.0 == number.0) (map seen_of definitions))))
 named_live definitions number told live list list-is is told-is =
     let some : Some (seen_of live.now) ≡ find (λ (d : Definition). d.number.0 == number.0) (map seen_of definitions) =
-        ap (option_map (λ (l : Bor NamedDefinition). seen_of l.now)) (sym told-is) ∙ kind_found definitions number told list list-is is in
+    ap (option_map (λ (l : Bor NamedDefinition). seen_of l.now)) (sym told-is) ∙ kind_found definitions number told list list-is is in
     subst (λ o. IsTrue (is_some (option_map kind_of_definition o))) some refl
 
 pub named_dead : (g : Grammar) (definitions : List NamedDefinition) (number : RuleId) (told : Option (Bor NamedDefinition)) (list : List NamedDefinition)
@@ -234,20 +241,20 @@ pub named_dead : (g : Grammar) (definitions : List NamedDefinition) (number : Ru
 named_dead g definitions number told list g-is list-is is told-is live =
     let none : None ≡ find (λ (d : Definition). d.number.0 == number.0) g.definitions =
     ap (option_map (λ (l : Bor NamedDefinition). seen_of l.now)) (sym told-is) ∙ kind_found definitions number told list list-is is ∙ ap
-        (find (λ (d : Definition). d.number.0 == number.0)) (sym g-is) in
+    (find (λ (d : Definition). d.number.0 == number.0)) (sym g-is) in
     let never : IsTrue (is_some (option_map {T = Definition} kind_of_definition None)) = subst (λ o. IsTrue (is_some (option_map kind_of_definition o)))
-        (sym none) live in
+    (sym none) live in
     absurd cc
 
 pub named_positions : (g : Grammar) (definitions : List NamedDefinition) (number : RuleId) (told : Option (Bor NamedDefinition)) (live : Bor NamedDefinition)
     (list : List NamedDefinition) → g.definitions ≡ map seen_of definitions
     → AllByRecursion HasPositions definitions → list ≡ definitions → option_map (λ live. live.now) told ≡ find (has_number number) list → told ≡ Some live
-        → ArePositionsFor g (named number) live.now.positions
+    → ArePositionsFor g (named number) live.now.positions
 named_positions g definitions number told live list g-is all list-is is told-is =
     let some : Some (seen_of live.now) ≡ find (λ (d : Definition). d.number.0 == number.0) g.definitions =
     ap (option_map (λ (l : Bor NamedDefinition). seen_of l.now)) (sym told-is) ∙ kind_found definitions number told list list-is is ∙ ap
-        (find (λ (d : Definition). d.number.0 == number.0)) (sym g-is) in
+    (find (λ (d : Definition). d.number.0 == number.0)) (sym g-is) in
     let at : find (has_number number) definitions ≡ Some live.now = ap (find (has_number number)) (sym list-is) ∙ sym is ∙ ap
-        (option_map (λ (l : Bor NamedDefinition). l.now)) told-is in
+    (option_map (λ (l : Bor NamedDefinition). l.now)) told-is in
     let has = each_contained HasPositions definitions live.now all (found (has_number number) definitions live.now at).there in
     (seen_of live.now, sym some, has.0, has.1, has.2)

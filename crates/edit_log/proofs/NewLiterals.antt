@@ -66,7 +66,7 @@ is_fresh_literal old fresh s more e =
     let k = s.0 - length old in
     let place : length old + k ≡ s.0 = omega arith in
     let same : get_or (old ++ fresh) s.0 (Named []) ≡ get_or fresh k (Named []) = ap (λ n. get_or (old ++ fresh) n (Named [])) (sym place)
-        ∙ get_or-append-add old fresh k (Named []) in
+    ∙ get_or-append-add old fresh k (Named []) in
     literal_some fresh k (ap is_literal (sym same) ∙ e)
 
 -- a literal of the rule that is new
@@ -89,7 +89,7 @@ fresh_literal g r fresh are_fresh some =
     let grown = grown_after g r in
     let same : grown.more ≡ symbols_in fresh =
     sym (drop-append_seam g.symbols grown.more) ∙ ap (drop (length g.symbols)) (sym grown.is ∙ are_fresh.symbols) ∙ drop-append_seam g.symbols
-        (symbols_in fresh) in
+    (symbols_in fresh) in
     let more : Contains grown.more y = subst (λ ss. Contains ss y) (sym same) one.1 in
     let there : Contains symbols y = subst (λ ss. Contains ss y) (sym are_fresh.symbols) (Contains-append_right g.symbols (symbols_in fresh) y one.1) in
     let at : slice_get symbols (place_of symbols y) ≡ Some y = at_place symbols y (placed symbols y there) in
@@ -104,6 +104,6 @@ fresh_literal g r fresh are_fresh some =
       absent = λ less.
           let old : get_or g.symbols (place_of symbols y) y ≡ y =
           sym (get_or-append g.symbols (symbols_in fresh) y (place_of symbols y) less) ∙ ap (λ ss. get_or ss (place_of symbols y) y) (sym are_fresh.symbols)
-              ∙ get_or_from_slice_get symbols (place_of symbols y) y y at in
+          ∙ get_or_from_slice_get symbols (place_of symbols y) y y at in
           grown.absent y more (place_of symbols y, less, old);
     }

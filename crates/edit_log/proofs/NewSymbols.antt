@@ -67,8 +67,11 @@ with_symbols-grown symbols (x ∷ xs) =
       more = one.more ++ rest.more;
       is = rest.is ∙ ap (λ ss. ss ++ rest.more) one.is ∙ append_assoc symbols one.more rest.more;
       known = λ s c. elim (Contains-append_cases one.more rest.more s c) [
-        | inl d ↦ elim (contains_cases x [] s (one.known s d)) [ inl e ↦ subst (Contains (x ∷ xs)) e (contains_first x xs) | inr none ↦
-            absurd (contains_none s none) ]
+        | inl d ↦ elim (contains_cases x [] s (one.known s d)) [
+          | inl e ↦ subst (Contains (x ∷ xs)) e (contains_first x xs)
+          | inr none ↦
+              absurd (contains_none s none)
+        ]
         | inr d ↦ contains_later x xs s (rest.known s d)
       ];
       absent = λ s c there. elim (Contains-append_cases one.more rest.more s c) [
@@ -93,6 +96,6 @@ with_symbols-has symbols (x ∷ xs) s c = elim (contains_cases x xs s c) [
   | inl e ↦
       let rest = with_symbols-grown (with_symbol symbols x) xs in
       subst (Contains (with_symbols symbols (x ∷ xs))) e (subst (λ ss. Contains ss x) (sym rest.is) (Contains-append_left (with_symbol symbols x) rest.more x
-          (with_symbol-has symbols x)))
+      (with_symbol-has symbols x)))
   | inr d ↦ with_symbols-has (with_symbol symbols x) xs s d
 ]

@@ -27,7 +27,7 @@ module _ {X : Type 0} (key : X → ℕ) (xs : List X) (sorted : IsStrictlySorted
   along i j d up within = elim (cases_lt i j) [
     | inl less ↦
         let rises : key (get_or xs i d) < key (get_or xs j d) = nat_cmp_less (key (get_or xs i d)) (key (get_or xs j d))
-            (Less-from_sorted (by_key key) xs i j d sorted less within) in
+        (Less-from_sorted (by_key key) xs i j d sorted less within) in
         index_rises (key (get_or xs i d)) (key (get_or xs j d)) n (omega arith)
     | inr more ↦ let same : i ≡ j = omega arith in rw same (omega arith)
   ]
@@ -103,8 +103,10 @@ pub sorted_map : {X Y : Type 0} (f : X → Y) (key : Y → ℕ) (xs : List X) �
     → IsStrictlySortedBy (by_key (λ x. key (f x))) xs
 unfolding IsStrictlySortedBy
 sorted_map f key [] sorted = tt
-sorted_map f key (x ∷ xs) sorted = (all_contained _ xs (λ y there. each_contained _ (map f xs) (f y) sorted.0 (contains_map f xs y there)),
-    sorted_map f key xs sorted.1)
+sorted_map f key (x ∷ xs) sorted = (
+  all_contained _ xs (λ y there. each_contained _ (map f xs) (f y) sorted.0 (contains_map f xs y there)),
+  sorted_map f key xs sorted.1,
+)
 
 sorted_pairs : {X : Type 0} (key : X → ℕ) (xs : List X) → AllPairs (λ a b. a < b) (map key xs) → IsStrictlySortedBy (by_key key) xs
 unfolding IsStrictlySortedBy
@@ -112,7 +114,7 @@ sorted_pairs key [] pairs = tt
 sorted_pairs key (x ∷ xs) pairs = (
   all_contained _ xs (λ y (k, within, is).
       let at : slice_get (map key xs) k ≡ Some (key y) = slice_get-map key xs k ∙ ap (option_map key)
-          (slice_get_read xs (length xs) k y refl within (sym is)) in
+      (slice_get_read xs (length xs) k y refl within (sym is)) in
       let less : key x < get_or (map key xs) k 0 = pairs 0 (suc k) 0 (omega arith) (omega (arith, slice_get_within (map key xs) k (key y) at)) in
       let same : get_or (map key xs) k 0 ≡ key y = get_or_from_slice_get (map key xs) k (key y) 0 at in
       rw (lt-ltb (key x) (key y) (omega arith)) refl),

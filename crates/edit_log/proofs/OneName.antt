@@ -28,16 +28,19 @@ found_of_kind g skip name well = by (find (has_name g.symbols name) g.definition
     by : (one : Option Definition) → find (has_name g.symbols name) g.definitions ≡ one → find (is_named g.symbols skip name) g.definitions ≡ of_kind skip one
     by None is = find_none (is_named g.symbols skip name) g.definitions (all_contained (λ d. is_named g.symbols skip name d ≡ false) g.definitions
         (λ d there. false_from_ne_true (is_named g.symbols skip name d) (λ yes. let none = each_contained (λ (d : Definition). has_name g.symbols name d
-            ≡ false) g.definitions d (none_found (has_name g.symbols name) g.definitions is) there in
+        ≡ false) g.definitions d (none_found (has_name g.symbols name) g.definitions is) there in
         let some = (and_parts (has_name g.symbols name d) (is_of_kind skip d) yes).0 in absurd (let never : false ≡ true = sym none ∙ some in cc))))
     by (Some live) is = cases (is_of_kind skip live) refl (found (has_name g.symbols name) g.definitions live is)
       where
         cases : (kind : Bool) → is_of_kind skip live ≡ kind → Finds (has_name g.symbols name) g.definitions live
             → find (is_named g.symbols skip name) g.definitions ≡ cond kind (Some live) None
-        cases true kind finds = find_only (is_named g.symbols skip name) g.definitions live (record { there = finds.there; passes =
-            and_from (has_name g.symbols name live) (is_of_kind skip live) finds.passes kind })
+        cases true kind finds = find_only (is_named g.symbols skip name) g.definitions live (record {
+          there = finds.there;
+          passes =
+              and_from (has_name g.symbols name live) (is_of_kind skip live) finds.passes kind;
+        })
             (λ other there yes. one_name g name other live well there finds.there (and_parts (has_name g.symbols name other)
-                (is_of_kind skip other) yes).0 finds.passes)
+            (is_of_kind skip other) yes).0 finds.passes)
         cases false kind finds = find_none (is_named g.symbols skip name) g.definitions (all_contained (λ d. is_named g.symbols skip name d
             ≡ false) g.definitions
             (λ d there. false_from_ne_true (is_named g.symbols skip name d) (λ yes.

@@ -104,7 +104,7 @@ with_symbol-placed symbols s = by (nat_lt (place_of symbols s) (length symbols))
         let same : symbol_eq s s ≡ true = (symbol_eq-decides s s).1 refl in
         let last : place_of symbols s ≡ length symbols = omega (arith, ltb-false (place_of symbols s) (length symbols) is, place_of-within symbols s) in
         let place : place_of (symbols ++ s ∷ []) s ≡ length symbols = position_or_len_push (symbol_eq s) symbols s ∙ rw
-            (eq-eqb (place_of symbols s) (length symbols) last, same) (omega arith) in
+        (eq-eqb (place_of symbols s) (length symbols) last, same) (omega arith) in
         rw place (omega (arith, length-append symbols (s ∷ [])))
 
 pub with_symbols-push : (symbols xs : List Symbol) (s : Symbol) → with_symbols symbols (xs ++ s ∷ []) ≡ with_symbol (with_symbols symbols xs) s

@@ -60,8 +60,11 @@ found test [] x e = absurd cc
 found {X} test (y ∷ ys) x e = by (test y) refl (found test ys x) e
   where
     by : (passes : Bool) → test y ≡ passes → (find test ys ≡ Some x → Finds test ys x) → cond passes (Some y) (find test ys) ≡ Some x → Finds test (y ∷ ys) x
-    by true is others e = let same : y ≡ x = cc in record { there = subst (Contains (y ∷ ys)) same (contains_here y ys); passes =
-        subst (λ z. test z ≡ true) same is }
+    by true is others e = let same : y ≡ x = cc in record {
+      there = subst (Contains (y ∷ ys)) same (contains_here y ys);
+      passes =
+          subst (λ z. test z ≡ true) same is;
+    }
     by false is others e = let rest = others e in record { there = contains_there y ys x rest.there; passes = rest.passes }
 
 pub none_found : {X : Type 0} (test : X → Bool) (xs : List X) → find test xs ≡ None → AllByRecursion (λ x. test x ≡ false) xs

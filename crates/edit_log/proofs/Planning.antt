@@ -81,8 +81,10 @@ parts_within g r live well is part there =
     each_contained (λ (x : SymbolId). x.0 < length g.symbols) live.right part right.0 there
 
 pub some_listed : (items : List DefId) (n : ℕ) → n ≡ length items → IsTrue (not (n == 0)) ↔ (items ≡ [] → ⊥)
-some_listed [] n is = (λ some. absurd (let none : not (n == 0) ≡ false = ap not (eq-eqb n 0 is) in let never : false ≡ true = sym none ∙ some in cc),
-    λ never. absurd (never refl))
+some_listed [] n is = (
+  λ some. absurd (let none : not (n == 0) ≡ false = ap not (eq-eqb n 0 is) in let never : false ≡ true = sym none ∙ some in cc),
+  λ never. absurd (never refl),
+)
 some_listed (d ∷ items) n is = (λ some empty. absurd cc, λ never. ap not (ne_eqb n 0 (λ e. omega (arith, e, is))))
 
 -- ---- a token or a skip that is added
@@ -95,21 +97,39 @@ fresh_for_definition g false d fresh grown each few = record { symbols = sym gro
 
 pub definition_planned : (g : Grammar) (skip : Bool) (d : DefText) (fresh : List FreshSymbol) (number : RuleId) (symbol : SymbolId) (live : NamedDefinition)
     → g.symbols ++ symbols_in fresh ≡ with_symbol g.symbols (Named d.name) → AllByRecursion IsFresh fresh → length fresh ≤ 1 → number.0 ≡ g.version + 1
-        → symbol ≡ number_of (g.symbols ++ symbols_in fresh) (Named d.name)
+    → symbol ≡ number_of (g.symbols ++ symbols_in fresh) (Named d.name)
     → seen_of live ≡ record { number = number; name = symbol; is_skip = skip; expression = d.expression } → HasPositions live
-    → (list : Vec FreshSymbol Global) → list.items ≡ fresh → IsPlanFor g (adds skip d) (plan.AddDefinition (record { name = d.name; live = live; fresh =
-        list }))
+    → (list : Vec FreshSymbol Global) → list.items ≡ fresh → IsPlanFor g (adds skip d) (plan.AddDefinition (record {
+      name = d.name;
+      live = live;
+      fresh =
+          list;
+    }))
 unfolding after
 definition_planned g true d fresh number symbol live grown each few number-is symbol-is seen positions list list-is = (
   refl,
-  record { is = seen ∙ (λ i. record { number = record { 0 = number-is i }; name = (symbol-is ∙ ap (λ ss. number_of ss (Named d.name)) grown) i; is_skip = true;
-      expression = d.expression }); positions = positions },
+  record {
+    is = seen ∙ (λ i. record {
+      number = record { 0 = number-is i };
+      name = (symbol-is ∙ ap (λ ss. number_of ss (Named d.name)) grown) i;
+      is_skip = true;
+      expression = d.expression;
+    });
+    positions = positions;
+  },
   subst (AreFreshFor g (AddSkip d)) (sym list-is) (fresh_for_definition g true d fresh grown each few),
 )
 definition_planned g false d fresh number symbol live grown each few number-is symbol-is seen positions list list-is = (
   refl,
-  record { is = seen ∙ (λ i. record { number = record { 0 = number-is i }; name = (symbol-is ∙ ap (λ ss. number_of ss (Named d.name)) grown) i; is_skip = false;
-      expression = d.expression }); positions = positions },
+  record {
+    is = seen ∙ (λ i. record {
+      number = record { 0 = number-is i };
+      name = (symbol-is ∙ ap (λ ss. number_of ss (Named d.name)) grown) i;
+      is_skip = false;
+      expression = d.expression;
+    });
+    positions = positions;
+  },
   subst (AreFreshFor g (AddToken d)) (sym list-is) (fresh_for_definition g false d fresh grown each few),
 )
 
@@ -181,7 +201,7 @@ at_stays old new place grows has = by (slice_get old.under place) refl has
 under_stays : (old new : Replica) (edit : Edit) → new.grammar ≡ old.grammar → IsNoMoreThan old.room new.room → HasRoomUnder old edit → HasRoomUnder new edit
 under_stays old new (AddRule r) same grows has =
     subst (λ (g : Grammar). IfSome (slice_get new.room.under (number_of g.symbols (Named r.left)).0) (λ count. 1 ≤ count)) (sym same)
-        (at_stays old.room new.room (place_of old.grammar.symbols (Named r.left)) grows has)
+    (at_stays old.room new.room (place_of old.grammar.symbols (Named r.left)) grows has)
 under_stays old new (DropRule r) same grows has = tt
 under_stays old new (AddToken d) same grows has = tt
 under_stays old new (DropToken name) same grows has = tt
@@ -215,11 +235,14 @@ under_prepared replica (AddRule r) ready touch count room = by (nat_lt (place_of
     by true there =
         let grown = grows_symbol replica.grammar r in
         let same : place_of (after replica.grammar (AddRule r)).symbols (Named r.left) ≡ place_of replica.grammar.symbols (Named r.left) =
-            ap (λ ss. place_of ss (Named r.left)) grown.1 ∙ place_of-append replica.grammar.symbols grown.0 (Named r.left)
-            (ltb-true (place_of replica.grammar.symbols (Named r.left)) (length replica.grammar.symbols) there) in
+        ap (λ ss. place_of ss (Named r.left)) grown.1 ∙ place_of-append replica.grammar.symbols grown.0 (Named r.left)
+        (ltb-true (place_of replica.grammar.symbols (Named r.left)) (length replica.grammar.symbols) there) in
         subst (λ place. IfSome (slice_get replica.room.under place) (λ count. 1 ≤ count)) same (subst (HasRoomAt replica.room) touch.left room)
-    by false there = rw (slice_get_past replica.room.under (place_of replica.grammar.symbols (Named r.left)) (omega (arith, count,
-        ltb-false (place_of replica.grammar.symbols (Named r.left)) (length replica.grammar.symbols) there))) tt
+    by false there = rw (slice_get_past replica.room.under (place_of replica.grammar.symbols (Named r.left)) (omega (
+      arith,
+      count,
+      ltb-false (place_of replica.grammar.symbols (Named r.left)) (length replica.grammar.symbols) there,
+    ))) tt
 under_prepared replica (DropRule r) ready touch count room = tt
 under_prepared replica (AddToken d) ready touch count room = tt
 under_prepared replica (DropToken name) ready touch count room = tt

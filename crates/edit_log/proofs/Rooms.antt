@@ -9,7 +9,7 @@ use Rattle.edit_log.specs.Replicas.{room_of}
 -- one list of rules gets more memory
 pub under_set : (lists : List (Vec RuleId Global)) (at : ℕ) (old list : Vec RuleId Global) → old ≡ slice_index_or lists at old → room_of old ≤ room_of list
     → (place count : ℕ) → slice_get (map room_of lists) place ≡ Some count → (more : ℕ) × (slice_get (map room_of (slice_set lists at list)) place ≡ Some more)
-        × (count ≤ more)
+    × (count ≤ more)
 under_set [] at old list is less place count told = absurd cc
 under_set (x ∷ xs) zero old list is less zero count told =
     let same : room_of x ≡ count = same_Some (room_of x) count told in

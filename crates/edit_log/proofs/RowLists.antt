@@ -32,8 +32,11 @@ pub used_row : (rows : List Row) (symbol : SymbolId) (count : ℕ) (row : Row) (
     → row.uses ≡ count → b ≡ is_some row.positions
     → (b ≡ true) ↔ IsUsed rows symbol count
 used_row rows symbol count row b within is uses b-is = (
-  λ some. (has_literal (literals_in rows) symbol.0 row.positions positions (sym b-is ∙ some), column_get (λ (row : Row). row.uses) rows symbol.0 row within is
-      ∙ ap Some uses),
+  λ some. (
+    has_literal (literals_in rows) symbol.0 row.positions positions (sym b-is ∙ some),
+    column_get (λ (row : Row). row.uses) rows symbol.0 row within is
+        ∙ ap Some uses,
+  ),
   λ used. by b b-is used,
 )
   where
@@ -55,7 +58,7 @@ pub use_counts : (f : ℕ → ℕ → ℕ) → ((n : ℕ) → f n 0 ≡ n) → (
     → slice_get new place ≡ option_map (λ n. f n (occurrences (record { 0 = place }) (symbol ∷ []))) (slice_get (uses_in rows) place)
 use_counts f none rows new symbol within is place =
     ap (λ (us : List ℕ). slice_get us place) is ∙ one_count f none (uses_in rows) symbol
-        (omega (arith, within, length-map rows (λ (row : Row). row.uses))) place
+    (omega (arith, within, length-map rows (λ (row : Row). row.uses))) place
 
 -- as many left sides as rows
 pub same_count : (new old : List Row) → lefts_in new ≡ lefts_in old → length new ≡ length old

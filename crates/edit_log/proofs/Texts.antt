@@ -89,12 +89,12 @@ numbers_within symbols (x ∷ xs) placed = (placed.0, numbers_within symbols xs 
 -- the rule from the numbers that its symbols got one after the other
 pub rule_numbered : (before middle symbols : List Symbol) (r : RuleText) (name : List ℕ) (number : RuleId) (left : SymbolId) (right : List SymbolId)
     → name ≡ r.left → middle ≡ with_symbol before (Named name) → left ≡ number_of middle (Named name) → symbols ≡ with_symbols middle r.right
-        → right ≡ map (number_of symbols) r.right
+    → right ≡ map (number_of symbols) r.right
     → (record { number = number; left = left; right = right }) ≡ numbered symbols number.0 r
 rule_numbered before middle symbols r name number left right name-is middle-is left-is symbols-is right-is =
     let placed : IsPlaced middle (Named name) = rw middle-is (with_symbol-placed before (Named name)) in
     let same : left ≡ number_of symbols (Named r.left) = left-is ∙ sym (number_stays middle symbols r.right (Named name) placed symbols-is) ∙ ap
-        (λ n. number_of symbols (Named n)) name-is in
+    (λ n. number_of symbols (Named n)) name-is in
     (λ i. record { number = number; left = same i; right = right-is i })
 
 -- ---- names
@@ -109,7 +109,7 @@ pub old_name : (symbols new : List Symbol) (room : ℕ) (name : List ℕ) (n : S
 old_name symbols new room name n grows named placed same =
     let at : symbol_at new n ≡ Named name = ap (symbol_at new) same ∙ symbol_at_number new (Named name) placed in
     let stays : symbol_at new n ≡ symbol_at symbols n = ap (λ ss. symbol_at ss n) grows.is ∙ symbol_at-grow symbols grows.more n
-        (named_within symbols n named) in
+    (named_within symbols n named) in
     (symbol_eq-decides (symbol_at symbols n) (Named name)).1 (sym stays ∙ at)
 
 -- and the other way

@@ -58,22 +58,42 @@ module _ (g : Grammar) (r : RuleText) (live : Rule) (well : IsWellFormed g) (liv
     fresh_starts some =
         let found = fresh_literal g r fresh are_fresh some in
         let right : Contains live.right found.number = subst (λ (x : Rule). Contains x.right found.number) (sym live-is) found.used in
-        let now = (live_literal (after g (AddRule r)) found.number).1 (found.literal_there, omega (arith, more_uses found.number,
-            counted_there found.number live.right right)) in
-        (literal found.number, inr (now, λ before. found.absent (counted_within g.symbols g.rules found.number well.rights
-            ((live_literal g found.number).0 before).1)))
+        let now = (live_literal (after g (AddRule r)) found.number).1 (
+          found.literal_there,
+          omega (
+            arith,
+            more_uses found.number,
+            counted_there found.number live.right right,
+          ),
+        ) in (
+          literal found.number,
+          inr (
+            now,
+            λ before. found.absent (counted_within g.symbols g.rules found.number well.rights
+                ((live_literal g found.number).0 before).1),
+          ),
+        )
 
     module _ (uses : List ℕ) (literals : List (Option Table)) (are_uses : AreUses g.symbols g.rules uses)
         (are_literals : AreLiteralTables g.symbols literals) where
       -- and so is one that it wakes
       woken_starts : Wakes literals uses live.right → ChangesDefinitions g (after g (AddRule r))
       woken_starts (part, there, has, none) =
-          let within : part.0 < length g.symbols = omega (arith, slice_get_within literals part.0 (Some has.0) has.1,
-              same_length g.symbols literals are_literals) in
+          let within : part.0 < length g.symbols = omega (
+            arith,
+            slice_get_within literals part.0 (Some has.0) has.1,
+            same_length g.symbols literals are_literals,
+          ) in
           let here = has_is_literal g.symbols literals are_literals part.0 has in
           let same = symbol_kept g.symbols (after g (AddRule r)).symbols (symbols_in fresh) part are_fresh.symbols within in
-          let now = (live_literal (after g (AddRule r)) part).1 (ap is_literal same ∙ here, omega (arith, more_uses part,
-              counted_there part live.right there)) in
+          let now = (live_literal (after g (AddRule r)) part).1 (
+            ap is_literal same ∙ here,
+            omega (
+              arith,
+              more_uses part,
+              counted_there part live.right there,
+            ),
+          ) in
           let counted = are_uses.counts part.0 within in
           let unused : all_occurrences part g.rules ≡ 0 = cc in
           (literal part, inr (now, λ before. absurd (omega (arith, unused, ((live_literal g part).0 before).1))))
@@ -233,8 +253,11 @@ pub touch_definition_added : (g : Grammar) (skip : Bool) (d : DefText) (touch : 
 touch_definition_added g skip d touch well accepted left-is rule-is scan-is defs-is =
     let new : RuleId = record { 0 = g.version + 1 } in
     let now = (live_added g skip d well (named new)).1 (inr refl) in
-    let before : IsLive g (named new) → ⊥ = λ live. absurd (omega (arith, number_within g.version g.definitions new well.definition_numbers
-        ((live_named g new).0 live))) in
+    let before : IsLive g (named new) → ⊥ = λ live. absurd (omega (
+      arith,
+      number_within g.version g.definitions new well.definition_numbers
+          ((live_named g new).0 live),
+    )) in
     record {
       left = left-is ∙ sym (added_left g skip d);
       gone_rule = rule-is ∙ sym (added_rule g skip d);
@@ -256,10 +279,10 @@ one_ends : (g : Grammar) (skip : Bool) (name : List ℕ) (gone : Definition) →
 unfolding IsStrictlySortedBy
 one_ends g skip name gone well accepted found =
     let there = contains_map (λ (live : Definition). live.number) g.definitions gone
-        ((found_there (is_named g.symbols skip name) g.definitions gone found).0) in
+    ((found_there (is_named g.symbols skip name) g.definitions gone found).0) in
     let before = (live_named g gone.number).1 there in
     let now : IsLive (after g (drops skip name)) (named gone.number)
-        → ⊥ = λ live. ((live_dropped g skip name gone well accepted found (named gone.number)).0 live).1 refl in
+    → ⊥ = λ live. ((live_dropped g skip name gone well accepted found (named gone.number)).0 live).1 refl in
     record {
       order = (tt, tt);
       members = λ d. (

@@ -45,7 +45,7 @@ pub under_changed : (lists : List (Vec RuleId Global)) (i : ℕ) (list : Vec Rul
 under_changed lists i list f within is place = elim (cases_eq place i) [
   | inl e ↦
       let at : under (set lists i list) i ≡ list.items = ap (λ found. option_map_or (λ (list : Vec RuleId Global). list.items) found [])
-          (slice_get-set_same lists i list within) in
+      (slice_get-set_same lists i list within) in
       rw (eq-eqb place i e) (ap (under (set lists i list)) e ∙ at ∙ is ∙ ap (λ n. f (under lists n)) (sym e))
   | inr other ↦ rw (ne_eqb place i other) (ap (λ found. option_map_or (λ (list : Vec RuleId Global). list.items) found [])
       (slice_get-set_other lists i place list other))

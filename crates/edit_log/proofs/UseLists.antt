@@ -77,7 +77,7 @@ module _ (literals : List (Option Table)) (numbers : List RuleId) (symbol : Symb
   -- the first use of a literal
   pub live_started : (uses new : List ℕ) (m n : ℕ) (old after : List DefId) → Changes uses new symbol.0 m n → HasLiteral literals symbol.0 → 0 < n
       → ListsDefinitions (IsLiveBy literals uses numbers) old → ListsDefinitions (λ d. Contains old d ⊎ (d ≡ literal symbol)) after
-          → ListsDefinitions (IsLiveBy literals new numbers) after
+      → ListsDefinitions (IsLiveBy literals new numbers) after
   live_started uses new m n old after is has some lists added = record {
     order = added.order;
     members = λ d. (
@@ -117,7 +117,7 @@ module _ (literals : List (Option Table)) (numbers : List RuleId) (symbol : Symb
   -- the last use of a literal goes
   pub live_ended : (uses new : List ℕ) (m n : ℕ) (old after : List DefId) → Changes uses new symbol.0 m n → n ≡ 0
       → ListsDefinitions (IsLiveBy literals uses numbers) old → ListsDefinitions (λ d. Contains old d × (d ≡ literal symbol → ⊥)) after
-          → ListsDefinitions (IsLiveBy literals new numbers) after
+      → ListsDefinitions (IsLiveBy literals new numbers) after
   live_ended uses new m n old after is ended lists dropped = record {
     order = dropped.order;
     members = λ d. (
@@ -137,7 +137,7 @@ module _ (literals : List (Option Table)) (numbers : List RuleId) (symbol : Symb
 pub live_more : (literals : List (Option Table)) (numbers : List RuleId) (symbol : SymbolId) (uses new : List ℕ) (m : ℕ) (live : List DefId)
     → Changes uses new symbol.0 m (m + 1)
     → ((HasLiteral literals symbol.0 × (slice_get new symbol.0 ≡ Some 1)) → ⊥) → ListsDefinitions (IsLiveBy literals uses numbers) live
-        → ListsDefinitions (IsLiveBy literals new numbers) live
+    → ListsDefinitions (IsLiveBy literals new numbers) live
 live_more literals numbers symbol uses new m live is other lists = live_stays literals numbers symbol uses new m (m + 1) live is
     (λ has. (some has (cases_eq m 0), omega arith)) lists
   where
@@ -149,7 +149,7 @@ live_more literals numbers symbol uses new m live is other lists = live_stays li
 pub live_less : (literals : List (Option Table)) (numbers : List RuleId) (symbol : SymbolId) (uses new : List ℕ) (m : ℕ) (live : List DefId)
     → Changes uses new symbol.0 m (m - 1) → 0 < m
     → ((HasLiteral literals symbol.0 × (slice_get new symbol.0 ≡ Some 0)) → ⊥) → ListsDefinitions (IsLiveBy literals uses numbers) live
-        → ListsDefinitions (IsLiveBy literals new numbers) live
+    → ListsDefinitions (IsLiveBy literals new numbers) live
 live_less literals numbers symbol uses new m live is used other lists = live_stays literals numbers symbol uses new m (m - 1) live is
     (λ has. (used, some has (cases_eq (m - 1) 0))) lists
   where
@@ -200,7 +200,7 @@ taken_more (Some m) now new a b c sum is more = rw (more, is) (ap Some (omega ar
 -- one count changes by one
 pub one_count : (f : ℕ → ℕ → ℕ) → ((n : ℕ) → f n 0 ≡ n) → (uses : List ℕ) (symbol : SymbolId) → symbol.0 < length uses → (place : ℕ)
     → slice_get (set uses symbol.0 (f (get_or uses symbol.0 0) 1)) place ≡ option_map (λ n. f n (occurrences (record { 0 = place }) (symbol ∷ [])))
-        (slice_get uses place)
+    (slice_get uses place)
 one_count f none uses symbol within place =
     let m = get_or uses symbol.0 0 in
     let is = changes_set uses symbol.0 (f m 1) within in
@@ -208,7 +208,7 @@ one_count f none uses symbol within place =
       | inl e ↦
           let old : slice_get uses place ≡ Some m = subst (λ p. slice_get uses p ≡ Some m) e is.before in
           let new : slice_get (set uses symbol.0 (f m 1)) place ≡ Some (f m 1) = subst (λ p. slice_get (set uses symbol.0 (f m 1)) p
-              ≡ Some (f m 1)) e is.after in
+          ≡ Some (f m 1)) e is.after in
           new ∙ sym (ap (option_map (λ n. f n (occurrences (record { 0 = place }) (symbol ∷ [])))) old ∙ ap (λ k. Some (f m k)) (counted_one symbol place e))
       | inr other ↦ is.others place (λ e. other (sym e)) ∙ same (slice_get uses place) (occurrences (record { 0 = place }) (symbol ∷ []))
           (counted_other symbol place other)
@@ -248,7 +248,7 @@ module _ (literals : List (Option Table)) (uses : List ℕ) (right : List Symbol
   pub ended_more : (old after : List DefId) → IsLastUse literals uses right (literal (get_or right i none))
       → ListsDefinitions (λ d. IsLastUse literals uses right d × IsAmong (take i right) d) old
       → ListsDefinitions (λ d. Contains old d ⊎ (d ≡ literal (get_or right i none))) after
-          → ListsDefinitions (λ d. IsLastUse literals uses right d × IsAmong (take (i + 1) right) d) after
+      → ListsDefinitions (λ d. IsLastUse literals uses right d × IsAmong (take (i + 1) right) d) after
   ended_more old after is lists added = record {
     order = added.order;
     members = λ d. (
@@ -286,8 +286,16 @@ ended_none literals uses right = record { order = tt; members = λ d. (λ (k, le
 pub ended_all : (literals : List (Option Table)) (uses : List ℕ) (right : List SymbolId) (gone : List DefId)
     → ListsDefinitions (λ d. IsLastUse literals uses right d × IsAmong right d) gone
     → ListsDefinitions (IsLastUse literals uses right) gone
-ended_all literals uses right gone lists = record { order = lists.order; members = λ d. (λ c. ((lists.members d).0 c).0, λ last. (lists.members d).1 (last,
-    among d last)) }
+ended_all literals uses right gone lists = record {
+  order = lists.order;
+  members = λ d. (
+    λ c. ((lists.members d).0 c).0,
+    λ last. (lists.members d).1 (
+      last,
+      among d last,
+    ),
+  );
+}
   where
     among : (d : DefId) → IsLastUse literals uses right d → IsAmong right d
     among (literal s) last = last.0

@@ -48,7 +48,7 @@ pub well_grown : (g : Grammar) (symbols : List Symbol) → IsWellFormed g → g.
     → IsWellFormed (next_with g symbols)
 well_grown g symbols well room grows apart =
     subst (λ (ss : List Symbol). IsWellFormed (next_with g ss)) (sym grows.is)
-        (grown g grows.more well room grows.few (subst (λ (ss : List Symbol). IsDistinct ss) grows.is apart))
+    (grown g grows.more well room grows.few (subst (λ (ss : List Symbol). IsDistinct ss) grows.is apart))
 
 -- ---- other rules
 
@@ -105,8 +105,11 @@ well_without_rules g test well = record {
   definition_numbers = well.definition_numbers;
   names = well.names;
   one_each = well.one_each;
-  apart = all_also _ (λ live. IsNonterminal (filter test g.rules) live.name → ⊥) g.definitions (λ live old (other, there, is). old (other,
-      contains_filter test g.rules other there, is)) well.apart;
+  apart = all_also _ (λ live. IsNonterminal (filter test g.rules) live.name → ⊥) g.definitions (λ live old (other, there, is). old (
+    other,
+    contains_filter test g.rules other there,
+    is,
+  )) well.apart;
 }
 
 -- ---- other definitions

@@ -50,8 +50,13 @@ is_named symbols skip name live = has_name symbols name live && is_of_kind skip 
 
 -- the definition with this number
 abbrev pub defined : List Symbol → ℕ → Bool → DefText → Definition
-defined symbols number is_skip d = record { number = record { 0 = number }; name = number_of symbols (Named d.name); is_skip = is_skip; expression =
-    d.expression }
+defined symbols number is_skip d = record {
+  number = record { 0 = number };
+  name = number_of symbols (Named d.name);
+  is_skip = is_skip;
+  expression =
+      d.expression;
+}
 
 -- the rules after the edit that makes this version
 abbrev pub rules_after : List Symbol → ℕ → List Rule → Edit → List Rule
@@ -76,8 +81,13 @@ unfoldable pub after : Grammar → Edit → Grammar
 after grammar edit =
     let version = grammar.version + 1 in
     let symbols = with_symbols grammar.symbols (symbols_of edit) in
-    record { version = version; symbols = symbols; rules = rules_after symbols version grammar.rules edit; definitions =
-        definitions_after symbols version grammar.definitions edit }
+    record {
+      version = version;
+      symbols = symbols;
+      rules = rules_after symbols version grammar.rules edit;
+      definitions =
+          definitions_after symbols version grammar.definitions edit;
+    }
 
 -- the grammar that the edits of a history make
 abbrev pub grammar_of : List Edit → Grammar

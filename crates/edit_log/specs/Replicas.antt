@@ -126,12 +126,12 @@ IsPlanFor grammar (AddRule r) (plan.AddRule p) =
 IsPlanFor grammar (DropRule r) (plan.DropRule p) = (p.text ≡ r) × ((live : _) × (rule_found grammar r ≡ Some live) × (p.number ≡ live.number))
 IsPlanFor grammar (AddToken d) (plan.AddDefinition p) =
     (p.name ≡ d.name) × IsNew grammar (AddToken d) p.live (defined (after grammar (AddToken d)).symbols (grammar.version + 1) false d) × AreFreshFor grammar
-        (AddToken d) p.fresh.items
+    (AddToken d) p.fresh.items
 IsPlanFor grammar (DropToken name) (plan.DropDefinition p) = (p.name ≡ name) × ((live : _) × (definition_found grammar false name ≡ Some live)
     × (p.number ≡ live.number))
 IsPlanFor grammar (AddSkip d) (plan.AddDefinition p) =
     (p.name ≡ d.name) × IsNew grammar (AddSkip d) p.live (defined (after grammar (AddSkip d)).symbols (grammar.version + 1) true d) × AreFreshFor grammar
-        (AddSkip d) p.fresh.items
+    (AddSkip d) p.fresh.items
 IsPlanFor grammar (DropSkip name) (plan.DropDefinition p) = (p.name ≡ name) × ((live : _) × (definition_found grammar true name ≡ Some live)
     × (p.number ≡ live.number))
 IsPlanFor grammar edit p = ⊥

@@ -94,7 +94,7 @@ literal_bytes text [] spelled of = tt
 literal_bytes text (byte ∷ bytes) spelled of =
     let both = parted spelled.0 spelled.1 (subst (λ (t : List ℕ). AreBytes t) spelled.4 of) in
     joined (escaped byte) (flat_map escaped bytes) (escaped_bytes byte (spelled_byte spelled.0 byte spelled.2 both.0))
-        (literal_bytes spelled.1 bytes spelled.3 both.1)
+    (literal_bytes spelled.1 bytes spelled.3 both.1)
 
 -- ---- symbols
 
@@ -109,9 +109,11 @@ symbols_bytes : (text : List ℕ) (symbols : List Symbol) → SpellsSymbols text
 symbols_bytes text [] spelled of = tt
 symbols_bytes text (symbol ∷ symbols) spelled of =
     let whole = parted spelled.0 (spelled.1 ++ spelled.2) (subst (λ (t : List ℕ). AreBytes t) spelled.6 of) in
-    let both = parted spelled.1 spelled.2 whole.1 in
-    (omega arith, joined (symbol_text symbol) (symbols_text symbols) (symbol_bytes spelled.1 symbol spelled.4 both.0)
-        (symbols_bytes spelled.2 symbols spelled.5 both.1))
+    let both = parted spelled.1 spelled.2 whole.1 in (
+      omega arith,
+      joined (symbol_text symbol) (symbols_text symbols) (symbol_bytes spelled.1 symbol spelled.4 both.0)
+          (symbols_bytes spelled.2 symbols spelled.5 both.1),
+    )
 
 -- ---- the forms of an edit
 
@@ -121,8 +123,10 @@ spaced_bytes piece of = (omega arith, of)
 rule_bytes : (text : List ℕ) (rule : RuleText) → IsName rule.left → SpellsSymbols text rule.right → AreBytes text → AreBytes (rule_text rule)
 rule_bytes text rule named spelled of =
     joined (spaced rule.left ++ spaced (codes "::=")) (symbols_text rule.right)
-    (joined (spaced rule.left) (spaced (codes "::=")) (spaced_bytes rule.left (name_bytes rule.left named)) (omega arith,
-        (omega arith, (omega arith, (omega arith, tt)))))
+    (joined (spaced rule.left) (spaced (codes "::=")) (spaced_bytes rule.left (name_bytes rule.left named)) (
+      omega arith,
+      (omega arith, (omega arith, (omega arith, tt))),
+    ))
     (symbols_bytes text rule.right spelled of)
 
 definition_bytes : (text : List ℕ) (definition : DefText) → IsName definition.name → IsExpressionText text definition.expression → AreBytes text
@@ -160,15 +164,18 @@ unfolding canonical
 canonical_bytes line (AddRule rule) spelled of = rule_word (rule_text rule) (rule_bytes spelled.rest rule spelled.named spelled.tail
     (rest_bytes line (AddRule rule) spelled of))
 canonical_bytes line (DropRule rule) spelled of =
-    drop_bytes (spaced (codes "rule") ++ rule_text rule) (omega arith, rule_word (rule_text rule) (rule_bytes spelled.rest rule spelled.named spelled.tail
-        (rest_bytes line (DropRule rule) spelled of)))
+    drop_bytes (spaced (codes "rule") ++ rule_text rule) (
+      omega arith,
+      rule_word (rule_text rule) (rule_bytes spelled.rest rule spelled.named spelled.tail
+          (rest_bytes line (DropRule rule) spelled of)),
+    )
 canonical_bytes line (AddToken definition) spelled of =
     token_word (definition_text definition) (definition_bytes spelled.rest definition spelled.named spelled.tail
-        (rest_bytes line (AddToken definition) spelled of))
+    (rest_bytes line (AddToken definition) spelled of))
 canonical_bytes line (DropToken name) spelled of = drop_bytes (spaced (codes "token") ++ spaced name)
     (omega arith, token_word (spaced name) (spaced_bytes name (name_bytes name spelled.named)))
 canonical_bytes line (AddSkip definition) spelled of =
     skip_word (definition_text definition) (definition_bytes spelled.rest definition spelled.named spelled.tail
-        (rest_bytes line (AddSkip definition) spelled of))
+    (rest_bytes line (AddSkip definition) spelled of))
 canonical_bytes line (DropSkip name) spelled of = drop_bytes (spaced (codes "skip") ++ spaced name)
     (omega arith, skip_word (spaced name) (spaced_bytes name (name_bytes name spelled.named)))

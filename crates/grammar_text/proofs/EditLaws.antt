@@ -43,10 +43,16 @@ pub record ReadsRule (room : Room) (text : List ℕ) (rule : RuleText) : Type 0 
 pub rule_takes : (room : Room) (place : Place) (rule : RuleText) → blank_led place.left ≡ true → rule_at room place ≡ Ok rule → ReadsRule room place.left rule
 unfolding rule_at
 rule_takes room place rule led e =
-    let a = bind_ok (name_at place) (λ left. word_at (codes "::=") left.1 >>= λ behind. symbols_at room room.right behind >>= λ right. Ok (record { left =
-        left.0; right = right })) rule e in
-    let b = bind_ok (word_at (codes "::=") a.0.1) (λ behind. symbols_at room room.right behind >>= λ right. Ok (record { left = a.0.0; right =
-        right })) rule a.2 in
+    let a = bind_ok (name_at place) (λ left. word_at (codes "::=") left.1 >>= λ behind. symbols_at room room.right behind >>= λ right. Ok (record {
+      left =
+          left.0;
+      right = right;
+    })) rule e in
+    let b = bind_ok (word_at (codes "::=") a.0.1) (λ behind. symbols_at room room.right behind >>= λ right. Ok (record {
+      left = a.0.0;
+      right =
+          right;
+    })) rule a.2 in
     let c = bind_ok (symbols_at room room.right b.0) (λ right. Ok (record { left = a.0.0; right = right })) rule b.2 in
     let name = name_takes place a.0.0 a.0.1 led a.1 in
     let arrow = word_takes (codes "::=") a.0.1 b.0 (omega arith) name.0.led b.1 in
@@ -80,10 +86,15 @@ definition_takes : (place : Place) (definition : DefText) → blank_led place.le
     → ReadsDefinition place.left definition
 unfolding definition_at
 definition_takes place definition led e =
-    let a = bind_ok (name_at place) (λ name. word_at (codes "=") name.1 >>= λ behind. expression_at behind >>= λ expression. Ok (record { name = name.0;
-        expression = expression })) definition e in
-    let b = bind_ok (word_at (codes "=") a.0.1) (λ behind. expression_at behind >>= λ expression. Ok (record { name = a.0.0; expression =
-        expression })) definition a.2 in
+    let a = bind_ok (name_at place) (λ name. word_at (codes "=") name.1 >>= λ behind. expression_at behind >>= λ expression. Ok (record {
+      name = name.0;
+      expression = expression;
+    })) definition e in
+    let b = bind_ok (word_at (codes "=") a.0.1) (λ behind. expression_at behind >>= λ expression. Ok (record {
+      name = a.0.0;
+      expression =
+          expression;
+    })) definition a.2 in
     let c = bind_ok (expression_at b.0) (λ expression. Ok (record { name = a.0.0; expression = expression })) definition b.2 in
     let name = name_takes place a.0.0 a.0.1 led a.1 in
     let equals = word_takes (codes "=") a.0.1 b.0 (omega arith) name.0.led b.1 in
@@ -196,8 +207,13 @@ drop_rule_takes room text place edit word e =
     let rule = rule_takes room place a.0 word.led a.1 in
     let whole : ReadsEdit room (codes "drop") text (DropRule a.0) = record {
       keyword = refl;
-      behind = record { rest = rule.rest; words = (word.gap, place.left, word.is_gap, rule.words, word.parts); named = rule.named; tail = rule.right.spelled;
-          parts = (rule.right.short, rule.right.fits) };
+      behind = record {
+        rest = rule.rest;
+        words = (word.gap, place.left, word.is_gap, rule.words, word.parts);
+        named = rule.named;
+        tail = rule.right.spelled;
+        parts = (rule.right.short, rule.right.fits);
+      };
     } in
     subst (λ (x : Edit). ReadsEdit room (codes "drop") text x) (ok_is (DropRule a.0) edit a.2) whole
 
@@ -208,8 +224,14 @@ drop_token_takes room text place edit word e =
     let name = last_name_takes place a.0 word.led a.1 in
     let whole : ReadsEdit room (codes "drop") text (DropToken a.0) = record {
       keyword = refl;
-      behind = record { rest = name.rest; words = (word.gap, place.left, word.is_gap, name.words, word.parts); named = name.named; tail = name.tail; parts =
-          tt };
+      behind = record {
+        rest = name.rest;
+        words = (word.gap, place.left, word.is_gap, name.words, word.parts);
+        named = name.named;
+        tail = name.tail;
+        parts =
+            tt;
+      };
     } in
     subst (λ (x : Edit). ReadsEdit room (codes "drop") text x) (ok_is (DropToken a.0) edit a.2) whole
 
@@ -220,8 +242,14 @@ drop_skip_takes room text place edit word e =
     let name = last_name_takes place a.0 word.led a.1 in
     let whole : ReadsEdit room (codes "drop") text (DropSkip a.0) = record {
       keyword = refl;
-      behind = record { rest = name.rest; words = (word.gap, place.left, word.is_gap, name.words, word.parts); named = name.named; tail = name.tail; parts =
-          tt };
+      behind = record {
+        rest = name.rest;
+        words = (word.gap, place.left, word.is_gap, name.words, word.parts);
+        named = name.named;
+        tail = name.tail;
+        parts =
+            tt;
+      };
     } in
     subst (λ (x : Edit). ReadsEdit room (codes "drop") text x) (ok_is (DropSkip a.0) edit a.2) whole
 
@@ -251,9 +279,20 @@ spelled_line : (room : Room) (line keyword : List ℕ) (edit : Edit) → trimmed
 spelled_line room line keyword edit pieces read =
     let before = leads line in
     let begins : line ≡ before.gap ++ (keyword_of edit ++ behind_piece (trimmed line)) =
-    before.parts ∙ ap (λ (t : List ℕ). before.gap ++ t) (pieces ∙ ap (λ (k : List ℕ). k ++ behind_piece (trimmed line)) (sym read.keyword)) in
-    (record { blanks = before.gap; behind = behind_piece (trimmed line); rest = read.behind.rest; begins = begins; blank = before.blank; words =
-        read.behind.words; named = read.behind.named; tail = read.behind.tail }, read.behind.parts)
+    before.parts ∙ ap (λ (t : List ℕ). before.gap ++ t) (pieces ∙ ap (λ (k : List ℕ). k ++ behind_piece (trimmed line)) (sym read.keyword)) in (
+      record {
+        blanks = before.gap;
+        behind = behind_piece (trimmed line);
+        rest = read.behind.rest;
+        begins = begins;
+        blank = before.blank;
+        words =
+            read.behind.words;
+        named = read.behind.named;
+        tail = read.behind.tail;
+      },
+      read.behind.parts,
+    )
 
 pub edit_takes : (room : Room) (place : Place) (edit : Edit) → edit_at room place ≡ Ok edit → Spells place.left edit × PartsFit room edit
 unfolding edit_at

@@ -41,10 +41,10 @@ rule_again room len text rule rest words named spelled fits =
     let ended : words.1 ≡ arrow.0 ++ (codes "::=" ++ rest) = arrow.4 ∙ ap (λ (t : List ℕ). arrow.0 ++ (codes "::=" ++ t)) arrow.3 in
     let name : name_at (place_of len text) ≡ Ok (rule.left, place_of len words.1) =
     ap (λ (t : List ℕ). name_at (place_of len t)) words.4 ∙ name_again len words.0 rule.left words.1 words.2 named
-        (words_led words.1 (codes "::=") [] rest arrow) in
+    (words_led words.1 (codes "::=") [] rest arrow) in
     let word : word_at (codes "::=") (place_of len words.1) ≡ Ok (place_of len rest) =
     ap (λ (t : List ℕ). word_at (codes "::=") (place_of len t)) ended ∙ word_again len arrow.0 (codes "::=") rest arrow.2 (omega arith) refl
-        (symbols_led rest rule.right spelled) in
+    (symbols_led rest rule.right spelled) in
     rw (name, word, symbols_again room room.right len rest rule.right spelled fits.0 fits.1) refl
 
 expression_again : (len : ℕ) (text expression : List ℕ) → IsExpressionText text expression → expression_at (place_of len text) ≡ Ok expression
@@ -65,10 +65,10 @@ definition_again len text definition rest words named spelled =
     let ended : words.1 ≡ equals.0 ++ (codes "=" ++ rest) = equals.4 ∙ ap (λ (t : List ℕ). equals.0 ++ (codes "=" ++ t)) equals.3 in
     let name : name_at (place_of len text) ≡ Ok (definition.name, place_of len words.1) =
     ap (λ (t : List ℕ). name_at (place_of len t)) words.4 ∙ name_again len words.0 definition.name words.1 words.2 named
-        (words_led words.1 (codes "=") [] rest equals) in
+    (words_led words.1 (codes "=") [] rest equals) in
     let word : word_at (codes "=") (place_of len words.1) ≡ Ok (place_of len rest) =
     ap (λ (t : List ℕ). word_at (codes "=") (place_of len t)) ended ∙ word_again len equals.0 (codes "=") rest equals.2 (omega arith) refl
-        (expression_led rest definition.expression spelled) in
+    (expression_led rest definition.expression spelled) in
     rw (name, word, expression_again len rest definition.expression spelled) refl
 
 last_name_again : (len : ℕ) (text name rest : List ℕ) → BeginsWith text (name ∷ []) rest → IsName name → AreBlanks rest
@@ -122,28 +122,52 @@ pub edit_again : (room : Room) (len : ℕ) (line : List ℕ) (edit : Edit) → S
 unfolding edit_at
 edit_again room len line (AddRule rule) spelled fits =
     let led = words_led spelled.behind rule.left (codes "::=" ∷ []) spelled.rest spelled.words in
-    rw (line_front line (AddRule rule) spelled, no_piece spelled.behind led, no_piece_behind spelled.behind led,
-        rule_again room len spelled.behind rule spelled.rest spelled.words spelled.named spelled.tail fits) refl
+    rw (
+      line_front line (AddRule rule) spelled,
+      no_piece spelled.behind led,
+      no_piece_behind spelled.behind led,
+      rule_again room len spelled.behind rule spelled.rest spelled.words spelled.named spelled.tail fits,
+    ) refl
 edit_again room len line (DropRule rule) spelled fits =
     let led = words_led spelled.behind (codes "rule") (rule.left ∷ codes "::=" ∷ []) spelled.rest spelled.words in
-    rw (line_front line (DropRule rule) spelled, no_piece spelled.behind led, no_piece_behind spelled.behind led,
-        drop_rule_again room len spelled.behind rule spelled.rest spelled.words spelled.named spelled.tail fits) refl
+    rw (
+      line_front line (DropRule rule) spelled,
+      no_piece spelled.behind led,
+      no_piece_behind spelled.behind led,
+      drop_rule_again room len spelled.behind rule spelled.rest spelled.words spelled.named spelled.tail fits,
+    ) refl
 edit_again room len line (AddToken definition) spelled fits =
     let led = words_led spelled.behind definition.name (codes "=" ∷ []) spelled.rest spelled.words in
-    rw (line_front line (AddToken definition) spelled, no_piece spelled.behind led, no_piece_behind spelled.behind led,
-        definition_again len spelled.behind definition spelled.rest spelled.words spelled.named spelled.tail) refl
+    rw (
+      line_front line (AddToken definition) spelled,
+      no_piece spelled.behind led,
+      no_piece_behind spelled.behind led,
+      definition_again len spelled.behind definition spelled.rest spelled.words spelled.named spelled.tail,
+    ) refl
 edit_again room len line (DropToken name) spelled fits =
     let led = words_led spelled.behind (codes "token") (name ∷ []) spelled.rest spelled.words in
-    rw (line_front line (DropToken name) spelled, no_piece spelled.behind led, no_piece_behind spelled.behind led,
-        drop_token_again room len spelled.behind name spelled.rest spelled.words spelled.named spelled.tail) refl
+    rw (
+      line_front line (DropToken name) spelled,
+      no_piece spelled.behind led,
+      no_piece_behind spelled.behind led,
+      drop_token_again room len spelled.behind name spelled.rest spelled.words spelled.named spelled.tail,
+    ) refl
 edit_again room len line (AddSkip definition) spelled fits =
     let led = words_led spelled.behind definition.name (codes "=" ∷ []) spelled.rest spelled.words in
-    rw (line_front line (AddSkip definition) spelled, no_piece spelled.behind led, no_piece_behind spelled.behind led,
-        definition_again len spelled.behind definition spelled.rest spelled.words spelled.named spelled.tail) refl
+    rw (
+      line_front line (AddSkip definition) spelled,
+      no_piece spelled.behind led,
+      no_piece_behind spelled.behind led,
+      definition_again len spelled.behind definition spelled.rest spelled.words spelled.named spelled.tail,
+    ) refl
 edit_again room len line (DropSkip name) spelled fits =
     let led = words_led spelled.behind (codes "skip") (name ∷ []) spelled.rest spelled.words in
-    rw (line_front line (DropSkip name) spelled, no_piece spelled.behind led, no_piece_behind spelled.behind led,
-        drop_skip_again room len spelled.behind name spelled.rest spelled.words spelled.named spelled.tail) refl
+    rw (
+      line_front line (DropSkip name) spelled,
+      no_piece spelled.behind led,
+      no_piece_behind spelled.behind led,
+      drop_skip_again room len spelled.behind name spelled.rest spelled.words spelled.named spelled.tail,
+    ) refl
 
 pub edit_of_again : (line : List ℕ) (edit : Edit) → Spells line edit → IsWithinLimits edit → edit_of line ≡ Ok edit
 unfolding edit_of

@@ -24,8 +24,12 @@ pub record Leads (text rest : List ℕ) : Type 0 where
 
 leads-go : (blank : Bool) (byte : ℕ) (bytes : List ℕ) → is_blank byte ≡ blank → Leads bytes (trimmed bytes)
     → Leads (byte ∷ bytes) (cond blank (trimmed bytes) (byte ∷ bytes))
-leads-go true byte bytes is later = record { gap = byte ∷ later.gap; blank = and_from (is_blank byte) (list_all is_blank later.gap) is later.blank; parts =
-    ap (λ (t : List ℕ). byte ∷ t) later.parts }
+leads-go true byte bytes is later = record {
+  gap = byte ∷ later.gap;
+  blank = and_from (is_blank byte) (list_all is_blank later.gap) is later.blank;
+  parts =
+      ap (λ (t : List ℕ). byte ∷ t) later.parts;
+}
 leads-go false byte bytes is later = record { gap = []; blank = refl; parts = refl }
 
 pub leads : (text : List ℕ) → Leads text (trimmed text)

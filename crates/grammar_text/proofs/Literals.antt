@@ -101,13 +101,17 @@ plain-false first quote slash = rw (quote, slash) refl
 byte_at-two : (first letter : ℕ) (tail : List ℕ) (byte : ℕ) (rest : List ℕ) (quote slash : Bool) (escape : Option ℕ) → eqb first 34 ≡ quote
     → eqb first 92 ≡ slash → unescaped letter ≡ escape
     → some_byte byte rest ≡ cond quote None (cond slash (option_map (λ (b : ℕ). (b, tail)) escape) (Some (first, letter ∷ tail)))
-        → TakesByte (first ∷ letter ∷ tail) byte rest
+    → TakesByte (first ∷ letter ∷ tail) byte rest
 byte_at-two first letter tail byte rest true slash escape q s e next = absurd cc
 byte_at-two first letter tail byte rest false true None q s e next = absurd cc
 byte_at-two first letter tail byte rest false true (Some b) q s e next =
     let same = byte_is byte rest b tail next in
-    record { front = first ∷ letter ∷ []; spelled = (eqb-true first 92 s, e ∙ ap (λ (x : ℕ). Some x) (sym same.0)); parts =
-        ap (λ (x : List ℕ). first ∷ letter ∷ x) (sym same.1) }
+    record {
+      front = first ∷ letter ∷ [];
+      spelled = (eqb-true first 92 s, e ∙ ap (λ (x : ℕ). Some x) (sym same.0));
+      parts =
+          ap (λ (x : List ℕ). first ∷ letter ∷ x) (sym same.1);
+    }
 byte_at-two first letter tail byte rest false false escape q s e next =
     let same = byte_is byte rest first (letter ∷ tail) next in
     record { front = first ∷ []; spelled = (plain-false first q s, sym same.0); parts = ap (λ (x : List ℕ). first ∷ x) (sym same.1) }
@@ -148,9 +152,13 @@ with_byte-takes text byte after bytes rest (Some found) first others is =
     let tail = others found.0 found.1 refl in
     let same = bytes_are (byte ∷ found.0) found.1 bytes rest is in
     let parts : text ≡ (first.front ++ tail.inner) ++ 34 ∷ found.1 = first.parts ∙ ap (λ (t : List ℕ). first.front ++ t) tail.parts ∙ sym
-        (append_assoc first.front tail.inner (34 ∷ found.1)) in
-    let whole : TakesBytes text (byte ∷ found.0) found.1 = record { inner = first.front ++ tail.inner; spelled =
-        (first.front, tail.inner, first.spelled, tail.spelled, refl); parts = parts } in
+    (append_assoc first.front tail.inner (34 ∷ found.1)) in
+    let whole : TakesBytes text (byte ∷ found.0) found.1 = record {
+      inner = first.front ++ tail.inner;
+      spelled =
+          (first.front, tail.inner, first.spelled, tail.spelled, refl);
+      parts = parts;
+    } in
     subst (λ (b : List ℕ). TakesBytes text b rest) same.0 (subst (λ (r : List ℕ). TakesBytes text (byte ∷ found.0) r) same.1 whole)
 
 closed-len : (text bytes rest : List ℕ) (room : ℕ) (left : Option (List ℕ)) → option_map (λ (r : List ℕ). (empty_list, r)) left ≡ some_bytes bytes rest
@@ -172,7 +180,7 @@ with_byte-len room byte bytes rest (Some read) later found =
 literal_from-takes : (room : ℕ) (text bytes rest : List ℕ) (next : Option (ℕ × List ℕ)) → next ≡ byte_at text
     → ((after others end : List ℕ) → literal_at room after ≡ Some (others, end) → TakesBytes after others end)
     → option_map_or (λ (n : ℕ × List ℕ). led_by n.0 (literal_at room n.1)) next (option_map (λ (r : List ℕ). (empty_list, r)) (behind_quote text))
-        ≡ some_bytes bytes rest → TakesBytes text bytes rest
+    ≡ some_bytes bytes rest → TakesBytes text bytes rest
 literal_from-takes room text bytes rest None is later found = closed-found text bytes rest (behind_quote text) refl found
 literal_from-takes room text bytes rest (Some n) is later found =
     with_byte-takes text n.0 n.1 bytes rest (literal_at room n.1) (byte_at-takes text n.0 n.1 is) (later n.1) found
@@ -187,7 +195,7 @@ literal_at-takes (suc room) text bytes rest found =
 literal_from-len : (room : ℕ) (text bytes rest : List ℕ) (next : Option (ℕ × List ℕ))
     → ((after others end : List ℕ) → literal_at room after ≡ Some (others, end) → length others ≤ room)
     → option_map_or (λ (n : ℕ × List ℕ). led_by n.0 (literal_at room n.1)) next (option_map (λ (r : List ℕ). (empty_list, r)) (behind_quote text))
-        ≡ some_bytes bytes rest → length bytes ≤ suc room
+    ≡ some_bytes bytes rest → length bytes ≤ suc room
 literal_from-len room text bytes rest None later found = closed-len text bytes rest (suc room) (behind_quote text) found
 literal_from-len room text bytes rest (Some n) later found = with_byte-len room n.0 bytes rest (literal_at room n.1) (later n.1) found
 
@@ -239,6 +247,6 @@ literal_at-again room inner [] rest spelled le = ap (λ (i : List ℕ). literal_
 literal_at-again zero inner (byte ∷ bytes) rest spelled le = absurd (omega arith)
 literal_at-again (suc room) inner (byte ∷ bytes) rest spelled le =
     let regrouped : inner ++ 34 ∷ rest ≡ spelled.0 ++ (spelled.1 ++ 34 ∷ rest) = ap (λ (i : List ℕ). i ++ 34 ∷ rest) spelled.4
-        ∙ append_assoc spelled.0 spelled.1 (34 ∷ rest) in
+    ∙ append_assoc spelled.0 spelled.1 (34 ∷ rest) in
     let later : literal_at room (spelled.1 ++ 34 ∷ rest) ≡ Some (bytes, rest) = literal_at-again room spelled.1 bytes rest spelled.3 (omega arith) in
     ap (literal_at (suc room)) regrouped ∙ rw (byte_at-again spelled.0 byte (spelled.1 ++ 34 ∷ rest) spelled.2, later) refl

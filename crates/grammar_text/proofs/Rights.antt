@@ -45,14 +45,14 @@ pub symbols-more : (limit : ℕ) (front new : List Symbol) (place behind : Place
     → is_empty place.left ≡ false
     → trimmed place.left ≡ place.left → symbol_from the_limits place ≡ Ok (symbol, behind) → new ≡ front ++ symbol ∷ []
     → with_front front (symbols_at the_limits (limit - length front) place) ≡ total
-        → with_front new (symbols_at the_limits (limit - length new) (piece_at behind)) ≡ total
+    → with_front new (symbols_at the_limits (limit - length new) (piece_at behind)) ≡ total
 symbols-more limit front new place behind symbol total lt more is read pushed so_far =
     let longer : length new ≡ length front + 1 = ap length pushed ∙ length-append front (symbol ∷ []) in
     let room : limit - length front ≡ suc (limit - length new) = omega arith in
     let one : with_front front (symbols_at the_limits (limit - length front) place) ≡ with_front (front ++ symbol ∷ [])
-        (symbols_at the_limits (limit - length new) (piece_at behind)) =
+    (symbols_at the_limits (limit - length new) (piece_at behind)) =
     rw (room, next-symbol (limit - length new) place behind symbol more is read)
-        (regroup front symbol (symbols_at the_limits (limit - length new) (piece_at behind))) in
+    (regroup front symbol (symbols_at the_limits (limit - length new) (piece_at behind))) in
     ap (λ (symbols : List Symbol). with_front symbols (symbols_at the_limits (limit - length new) (piece_at behind))) pushed ∙ sym one ∙ so_far
 
 -- a symbol is refused
@@ -65,17 +65,17 @@ fails-with room front place e more is read = rw (is, more, read) refl
 symbols-err : (e : BadEdit) (limit : ℕ) (front : List Symbol) (place : Place) (total : Result (List Symbol) BadEdit) → length front < limit
     → is_empty place.left ≡ false
     → trimmed place.left ≡ place.left → symbol_from the_limits place ≡ Err e → with_front front (symbols_at the_limits (limit - length front) place) ≡ total
-        → total ≡ Err e
+    → total ≡ Err e
 symbols-err e limit front place total lt more is read so_far =
     let room : limit - length front ≡ suc (limit - (length front + 1)) = omega arith in
     let one : with_front front (symbols_at the_limits (limit - length front) place) ≡ Err e =
-        rw room (fails-with (limit - (length front + 1)) front place e more is read) in
+    rw room (fails-with (limit - (length front + 1)) front place e more is read) in
     sym so_far ∙ one
 
 pub symbols-fail : (e : BadEdit) (limit : ℕ) (front : List Symbol) (place : Place) (total : Result (List Symbol) BadEdit) → length front < limit
     → is_empty place.left ≡ false
     → trimmed place.left ≡ place.left → IsRefusal e (symbol_from the_limits place) → with_front front (symbols_at the_limits (limit - length front) place)
-        ≡ total → IsRefusal e total
+    ≡ total → IsRefusal e total
 symbols-fail NoMemory limit front place total lt more is read so_far = tt
 symbols-fail (Shape o) limit front place total lt more is read so_far = symbols-err (Shape o) limit front place total lt more is read so_far
 symbols-fail (BadName o) limit front place total lt more is read so_far = symbols-err (BadName o) limit front place total lt more is read so_far
@@ -104,5 +104,5 @@ pub symbols-done : (limit : ℕ) (front : List Symbol) (place : Place) (total : 
     → with_front front (symbols_at the_limits (limit - length front) place) ≡ total → total ≡ Ok front
 symbols-done limit front place total done is so_far =
     let one : with_front front (symbols_at the_limits (limit - length front) place) ≡ Ok front = rw (ends (limit - length front) place done is)
-        (ap (λ (symbols : List Symbol). Ok symbols) (append-nil front)) in
+    (ap (λ (symbols : List Symbol). Ok symbols) (append-nil front)) in
     sym so_far ∙ one

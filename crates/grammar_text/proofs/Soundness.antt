@@ -34,9 +34,13 @@ escaped-go false false false false byte q s l t = (rw (q, s) refl, refl)
 
 escaped_spells : (bytes : List ℕ) → SpellsBytes (flat_map escaped bytes) bytes
 escaped_spells [] = refl
-escaped_spells (byte ∷ bytes) =
-    (escaped byte, flat_map escaped bytes, escaped-go (eqb byte 34) (eqb byte 92) (eqb byte 10) (eqb byte 9) byte refl refl refl refl, escaped_spells bytes,
-        refl)
+escaped_spells (byte ∷ bytes) = (
+  escaped byte,
+  flat_map escaped bytes,
+  escaped-go (eqb byte 34) (eqb byte 92) (eqb byte 10) (eqb byte 9) byte refl refl refl refl,
+  escaped_spells bytes,
+  refl,
+)
 
 symbol_spells : (piece : List ℕ) (symbol : Symbol) → SpellsSymbol piece symbol → SpellsSymbol (symbol_text symbol) symbol
 symbol_spells piece (Named name) spelled = (refl, spelled.1)
@@ -48,9 +52,15 @@ space = 32 ∷ []
 
 symbols_spell : (text : List ℕ) (symbols : List Symbol) → SpellsSymbols text symbols → SpellsSymbols (symbols_text symbols) symbols
 symbols_spell text [] spelled = refl
-symbols_spell text (symbol ∷ symbols) spelled =
-    (space, symbol_text symbol, symbols_text symbols, (refl, omega arith), symbol_spells spelled.1 symbol spelled.4, symbols_spell spelled.2 symbols spelled.5,
-        refl)
+symbols_spell text (symbol ∷ symbols) spelled = (
+  space,
+  symbol_text symbol,
+  symbols_text symbols,
+  (refl, omega arith),
+  symbol_spells spelled.1 symbol spelled.4,
+  symbols_spell spelled.2 symbols spelled.5,
+  refl,
+)
 
 -- ---- rules and definitions
 
@@ -179,12 +189,12 @@ symbols_line text (symbol ∷ symbols) spelled = joined (symbol_text symbol) (sy
 rule_line : (text : List ℕ) (rule : RuleText) → IsName rule.left → SpellsSymbols text rule.right → IsLine (rule_text rule)
 rule_line text rule named spelled =
     joined (rule.left ++ spaced (codes "::=")) (symbols_text rule.right) (joined rule.left (spaced (codes "::=")) (name-line rule.left named) refl)
-        (symbols_line text rule.right spelled)
+    (symbols_line text rule.right spelled)
 
 definition_line : (definition : DefText) → IsName definition.name → IsLine definition.expression → IsLine (definition_text definition)
 definition_line definition named expression =
     joined (definition.name ++ spaced (codes "=")) (spaced definition.expression)
-        (joined definition.name (spaced (codes "=")) (name-line definition.name named) refl) expression
+    (joined definition.name (spaced (codes "=")) (name-line definition.name named) refl) expression
 
 begins_line : (text : List ℕ) (words : List (List ℕ)) (rest : List ℕ) → BeginsWith text words rest → IsLine text → IsLine rest
 begins_line text [] rest begins line = subst (λ (t : List ℕ). IsLine t) begins line
@@ -196,7 +206,7 @@ rest_line : (line : List ℕ) (edit : Edit) (spelled : Spells line edit) → IsL
 rest_line line edit spelled is =
     let whole : IsLine (spelled.blanks ++ (keyword_of edit ++ spelled.behind)) = subst (λ (t : List ℕ). IsLine t) spelled.begins is in
     begins_line spelled.behind (edit_words edit) spelled.rest spelled.words (parted (keyword_of edit) spelled.behind (parted spelled.blanks (keyword_of edit
-        ++ spelled.behind) whole).1).1
+    ++ spelled.behind) whole).1).1
 
 expression_line : (text expression : List ℕ) → IsExpressionText text expression → IsLine text → IsLine expression
 expression_line text expression spelled line = (parted spelled.0 expression (subst (λ (t : List ℕ). IsLine t) spelled.4 line)).1
@@ -213,8 +223,13 @@ canonical_line line (AddSkip definition) is spelled =
 canonical_line line (DropSkip name) is spelled = name-line name spelled.named
 
 pub is_sound : (line : List ℕ) (edit : Edit) → IsLine line → AreBytes line → Spells line edit → IsWithinLimits edit → IsSound edit
-is_sound line edit is bytes spelled within = record { line = canonical_line line edit is spelled; bytes = canonical_bytes line edit spelled bytes; spelled =
-    canonical_spells line edit spelled; within = within }
+is_sound line edit is bytes spelled within = record {
+  line = canonical_line line edit is spelled;
+  bytes = canonical_bytes line edit spelled bytes;
+  spelled =
+      canonical_spells line edit spelled;
+  within = within;
+}
 
 -- ---- how long it is
 
@@ -230,9 +245,9 @@ rest_len : (line : List ℕ) (edit : Edit) (spelled : Spells line edit) → leng
 rest_len line edit spelled =
     let later : length spelled.rest ≤ length spelled.behind = begins_len spelled.behind (edit_words edit) spelled.rest spelled.words in
     let whole : length line ≡ length spelled.blanks + length (keyword_of edit ++ spelled.behind) = ap length spelled.begins ∙ length-append spelled.blanks
-        (keyword_of edit ++ spelled.behind) in
+    (keyword_of edit ++ spelled.behind) in
     let behind : length (keyword_of edit ++ spelled.behind) ≡ length (keyword_of edit) + length spelled.behind =
-        length-append (keyword_of edit) spelled.behind in
+    length-append (keyword_of edit) spelled.behind in
     omega arith
 
 rule_len : (text : List ℕ) (rule : RuleText) → IsName rule.left → SpellsSymbols text rule.right → RightFits the_limits rule.right
@@ -244,7 +259,7 @@ rule_len text rule named spelled fits =
     let arrow = spaced (codes "::=") in
     let front : length (rule.left ++ arrow) ≡ length rule.left + 4 = length-append rule.left arrow in
     let whole : length ((rule.left ++ arrow) ++ symbols_text rule.right) ≡ length (rule.left ++ arrow) + length (symbols_text rule.right) =
-        length-append (rule.left ++ arrow) (symbols_text rule.right) in
+    length-append (rule.left ++ arrow) (symbols_text rule.right) in
     omega arith
 
 definition_len : (text : List ℕ) (definition : DefText) → IsName definition.name → IsExpressionText text definition.expression
@@ -254,7 +269,7 @@ definition_len text definition named spelled =
     let equals = spaced (codes "=") in
     let front : length (definition.name ++ equals) ≡ length definition.name + 2 = length-append definition.name equals in
     let whole : length ((definition.name ++ equals) ++ spaced definition.expression) ≡ length (definition.name ++ equals) + suc (length definition.expression) =
-        length-append (definition.name ++ equals) (spaced definition.expression) in
+    length-append (definition.name ++ equals) (spaced definition.expression) in
     let gapped : length text ≡ length spelled.0 + length definition.expression = ap length spelled.4 ∙ length-append spelled.0 definition.expression in
     omega arith
 

@@ -63,12 +63,12 @@ bad_name place = BadName (offset_of place)
 
 symbol_go : (room : Room) (place : Place) (symbol : Symbol) (behind : Place) (quoted : Bool) → is_quoted place.left ≡ quoted
     → cond quoted (literal_from place (literal_at room.literal (drop 1 place.left)))
-        (cond (is_name (piece_of place.left)) (done (read_symbol (Named (piece_of place.left)) (at place (behind_piece place.left)))) (Err (bad_name place)))
+    (cond (is_name (piece_of place.left)) (done (read_symbol (Named (piece_of place.left)) (at place (behind_piece place.left)))) (Err (bad_name place)))
     ≡ Ok (symbol, behind) → TakesSymbol room place.left symbol behind.left
 symbol_go room place symbol behind true is e = literal_takes room place symbol behind (literal_at room.literal (drop 1 place.left)) is refl e
 symbol_go room place symbol behind false is e =
     let g = guard_ok (is_name (piece_of place.left)) _ (read_symbol (Named (piece_of place.left)) (at place (behind_piece place.left)))
-        (read_symbol symbol behind) e in
+    (read_symbol symbol behind) e in
     let whole : TakesSymbol room place.left (Named (piece_of place.left)) (behind_piece place.left) = record {
       piece = piece_of place.left;
       spelled = (refl, g.0);
@@ -110,9 +110,9 @@ one_symbol room count text symbol rest symbols led more first others =
 symbols_go : (room : Room) (count : ℕ) (place : Place) (symbols : List Symbol) (none : Bool) → is_empty (trimmed place.left) ≡ none
     → blank_led place.left ≡ true
     → ((behind : Place) (others : List Symbol) → blank_led behind.left ≡ true → symbols_at room count behind
-        ≡ Ok others → ReadsSymbols room count behind.left others)
+    ≡ Ok others → ReadsSymbols room count behind.left others)
     → cond none (done []) (symbol_from room (at place (trimmed place.left)) >>= λ first. symbols_at room count first.1 >>= λ others. Ok (first.0 ∷ others))
-        ≡ Ok symbols → ReadsSymbols room (suc count) place.left symbols
+    ≡ Ok symbols → ReadsSymbols room (suc count) place.left symbols
 symbols_go room count place symbols true is led later e = no_symbols room (suc count) place.left symbols is e
 symbols_go room count place symbols false is led later e =
     let a = bind_ok (symbol_from room (at place (trimmed place.left))) (λ first. symbols_at room count first.1 >>= λ others. Ok (first.0 ∷ others)) symbols e in
@@ -120,7 +120,7 @@ symbols_go room count place symbols false is led later e =
     let first = symbol_takes room (at place (trimmed place.left)) a.0.0 a.0.1 a.1 in
     let others = later a.0.1 b.0 first.led b.1 in
     subst (λ (s : List Symbol). ReadsSymbols room (suc count) place.left s) (ok_is (a.0.0 ∷ b.0) symbols b.2)
-        (one_symbol room count place.left a.0.0 a.0.1.left b.0 led is first others)
+    (one_symbol room count place.left a.0.0 a.0.1.left b.0 led is first others)
 
 pub symbols_take : (room : Room) (count : ℕ) (place : Place) (symbols : List Symbol) → blank_led place.left ≡ true → symbols_at room count place ≡ Ok symbols
     → ReadsSymbols room count place.left symbols
@@ -201,7 +201,7 @@ escaped_len [] = omega arith
 escaped_len (byte ∷ bytes) =
     let later : length (flat_map escaped bytes) ≤ 2 * length bytes = escaped_len bytes in
     let joined : length (escaped byte ++ flat_map escaped bytes) ≡ length (escaped byte) + length (flat_map escaped bytes) =
-        length-append (escaped byte) (flat_map escaped bytes) in
+    length-append (escaped byte) (flat_map escaped bytes) in
     let short : length (escaped byte) ≤ 2 = one_escaped (eqb byte 34) (eqb byte 92) (eqb byte 10) (eqb byte 9) byte in
     omega arith
 
@@ -220,5 +220,5 @@ symbols_len text (symbol ∷ symbols) spelled fits =
     let first : length (symbol_text symbol) ≤ 66 = symbol_len spelled.1 symbol spelled.4 fits.0 in
     let others : length (symbols_text symbols) ≤ 67 * length symbols = symbols_len spelled.2 symbols spelled.5 fits.1 in
     let joined : length (symbol_text symbol ++ symbols_text symbols) ≡ length (symbol_text symbol) + length (symbols_text symbols) =
-        length-append (symbol_text symbol) (symbols_text symbols) in
+    length-append (symbol_text symbol) (symbols_text symbols) in
     omega arith

@@ -47,8 +47,13 @@ more-since (byte ∷ bytes) word is some = refl
 pub takes_piece : (text : List ℕ) → blank_led text ≡ true → is_empty (trimmed text) ≡ false → Takes text (piece_of (trimmed text)) (behind_piece (trimmed text))
 takes_piece text led more =
     let before = gapped text led more in
-    record { gap = before.gap; is_gap = before.is_gap; parts = before.parts ∙ ap (λ (t : List ℕ). before.gap ++ t) (sym (piece_splits (trimmed text))); led =
-        behind_led (trimmed text) }
+    record {
+      gap = before.gap;
+      is_gap = before.is_gap;
+      parts = before.parts ∙ ap (λ (t : List ℕ). before.gap ++ t) (sym (piece_splits (trimmed text)));
+      led =
+          behind_led (trimmed text);
+    }
 
 pub takes_word : (text word : List ℕ) → 0 < length word → blank_led text ≡ true → bytes_eq (piece_of (trimmed text)) word ≡ true
     → Takes text word (behind_piece (trimmed text))

@@ -141,7 +141,8 @@ impl Eq for DefText {
 impl Hash for DefText {
     ghost hash_input = { λ definition. fed.slice fed.u8 definition.name ++ fed.slice fed.u8 definition.expression };
 
-    ghost respects_eq = { (fed.same_Alike (λ definition. fed.slice fed.u8 definition.name ++ fed.slice fed.u8 definition.expression) definition_eq-decides).fed };
+    ghost respects_eq = { (fed.same_Alike (λ definition. fed.slice fed.u8 definition.name ++ fed.slice fed.u8 definition.expression)
+        definition_eq-decides).fed };
 
     fn hash<H: Hasher>(&self, state: &mut H) {
         self.name.hash(state);

@@ -45,8 +45,15 @@ live_item rules item r found within =
 
 at_definition : (g : Grammar) (d : DefId) (index : ℕ) (table : Table) → IsLive g d → ArePositionsFor g d table → index < length table.classes
     → (pattern : Pattern) × HasPattern g d pattern × (index < length (classes_in pattern))
-at_definition g (literal s) index table is_live (text, is, are) within = (bytes text, record { live = is_live; is =
-    is }, subst (λ cs. index < length cs) are.classes within)
+at_definition g (literal s) index table is_live (text, is, are) within = (
+  bytes text,
+  record {
+    live = is_live;
+    is =
+        is;
+  },
+  subst (λ cs. index < length cs) are.classes within,
+)
 at_definition g (named n) index table is_live (d, is, e, spelled, are) within =
     (expression e, record { live = is_live; is = (d, is, spelled) }, subst (λ cs. index < length cs) are.classes within)
 

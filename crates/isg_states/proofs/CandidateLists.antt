@@ -41,7 +41,7 @@ one_more : (cs : List Candidate) (i : ℕ) (c : Candidate) (byte : ℕ) → i < 
     → marks_with (take (i + 1) cs) byte ≡ marks_with (take i cs) byte ++ chosen c byte
 one_more cs i c byte within is =
     ap (λ t. marks_with t byte) (take_more cs i c within) ∙ with_push (take i cs) (get_or cs i c) byte ∙ ap (λ x. marks_with (take i cs) byte ++ chosen x byte)
-        (sym is)
+    (sym is)
 
 pub with_more : (cs : List Candidate) (i : ℕ) (c : Candidate) (byte : ℕ) → i < length cs → c ≡ get_or cs i c → has c.class.now byte ≡ true
     → marks_with (take (i + 1) cs) byte ≡ marks_with (take i cs) byte ++ c.mark ∷ []

@@ -111,7 +111,7 @@ module _ (grammar : Grammar) (key : ScanKey) where
       let stops : a.1 + 1 ≤ r.1 = found.3 in
       let keys : a.2 ≡ r.2 =
       one_key a b mine.0 one.0 a.0 (omega arith) some (omega arith) (omega arith) ∙ one_key b r one.0 (t.each r found.1).0 (a.1 + 1) (omega arith)
-          (omega arith) starts stops in
+      (omega arith) starts stops in
       elim (contains_cases a xs r found.1) [
         | inl e ↦ (let high : a.1 ≡ r.1 = ap (λ (x : Range). x.1) e in absurd (omega arith))
         | inr d ↦ touches xs t r d starts stops keys
@@ -186,13 +186,18 @@ module _ (grammar : Grammar) (key : ScanKey) where
       let keys : a.2 ≡ b.2 = one_key a b one other a.0 (omega arith) some (omega arith) (omega arith) in
       let heads : a ≡ b = range_of a b lows highs keys in
       let tails : xs ≡ ys = one_part (a.1 + 1) xs ys (rest_tells from a xs t) (subst (λ n. TellsFrom grammar key (n + 1) ys) (sym highs)
-          (rest_tells from b ys u)) in
+      (rest_tells from b ys u)) in
       cc (heads, tails)
 
   whole_tells : (ranges : List Range) → IsScanExpansionOf grammar key ranges → TellsFrom grammar key 0 ranges
   whole_tells ranges e =
-      record { each = λ range c. (e.each range c, omega arith); whole = λ byte mark l small leads. e.whole byte mark small leads; apart = e.apart; joined =
-          e.joined }
+      record {
+        each = λ range c. (e.each range c, omega arith);
+        whole = λ byte mark l small leads. e.whole byte mark small leads;
+        apart = e.apart;
+        joined =
+            e.joined;
+      }
 
   pub one_expansion : (xs ys : List Range) → IsScanExpansionOf grammar key xs → IsScanExpansionOf grammar key ys → xs ≡ ys
   one_expansion xs ys a b = one_part 0 xs ys (whole_tells xs a) (whole_tells ys b)

@@ -92,7 +92,7 @@ from_longer grammar piece marks lists byte mark l =
     subst (λ p. IsTrue (has (slice_index_or (classes_in p) mark.index []) byte)) (same_pattern has_byte.1 here) has_byte.2 in
     let whole : MarkedWord a.pattern (a.front ++ member.index ∷ mark.index ∷ succeeds.1) =
     pattern_exchange a.pattern a.front member.index a.rest succeeds.0 (mark.index ∷ succeeds.1)
-        (subst (MarkedWord a.pattern) (append_assoc a.front (member.index ∷ []) a.rest) a.marked) succeeds.2 in
+    (subst (MarkedWord a.pattern) (append_assoc a.front (member.index ∷ []) a.rest) a.marked) succeeds.2 in
     record {
       pattern = a.pattern;
       has_pattern = here;
@@ -100,7 +100,7 @@ from_longer grammar piece marks lists byte mark l =
       rest = succeeds.1;
       marked = subst (MarkedWord a.pattern)
           (sym (append_assoc a.front (member.index ∷ []) (mark.index ∷ succeeds.1))
-              ∙ sym (append_assoc (a.front ++ member.index ∷ []) (mark.index ∷ []) succeeds.1)) whole;
+          ∙ sym (append_assoc (a.front ++ member.index ∷ []) (mark.index ∷ []) succeeds.1)) whole;
       bytes = AllZip-join (classes_in a.pattern) (a.front ++ member.index ∷ []) (mark.index ∷ []) piece (byte ∷ []) a.bytes (held, tt);
     }
 
@@ -144,7 +144,7 @@ literal_held front (x ∷ piece) small =
       subst (λ c. IsTrue (has c x)) (sym (class_at front x piece)) (one ∙ eq-eqb x x refl),
       subst (λ n. HoldBytes (map only (front ++ x ∷ piece)) (numbers_from n (length piece)) piece) (length_snoc front x)
           (subst (λ t. HoldBytes (map only t) (numbers_from (length (front ++ x ∷ [])) (length piece)) piece) (append_assoc front (x ∷ []) piece)
-              (literal_held (front ++ x ∷ []) piece small.1)),
+          (literal_held (front ++ x ∷ []) piece small.1)),
     )
 
 -- and no others
@@ -201,7 +201,7 @@ to_match grammar piece mark a last =
     let ends : Ends (MarkedWord a.pattern) mark.index = subst (λ p. Ends (MarkedWord p) mark.index) (same_pattern last.1 a.has_pattern) last.2 in
     let whole : MarkedWord a.pattern (a.front ++ mark.index ∷ []) =
     pattern_exchange a.pattern a.front mark.index a.rest ends.0 []
-        (subst (MarkedWord a.pattern) (append_assoc a.front (mark.index ∷ []) a.rest) a.marked) ends.1 in
+    (subst (MarkedWord a.pattern) (append_assoc a.front (mark.index ∷ []) a.rest) a.marked) ends.1 in
     match_of grammar mark.def a.pattern (a.front ++ mark.index ∷ []) piece a.has_pattern.is whole a.bytes
 
 -- ---- winners

@@ -36,8 +36,11 @@ apart_push [] next apart below = (tt, tt)
 apart_push (r ∷ ranges) next apart below = (
   all_of _ (ranges ++ next ∷ []) (λ x c. elim (Contains-append_cases ranges (next ∷ []) x c) [
     | inl d ↦ each_of _ ranges apart.0 x d
-    | inr d ↦ elim (contains_cases next [] x d) [ inl e ↦ subst (λ (y : Range). r.1 < y.0) e (below r (contains_here r ranges)) | inr none ↦
-        absurd (contains_none x none) ]
+    | inr d ↦ elim (contains_cases next [] x d) [
+      | inl e ↦ subst (λ (y : Range). r.1 < y.0) e (below r (contains_here r ranges))
+      | inr none ↦
+          absurd (contains_none x none)
+    ]
   ]),
   apart_push ranges next apart.1 (λ x c. below x (contains_there r ranges x c)),
 )
@@ -119,7 +122,7 @@ goes_on_none ranges byte marks none g =
     let len : length ranges ≡ length g.0 + 1 = ap length g.3 ∙ length-append g.0 ((g.1, g.2, Set marks) ∷ []) in
     let within : length ranges - 1 < length ranges = omega arith in
     no_some (slice_get ranges (length ranges - 1)) (get_or ranges (length ranges - 1) (g.1, g.2, Set marks)) (sym none)
-        (slice_get-get_or ranges (length ranges - 1) (g.1, g.2, Set marks) within) where
+    (slice_get-get_or ranges (length ranges - 1) (g.1, g.2, Set marks) within) where
       no_some : (o : Option Range) (x : Range) → o ≡ None → o ≡ Some x → ⊥
       no_some o x e f = absurd cc
 
@@ -196,8 +199,11 @@ module _ (led : ℕ → List Mark) where
   push n ranges marks t is some apart_from = record {
     each = λ range c. elim (Contains-append_cases ranges (last ∷ []) range c) [
       | inl d ↦ range_upto n (n + 1) range (omega arith) (t.each range d)
-      | inr d ↦ elim (contains_cases last [] range d) [ inl e ↦ subst (TellsRange led (n + 1)) e (one_range n marks is some) | inr none ↦
-          absurd (contains_none range none) ]
+      | inr d ↦ elim (contains_cases last [] range d) [
+        | inl e ↦ subst (TellsRange led (n + 1)) e (one_range n marks is some)
+        | inr none ↦
+            absurd (contains_none range none)
+      ]
     ];
     whole = λ byte small here. elim (cases_lt byte n) [
       | inl below ↦ (let w = t.whole byte below here in (w.0, Contains-append_left ranges (last ∷ []) w.0 w.1, w.2, w.3))

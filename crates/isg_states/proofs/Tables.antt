@@ -110,17 +110,24 @@ row_small a q row within e index h =
 pub from_row : {grammar : Grammar} {table : Table} (member mark : Mark) → ArePositions grammar member.def table → (row : List ℕ)
     → member.index < length table.classes → slice_get table.follow member.index ≡ Some row
     → OneOf member.def row mark → FollowsMark grammar member mark
-from_row {grammar} member mark a row within e one =
-    (sym one.0, (a.pattern, subst (λ d. HasPattern grammar d a.pattern) (sym one.0) a.has_pattern,
-        (row_members a member.index row within e mark.index).0 one.1))
+from_row {grammar} member mark a row within e one = (
+  sym one.0,
+  (
+    a.pattern,
+    subst (λ d. HasPattern grammar d a.pattern) (sym one.0) a.has_pattern,
+    (row_members a member.index row within e mark.index).0 one.1,
+  ),
+)
 
 pub to_row : {grammar : Grammar} {table : Table} (member mark : Mark) → ArePositions grammar member.def table → (row : List ℕ)
     → member.index < length table.classes → slice_get table.follow member.index ≡ Some row
     → FollowsMark grammar member mark → OneOf member.def row mark
 to_row {grammar} member mark a row within e f =
-    let here : HasPattern grammar member.def f.1.0 = subst (λ d. HasPattern grammar d f.1.0) (sym f.0) f.1.1 in
-    (sym f.0, (row_members a member.index row within e mark.index).1 (subst (λ p. Succeeds (MarkedWord p) member.index mark.index)
-        (same_pattern here a.has_pattern) f.1.2))
+    let here : HasPattern grammar member.def f.1.0 = subst (λ d. HasPattern grammar d f.1.0) (sym f.0) f.1.1 in (
+      sym f.0,
+      (row_members a member.index row within e mark.index).1 (subst (λ p. Succeeds (MarkedWord p) member.index mark.index)
+          (same_pattern here a.has_pattern) f.1.2),
+    )
 
 -- what can come next is a mark of the grammar
 first_mark : (grammar : Grammar) (mark : Mark) → IsFirstMark grammar mark → IsMark grammar mark
@@ -185,8 +192,11 @@ index_more old mid new definition indices i d within lists added =
         | inl k ↦ inl k
         | inr k ↦ inr (k.0, subst (λ t. IsTrue (has t m.index)) (sym more) (has_before (take i indices) x m.index k.1))
       ]
-      | inr e ↦ inr (ap (λ (y : Mark). y.def) e, subst (λ t. IsTrue (has t m.index)) (sym more) (has_new (take i indices) x m.index (ap (λ (y : Mark). y.index)
-          (sym e))))
+      | inr e ↦ inr (
+        ap (λ (y : Mark). y.def) e,
+        subst (λ t. IsTrue (has t m.index)) (sym more) (has_new (take i indices) x m.index (ap (λ (y : Mark). y.index)
+            (sym e))),
+      )
     ])
     (λ m w. elim w [
       | inl k ↦ inl ((lists.members m).1 (inl k))
@@ -213,8 +223,11 @@ first_more grammar definitions i d table old new within a lists added =
     let more : take (i + 1) definitions ≡ take i definitions ++ definition ∷ [] = take_more definitions i d within in
     relist added
     (λ m w. elim w [
-      | inl c ↦ (let was = (lists.members m).0 c in (was.0, subst (λ ds. Contains ds m.def) (sym more) (Contains-append_left (take i definitions)
-          (definition ∷ []) m.def was.1)))
+      | inl c ↦ (let was = (lists.members m).0 c in (
+        was.0,
+        subst (λ ds. Contains ds m.def) (sym more) (Contains-append_left (take i definitions)
+            (definition ∷ []) m.def was.1),
+      ))
       | inr one ↦ (
         from_first m (subst (λ k. ArePositions grammar k table) (sym one.0) a) one.1,
         subst (λ ds. Contains ds m.def) (sym more) (subst (λ k. Contains (take i definitions ++ definition ∷ []) k) (sym one.0)
@@ -245,8 +258,12 @@ following_more grammar members i d table row old new within a here e lists added
     let more : take (i + 1) members ≡ take i members ++ member ∷ [] = take_more members i d within in
     relist added
     (λ m w. elim w [
-      | inl c ↦ (let was = (lists.members m).0 c in (was.0, subst (λ ds. Contains ds was.0) (sym more) (Contains-append_left (take i members)
-          (member ∷ []) was.0 was.1), was.2))
+      | inl c ↦ (let was = (lists.members m).0 c in (
+        was.0,
+        subst (λ ds. Contains ds was.0) (sym more) (Contains-append_left (take i members)
+            (member ∷ []) was.0 was.1),
+        was.2,
+      ))
       | inr one ↦ (member, subst (λ ds. Contains ds member) (sym more) (Contains-push (take i members) member), from_row member m a row here e one)
     ])
     (λ m w. elim (Contains-push_cases (take i members) member w.0 (subst (λ ds. Contains ds w.0) more w.1)) [

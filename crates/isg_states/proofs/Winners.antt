@@ -109,7 +109,7 @@ pub ended_more : (grammar : Grammar) (marks : List Mark) (i : ℕ) (d : Mark) (w
     → IsFirstEnded grammar (take (i + 1) marks) (Some (first_definition w (get_or marks i d).def))
 ended_more grammar marks i d w within a last =
     subst (λ ms. Accepts grammar (Set ms) (first_definition w (get_or marks i d).def)) (sym (take_more marks i d within))
-        (more_push grammar (take i marks) (get_or marks i d) w a last)
+    (more_push grammar (take i marks) (get_or marks i d) w a last)
 
 pub ended_all : (grammar : Grammar) (marks : List Mark) (i : ℕ) (w : Option DefId) → length marks ≤ i → IsFirstEnded grammar (take i marks) w
     → IsFirstEnded grammar marks w

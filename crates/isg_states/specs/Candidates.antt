@@ -49,7 +49,7 @@ GoesOn ranges byte marks = (before : List Range) × (low : ℕ) × (high : ℕ) 
 abbrev pub IsWithByte : List Range → ℕ → List Mark → List Range → Type 0
 IsWithByte old byte marks new =
     ((before : List Range) × (low : ℕ) × (high : ℕ) × (old ≡ before ++ (low, high, Set marks) ∷ []) × (high + 1 ≡ byte)
-        × (new ≡ before ++ (low, byte, Set marks) ∷ []))
+    × (new ≡ before ++ (low, byte, Set marks) ∷ []))
     ⊎ ((GoesOn old byte marks → ⊥) × (new ≡ old ++ (byte, byte, Set marks) ∷ []))
 
 -- each byte of the range leads to the marks of its key

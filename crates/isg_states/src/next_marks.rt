@@ -109,7 +109,8 @@ fn following_marks<L: Ledger>(
     steps: &mut Steps<L>,
 ) -> Result<Vec<Mark>, NoMemory>
     requires { (mark : Mark) → Contains members.now mark → IsMark grammar.now.grammar mark }
-    ensures marks { IfOk result (λ marks. ListsMarks (λ m. (member : Mark) × Contains members.now member × FollowsMark grammar.now.grammar member m) marks.items) }
+    ensures marks { IfOk result (λ marks. ListsMarks (λ m. (member : Mark) × Contains members.now member
+        × FollowsMark grammar.now.grammar member m) marks.items) }
     ensures steps { IfOk result (λ marks. steps.new ≡ steps.old + length marks.items) }
     ensures counted { steps.old ≤ steps.new }
 {

@@ -35,10 +35,10 @@ module _ {M : Type 1} {𝓤 : Ura M} (𝓛 : Logic 𝓤) (R : RattleType) (L : L
       move ! (2 ∷ 3 ∷ []) $ join ! $ move ! (1 ∷ 0 ∷ []) $
       use2 𝓛 (later (‵ (lent_at R p x (ν ∷ [])) ⊛ ‵ (flft (ν ∷ []) full_share) ⊛ ‵ (flft μ r)))
       (Lends-first 𝓛 (lies_at R full_share p x) (holds (bare (lone R.mir)) p) (lent_at R p x) R.lives (Lends-lies 𝓛 R R.lives p x (L.shares 𝓛 x)) (ν ∷ [])
-          ((ν ∷ [], full_share) ∷ (μ, r) ∷ [])
+      ((ν ∷ [], full_share) ∷ (μ, r) ∷ [])
       (Incl-trans (meet_⊑_right (ν ∷ []) μ) within) (meet_⊑_left (ν ∷ []) μ)) $ await ! tt $ split3 ! $
       move ! (1 ∷ []) $ use1 𝓛 (‵ (frac ν WHOLE)) (from_all 𝓛 ν) $ move ! (0 ∷ 1 ∷ []) $ fjoin ! $ now ! $ show ! (Begun μ r) ν $ move ! (0 ∷ 2 ∷ 1 ∷ []) $
-          done !)
+      done !)
 
   pub ends : (q : Ptr) (y : R.Denot) (ν : ℕ) → ent 𝓤 (sep 𝓤 (sem 𝓛 (hold_owns R q y ν WHOLE)) (sem 𝓛 (flent (ν ∷ []) B))) (H.⇛ (sem 𝓛 B))
   ends q y ν = qed 𝓛 (‵ (hold_owns R q y ν WHOLE) ∷ ‵ (flent (ν ∷ []) B) ∷ []) ∵ updating ! $ fsplit ! $ use1 𝓛 (‵ (flft (ν ∷ []) full_share)) (all_parts 𝓛 ν) $

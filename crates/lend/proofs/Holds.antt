@@ -41,7 +41,7 @@ module _ {M : Type 1} {𝓤 : Ura M} (𝓛 : Logic 𝓤) (R : RattleType) where
   cuts L p x ν n m k e = qed 𝓛 (‵ (hold_owns R p x ν n) ∷ []) ∵ fsplit ! $ use1 𝓛 (‵ (frac ν m) ⊛ ‵ (frac ν k)) (cut_frac 𝓛 ν n m k e) $ split ! $
       move ! (2 ∷ []) $
       use1 𝓛 (‵ (lent_at R p x (ν ∷ [])) ⊛ ‵ (lent_at R p x (ν ∷ []))) ((lent_at_shr_laws R L.shr_laws p x).contraction M 𝓤 𝓛 (ν ∷ [])) $ split ! $
-          move ! (2 ∷ 0 ∷ []) $ fjoin ! $ move ! (2 ∷ 1 ∷ []) $ fjoin ! $ move ! (1 ∷ 0 ∷ []) $ done !
+      move ! (2 ∷ 0 ∷ []) $ fjoin ! $ move ! (2 ∷ 1 ∷ []) $ fjoin ! $ move ! (1 ∷ 0 ∷ []) $ done !
 
   pub glues : (p q : Ptr) (x y : R.Denot) (ν n m k : ℕ) → m + k ≡ n → ent 𝓤 (sep 𝓤 (sem 𝓛 (hold_owns R p x ν m)) (sem 𝓛 (hold_owns R q y ν k)))
       (𝓛.H.⇛ (sem 𝓛 (hold_owns R p x ν n)))
@@ -60,4 +60,4 @@ module _ {M : Type 1} {𝓤 : Ura M} (𝓛 : Logic 𝓤) (R : RattleType) where
     hold_opens n = qed 𝓛 (‵ (lent n) ∷ ‵ (flft κ q) ∷ []) ∵ updating ! $ fsplit ! $ opens ! tt Hold b o (λ vs. move ! (1 ∷ []) $ fsplit ! $ now ! $
         move ! (1 ∷ []) $ frame ! $
         each ! Shuts (λ m. assume ! (‵ (Mine m)) $ updating ! $ move ! (1 ∷ 0 ∷ []) $ fjoin ! $ move ! (1 ∷ 0 ∷ []) $ closes ! tt Hold m vs b o $ fjoin ! $
-            now ! $ done !))
+        now ! $ done !))

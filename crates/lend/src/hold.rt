@@ -31,7 +31,10 @@ impl<T> Model for Hold<T> {
 impl<T> Hold<T> {
     /// Half of the parts, rounded down, go to a new hold.
     pub(crate) fn cut(&mut self) -> Hold<T>
-        ensures { ((self.new.at ≡ self.old.at) × (self.new.value ≡ self.old.value) × (self.new.age ≡ self.old.age) × (self.new.parts ≡ self.old.parts - self.old.parts / 2)) × ((result.at ≡ self.old.at) × (result.value ≡ self.old.value) × (result.age ≡ self.old.age) × (result.parts ≡ self.old.parts / 2)) }
+        ensures { ((self.new.at ≡ self.old.at) × (self.new.value ≡ self.old.value) × (self.new.age ≡ self.old.age)
+            × (self.new.parts ≡ self.old.parts - self.old.parts / 2))
+            × ((result.at ≡ self.old.at) × (result.value ≡ self.old.value) × (result.age ≡ self.old.age)
+            × (result.parts ≡ self.old.parts / 2)) }
     {
         Hold {
             marker: PhantomData,
@@ -49,7 +52,8 @@ impl<T> Hold<T> {
     /// The parts of `other` are added to these.
     pub(crate) fn join(&mut self, other: Hold<T>)
         requires { other.age ≡ self.old.age }
-        ensures { (self.new.at ≡ self.old.at) × (self.new.value ≡ self.old.value) × (self.new.age ≡ self.old.age) × (self.new.parts ≡ self.old.parts + other.parts) }
+        ensures { (self.new.at ≡ self.old.at) × (self.new.value ≡ self.old.value) × (self.new.age ≡ self.old.age)
+            × (self.new.parts ≡ self.old.parts + other.parts) }
     {
         let Hold { marker: _ } = other;
     }

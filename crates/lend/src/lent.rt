@@ -26,7 +26,9 @@ impl<T: Drop, A: Allocator> Lent<T, A> {
     /// pointer is answered beside them, so that a generated proof need not look
     /// into either.
     pub(crate) fn begin(loose: Loose<T, A>) -> (Lent<T, A>, Hold<T>, *mut T)
-        ensures { ((result.0.at ≡ loose.at) × (result.0.value ≡ loose.value)) × ((result.1.at ≡ loose.at) × (result.1.value ≡ loose.value) × (result.1.age ≡ result.0.age) × (result.1.parts ≡ WHOLE)) × (result.2 ≡ loose.at) }
+        ensures { ((result.0.at ≡ loose.at) × (result.0.value ≡ loose.value))
+            × ((result.1.at ≡ loose.at) × (result.1.value ≡ loose.value) × (result.1.age ≡ result.0.age) × (result.1.parts ≡ WHOLE))
+            × (result.2 ≡ loose.at) }
     {
         let Loose { at, alloc } = loose;
         (

@@ -27,8 +27,10 @@ pub sorted_append : {X : Type 0} (R : X → X → Ordering) (xs ys : List X) →
     → ((x y : X) → Contains xs x → Contains ys y → R x y ≡ Less) → IsStrictlySortedBy R (xs ++ ys)
 unfolding IsStrictlySortedBy
 sorted_append R [] ys a b f = b
-sorted_append R (x ∷ xs) ys a b f = (each_append _ xs ys a.0 (λ y c. f x y (contains_here x xs) c),
-    sorted_append R xs ys a.1 b (λ z y c d. f z y (contains_there x xs z c) d))
+sorted_append R (x ∷ xs) ys a b f = (
+  each_append _ xs ys a.0 (λ y c. f x y (contains_here x xs) c),
+  sorted_append R xs ys a.1 b (λ z y c d. f z y (contains_there x xs z c) d),
+)
 
 pub nat_cmp-refl : (i : ℕ) → nat_cmp i i ≡ Equal
 nat_cmp-refl i = sym (nat_cmp_is i i Equal refl)
@@ -104,7 +106,7 @@ front_more tokens known x xs i j middle found below f kn lo hi b = record {
     | inl less ↦ Contains-append_left found (map (λ p. i ∷ p) below) (i ∷ rest) (f.all k rest a c less n cuts)
     | inr more ↦ let same : k ≡ middle = omega arith in
         Contains-append_right found (map (λ p. i ∷ p) below) (i ∷ rest)
-            (map_contains i below rest (b.all rest (subst (λ m. AreKnownCuts tokens known xs m j rest) same cuts)))
+        (map_contains i below rest (b.all rest (subst (λ m. AreKnownCuts tokens known xs m j rest) same cuts)))
   ];
 }
 
@@ -118,7 +120,7 @@ front_same tokens known x xs i j middle found f none = record {
     | inl less ↦ f.all k rest a c less n cuts
     | inr more ↦ let same : k ≡ middle = omega arith in
         absurd (none (subst (λ m. IsKnown tokens known x i m) same n) (subst (λ m. AreKnown tokens known xs m j) same
-            (cuts_known tokens known xs k j rest cuts)))
+        (cuts_known tokens known xs k j rest cuts)))
   ];
 }
 

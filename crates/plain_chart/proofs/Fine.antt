@@ -88,8 +88,13 @@ grows_then rules tokens a b c true y g h = record { fine = h.fine; kept = λ s m
     longer : (z : Bool) → y ≡ z → length a < length c
     longer true e = omega (arith, g.more refl, h.more e)
     longer false e = let same : length c ≡ length b = ap length (h.same e) in omega (arith, g.more refl)
-grows_then rules tokens a b c false y g h = record { fine = h.fine; kept = λ s m. h.kept s (g.kept s m); more = λ e. let same : length b ≡ length a =
-    ap length (g.same refl) in omega (arith, h.more e); same = λ e. h.same e ∙ g.same refl }
+grows_then rules tokens a b c false y g h = record {
+  fine = h.fine;
+  kept = λ s m. h.kept s (g.kept s m);
+  more = λ e. let same : length b ≡ length a =
+      ap length (g.same refl) in omega (arith, h.more e);
+  same = λ e. h.same e ∙ g.same refl;
+}
 
 -- one more is settled, if nothing was added
 pub settled_more : (P : List Span → ℕ → Type 0) (old new : List Span) (x y : Bool) (n : ℕ) → (y ≡ false → new ≡ old) → (x ≡ false → (i : ℕ) → i < n → P old i)

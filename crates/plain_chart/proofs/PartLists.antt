@@ -248,7 +248,7 @@ module _ (rules : List Rule) (tokens : List SymbolId) (known : List Span) (whole
   pub reaching_first : AreReaching rules tokens known (span START 0 (length tokens) ∷ []) 0
   reaching_first =
       let only : (s : Span) → Contains (span START 0 (length tokens) ∷ []) s → span START 0 (length tokens) ≡ s =
-          λ s c. elim (contains_cases (span START 0 (length tokens)) [] s c) [ inl e ↦ e | inr d ↦ absurd (omega (arith, d.1)) ] in
+      λ s c. elim (contains_cases (span START 0 (length tokens)) [] s c) [ inl e ↦ e | inr d ↦ absurd (omega (arith, d.1)) ] in
       record {
         within = λ s c. subst (λ (q : Span). InForest rules tokens q.symbol q.from q.to) (only s c) root;
         spans = λ s c. inl (only s c);
@@ -268,7 +268,7 @@ module _ (rules : List Rule) (tokens : List SymbolId) (known : List Span) (whole
     pub reaching_bound : length reached ≤ length known + 1
     reaching_bound =
         let bound : length reached ≤ length (span START 0 (length tokens) ∷ known) = at_most reached (span START 0 (length tokens) ∷ known) inv.distinct
-            (λ s c. elim (inv.spans s c) [
+        (λ s c. elim (inv.spans s c) [
           | inl e ↦ subst (λ q. Contains (span START 0 (length tokens) ∷ known) q) e (contains_here (span START 0 (length tokens)) known)
           | inr k ↦ contains_there (span START 0 (length tokens)) known s k
         ]) in
@@ -293,7 +293,7 @@ module _ (rules : List Rule) (tokens : List SymbolId) (known : List Span) (whole
         | inr above ↦
             let same : k ≡ at = omega arith in
             let old : slice_get (reached ++ a.more) at ≡ Some u = subst (λ q. slice_get q at ≡ Some u) a.grown
-                (subst (λ m. slice_get new m ≡ Some u) same get) in
+            (subst (λ m. slice_get new m ≡ Some u) same get) in
             let there = get_prefix reached a.more at u (slice_get_within reached at t get_t) old in
             let one : u ≡ t = some_same u t (sym there ∙ get_t) in
             a.all s c (subst (λ q. IsBelow rules tokens known q s) one b)

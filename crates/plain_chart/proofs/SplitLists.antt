@@ -120,7 +120,7 @@ module _ (rules : List Rule) (tokens : List SymbolId) (known : List Span) (s : S
           let same : r ≡ q = same_at k q above l e in
           let here : AreKnownCuts tokens known r.right s.from s.to p = subst (λ (z : Rule). AreKnownCuts tokens known z.right s.from s.to p) (sym same) c in
           subst (λ (z : Rule). Contains (found ++ map (split_of r) cuts) (split_of z p)) same (Contains-append_right found (map (split_of r) cuts)
-              (split_of r p) (map_has (split_of r) cuts p (exact.all p here)))
+          (split_of r p) (map_has (split_of r) cuts p (exact.all p here)))
     ];
   }
 
@@ -145,12 +145,20 @@ module _ (rules : List Rule) (tokens : List SymbolId) (known : List Span) (whole
     within = λ split c.
         let w = first.within split c in
         let (ends, e, along) = cuts_along w.1.right s.from s.to w.2 w.7 in
-        record { rule = w.1; live = contained rules w.0 w.1 w.4; number = ap (λ (z : Split). z.rule) (sym w.6); left = w.5; ends = ends; cuts =
-            ap (λ (z : Split). z.cuts) w.6 ∙ e; along = along };
+        record {
+          rule = w.1;
+          live = contained rules w.0 w.1 w.4;
+          number = ap (λ (z : Split). z.rule) (sym w.6);
+          left = w.5;
+          ends = ends;
+          cuts =
+              ap (λ (z : Split). z.cuts) w.6 ∙ e;
+          along = along;
+        };
     all = λ split is.
         let cuts = along_cuts is.rule.right s.from is.ends s.to is.along begins in
         let there = first.all is.live.0 is.rule (s.from ∷ is.ends) (omega (arith, is.live.1)) (at_of rules is.rule is.live) is.left cuts in
         let same : split_of is.rule (s.from ∷ is.ends) ≡ split = ap (λ z. let p : Split = record { rule = z; cuts = s.from ∷ is.ends } in p) is.number ∙ ap
-            (λ z. let p : Split = record { rule = split.rule; cuts = z } in p) (sym is.cuts) in
+        (λ z. let p : Split = record { rule = split.rule; cuts = z } in p) (sym is.cuts) in
         subst (λ z. Contains found z) same there;
   }

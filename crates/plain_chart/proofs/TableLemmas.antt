@@ -45,8 +45,13 @@ get_set [] at y k x e = absurd cc
 get_set (z ∷ zs) zero y zero x e = inl (refl, some_same y x e)
 get_set (z ∷ zs) zero y (suc k) x e = inr (λ f. omega (arith, f), e)
 get_set (z ∷ zs) (suc at) y zero x e = inr (λ f. omega (arith, f), e)
-get_set (z ∷ zs) (suc at) y (suc k) x e = elim (get_set zs at y k x e) [ inl f ↦ inl (omega (arith, f.0), f.1) | inr f ↦ inr (λ g. f.0 (omega (arith, g)),
-    f.1) ]
+get_set (z ∷ zs) (suc at) y (suc k) x e = elim (get_set zs at y k x e) [
+  | inl f ↦ inl (omega (arith, f.0), f.1)
+  | inr f ↦ inr (
+    λ g. f.0 (omega (arith, g)),
+    f.1,
+  )
+]
 
 pub set_here : {X : Type 0} (xs : List X) (at : ℕ) (y : X) → at < length xs → slice_get (set xs at y) at ≡ Some y
 set_here [] at y l = absurd (omega arith)
@@ -65,7 +70,7 @@ pub not_set : (n k : ℕ) → slice_get (replicate n false) k ≡ Some true → 
 not_set n k e =
     let l : k < n = rw length-replicate at (slice_get_within (replicate n false) k true e) in
     let f : slice_get (replicate n false) k ≡ Some false = read_is (replicate n false) k false (sym (get_or-replicate n k false false l))
-        (slice_get_within (replicate n false) k true e) in
+    (slice_get_within (replicate n false) k true e) in
     let g : true ≡ false = some_same true false (sym e ∙ f) in
     cc
 
@@ -203,9 +208,9 @@ module _ (items : List Span) (tables : List Table) (inv : IsIndexed items tables
                   let one : t ≡ old_at.0 = some_same t old_at.0 (sym here ∙ old_at.1) in
                   let symbols : x ≡ y = sym sx ∙ ap (λ (w : Table). w.symbol) one ∙ old_at.2 in
                   let same_span : span x i j ≡ span y k l = ap (λ z. span z i j) symbols ∙ ap (λ q. span y q j) (sym ends.0) ∙ ap (λ q. span y k q)
-                      (sym ends.1) in
+                  (sym ends.1) in
                   subst (λ q. Contains (items ++ span x i j ∷ []) q) same_span (Contains-append_right items (span x i j ∷ []) (span x i j)
-                      (contains_here (span x i j) []))
+                  (contains_here (span x i j) []))
               | inr f ↦ Contains-append_left items (span x i j ∷ []) (span y k l) (inv.bits at k l y old_at lk ll (record { table = t; is = here; bit = f.1 }))
             ]
         | inr e ↦ Contains-append_left items (span x i j ∷ []) (span y k l) (inv.bits a k l y old lk ll (record { table = s.table; is = e.1; bit = s.bit }))

@@ -55,4 +55,4 @@ pub known_at_most : (rules : List Rule) (tokens : List SymbolId) (known : List S
 known_at_most rules tokens known f = at_most known (universe rules (length tokens + 1)) f.distinct (λ s c.
     let w = f.within s c in
     subst (λ x. Contains (universe rules (length tokens + 1)) (span x s.from s.to)) w.0.2 (universe_has rules (length tokens + 1) w.0.0 s.from s.to w.0.1
-        (omega (arith, w.1)) (omega (arith, w.2))))
+    (omega (arith, w.1)) (omega (arith, w.2))))

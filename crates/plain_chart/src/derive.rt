@@ -138,7 +138,8 @@ fn settle_rule(
     requires at { at < length rules.now }
     requires fine { AreFine rules.now tokens.now known.old }
     ensures grows { IfOk result (λ yes. Grows rules.now tokens.now known.old known.new yes) }
-    ensures settled { IfOk result (λ yes. IsFalse yes → (r : Rule) (i j : ℕ) → slice_get rules.now at ≡ Some r → j ≤ length tokens.now → IsSettled tokens.now known.new r i j) }
+    ensures settled { IfOk result (λ yes. IsFalse yes → (r : Rule) (i j : ℕ) → slice_get rules.now at ≡ Some r
+        → j ≤ length tokens.now → IsSettled tokens.now known.new r i j) }
 {
     let mut changed = false;
     for to in 0..tokens.len() as u32 + 1 {

@@ -17,9 +17,8 @@ mod nodes;
 mod reach;
 mod spans;
 
-pub use crate::limits::{MOST_TOKENS, limits_of_charts};
-
 use crate::derive::{derived_spans, is_known};
+pub use crate::limits::{MOST_TOKENS, limits_of_charts};
 use crate::nodes::forest_of;
 use crate::spans::is_same;
 use forest::{Forest, Rule, Rules, START, SymbolId};

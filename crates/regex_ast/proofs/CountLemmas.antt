@@ -49,11 +49,11 @@ mutual
 
 others_few : (cuts done : List Cut) (c : Cut) → is_class c ≡ false → count_by is_class done ≤ 200 → NoPlace IsOneTooMany (done ++ (c ∷ cuts))
     → (count_by is_class (done ++ c ∷ []) ≤ 200 → NoPlace IsOneTooMany ((done ++ c ∷ []) ++ cuts) → count_by is_class (done ++ c ∷ []) + classes_in
-        (pieces_of cuts) ≤ 200)
+    (pieces_of cuts) ≤ 200)
     → count_by is_class done + classes_in (pieces_of cuts) ≤ 200
 others_few cuts done c other few none rest =
     let same : count_by is_class (done ++ c ∷ []) ≡ count_by is_class done + 0 = count-snoc is_class done c ∙ ap
-        (λ x. count_by is_class done + (if x then 1 else 0)) other in
+    (λ x. count_by is_class done + (if x then 1 else 0)) other in
     omega (arith, rest (omega arith) (subst (NoPlace IsOneTooMany) (sym (append_assoc done (c ∷ []) cuts)) none))
 
 -- no class is one too many, so there are few
@@ -64,8 +64,11 @@ few_classes ((t, OneOf set) ∷ cuts) done few none =
     let here : count_by is_class (done ++ (t, OneOf set) ∷ []) ≡ count_by is_class done + 1 = count-snoc is_class done (t, OneOf set) in
     let below : count_by is_class done < 200 =
     elim (cases_lt (count_by is_class done) 200) [ inl h ↦ h | inr h ↦ absurd (none done (t, OneOf set) cuts refl (refl, h)) ] in
-    omega (arith, few_classes cuts (done ++ (t, OneOf set) ∷ []) (omega arith) (subst (NoPlace IsOneTooMany)
-        (sym (append_assoc done ((t, OneOf set) ∷ []) cuts)) none))
+    omega (
+      arith,
+      few_classes cuts (done ++ (t, OneOf set) ∷ []) (omega arith) (subst (NoPlace IsOneTooMany)
+          (sym (append_assoc done ((t, OneOf set) ∷ []) cuts)) none),
+    )
 few_classes ((t, Open) ∷ cuts) done few none = others_few cuts done (t, Open) refl few none (few_classes cuts (done ++ (t, Open) ∷ []))
 few_classes ((t, Close) ∷ cuts) done few none = others_few cuts done (t, Close) refl few none (few_classes cuts (done ++ (t, Close) ∷ []))
 few_classes ((t, Bar) ∷ cuts) done few none = others_few cuts done (t, Bar) refl few none (few_classes cuts (done ++ (t, Bar) ∷ []))

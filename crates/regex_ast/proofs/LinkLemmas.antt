@@ -35,7 +35,7 @@ snoc-append (x ∷ u) v (y ∷ w) p e =
 -- a pair in a join stands in one part, or across them
 pub pair-append : (u v f : List ℕ) (q p : ℕ) (r : List ℕ) → f ++ q ∷ p ∷ r ≡ u ++ v
     → ((s : List ℕ) × (t : List ℕ) × (s ++ q ∷ p ∷ t ≡ u)) ⊎ (((s : List ℕ) × (s ++ q ∷ [] ≡ u)) × ((t : List ℕ) × (p ∷ t ≡ v)) ⊎ ((s : List ℕ) × (t : List ℕ)
-        × (s ++ q ∷ p ∷ t ≡ v)))
+    × (s ++ q ∷ p ∷ t ≡ v)))
 pair-append [] v f q p r e = inr (inr (f, r, e))
 pair-append (x ∷ u) v [] q p r e =
     let h : q ≡ x = cc in let k : p ∷ r ≡ u ++ v = cc in
@@ -124,7 +124,7 @@ nullable-true n (class set) h = absurd (subst Nil h tt)
 nullable-true n (sequence a b) h =
     let parts = nil-append h.0 h.1 h.4 in
     and_from (nullable a) (nullable b) (nullable-true n a (subst (MarksFrom n a) (sym parts.0) h.2))
-        (nullable-true (n + class_count a) b (subst (MarksFrom (n + class_count a) b) (sym parts.1) h.3))
+    (nullable-true (n + class_count a) b (subst (MarksFrom (n + class_count a) b) (sym parts.1) h.3))
 nullable-true n (choice a b) (inl h) = or_left (nullable a) (nullable b) (nullable-true n a h)
 nullable-true n (choice a b) (inr h) = or_right (nullable a) (nullable b) (nullable-true (n + class_count a) b h)
 nullable-true n (star a) h = refl
@@ -162,8 +162,16 @@ from-firsts n (class set) p h = ([], ap (λ k. k ∷ []) (eqb-true p n h))
 from-firsts n (sequence a b) p h =
     elim (or_cases (firsts n a p) _ h) [
       | inl k ↦ (let x = from-firsts n a p k in let y = some_word (n + class_count a) b in (x.0 ++ y.0, (p ∷ x.0, y.0, x.1, y.1, refl)))
-      | inr k ↦ (let parts = and_parts (nullable a) _ k in let y = from-firsts (n + class_count a) b p parts.1 in (y.0, ([], p ∷ y.0, from-nullable n a parts.0,
-          y.1, refl)))
+      | inr k ↦ (let parts = and_parts (nullable a) _ k in let y = from-firsts (n + class_count a) b p parts.1 in (
+        y.0,
+        (
+          [],
+          p ∷ y.0,
+          from-nullable n a parts.0,
+          y.1,
+          refl,
+        ),
+      ))
     ]
 from-firsts n (choice a b) p h =
     elim (or_cases (firsts n a p) _ h) [
@@ -194,8 +202,16 @@ pub from-lasts : (n : ℕ) (e : Expression) (p : ℕ) → lasts n e p ≡ true �
 from-lasts n (class set) p h = ([], ap (λ k. k ∷ []) (eqb-true p n h))
 from-lasts n (sequence a b) p h =
     elim (or_cases (lasts (n + class_count a) b p) _ h) [
-      | inl k ↦ (let x = some_word n a in let y = from-lasts (n + class_count a) b p k in (x.0 ++ y.0, (x.0, y.0 ++ p ∷ [], x.1, y.1,
-          append_assoc x.0 y.0 (p ∷ []))))
+      | inl k ↦ (let x = some_word n a in let y = from-lasts (n + class_count a) b p k in (
+        x.0 ++ y.0,
+        (
+          x.0,
+          y.0 ++ p ∷ [],
+          x.1,
+          y.1,
+          append_assoc x.0 y.0 (p ∷ []),
+        ),
+      ))
       | inr k ↦ (let parts = and_parts (nullable b) _ k in let x =
           from-lasts n a p parts.1 in (x.0, (x.0 ++ p ∷ [], [], x.1, from-nullable (n + class_count a) b parts.0, sym (append-nil (x.0 ++ p ∷ [])))))
     ]
@@ -224,7 +240,7 @@ follows-true n (sequence a b) q p f r h =
       | inr m ↦ elim m [
         | inl k ↦ or_right (follows n a q p || follows (n + class_count a) b q p) _
             (and_from (lasts n a q) _ (lasts-true n a q k.0.0 (subst (MarksFrom n a) (sym k.0.1) h.2)) (firsts-true (n + class_count a) b p k.1.0
-                (subst (MarksFrom (n + class_count a) b) (sym k.1.1) h.3)))
+            (subst (MarksFrom (n + class_count a) b) (sym k.1.1) h.3)))
         | inr k ↦ or_left (follows n a q p || follows (n + class_count a) b q p) _ (or_right (follows n a q p) _ (follows-true (n + class_count a) b q p k.0 k.1
             (subst (MarksFrom (n + class_count a) b) (sym k.2) h.3)))
       ]

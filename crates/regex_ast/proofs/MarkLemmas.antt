@@ -50,13 +50,13 @@ at_length (f ∷ front) set back = at_length front set back
 two_at : (a b : Expression) → ((front back : List (List ℕ)) → AreAt (front ++ (classes_of a ++ back)) (length front) a)
     → ((front back : List (List ℕ)) → AreAt (front ++ (classes_of b ++ back)) (length front) b)
     → (front back : List (List ℕ)) → AreAt (front ++ ((classes_of a ++ classes_of b) ++ back)) (length front) a × AreAt
-        (front ++ ((classes_of a ++ classes_of b) ++ back)) (length front + class_count a) b
+    (front ++ ((classes_of a ++ classes_of b) ++ back)) (length front + class_count a) b
 two_at a b one two front back = (
   subst (λ cs. AreAt cs (length front) a) (ap (λ t. front ++ t) (sym (append_assoc (classes_of a) (classes_of b) back))) (one front (classes_of b ++ back)),
   subst (λ n. AreAt (front ++ ((classes_of a ++ classes_of b) ++ back)) n b) (length-append front (classes_of a)
       ∙ ap (λ n. length front + n) (length-classes_of a))
       (subst (λ cs. AreAt cs (length (front ++ classes_of a)) b) (append_assoc front (classes_of a) (classes_of b ++ back)
-          ∙ ap (λ t. front ++ t) (sym (append_assoc (classes_of a) (classes_of b) back)))
+      ∙ ap (λ t. front ++ t) (sym (append_assoc (classes_of a) (classes_of b) back)))
       (two (front ++ classes_of a) back)),
 )
 

@@ -97,28 +97,46 @@ after_bracket-caret = refl
 
 low_moves : (negated : Bool) (set t : List ℕ) (b : ℕ) (m : Mode) → Ready negated set m → IsClassByte t b → Moves m t (Inside negated set (Byte b))
 low_moves negated set t b m ready (plain {b = x} e) = (Inside negated set (Byte x), ready x (no_dash x e) (no_caret x e) ∙ at_start-plain negated set x e, refl)
-low_moves negated set t b m ready (escaped {e = x} {b = y} h) =
-    (Inside negated set Backslash, ready 92 refl refl ∙ at_start-backslash negated set, (Inside negated set (Byte y), ap (λ o. at_backslash negated set o) h,
-        refl))
+low_moves negated set t b m ready (escaped {e = x} {b = y} h) = (
+  Inside negated set Backslash,
+  ready 92 refl refl ∙ at_start-backslash negated set,
+  (
+    Inside negated set (Byte y),
+    ap (λ o. at_backslash negated set o) h,
+    refl,
+  ),
+)
 
 high_moves : (negated : Bool) (set t : List ℕ) (low b : ℕ) → IsClassByte t b
     → Moves (Inside negated set (Dash low)) t (Inside negated (with_range set low b) Start)
 high_moves negated set t low b (plain {b = x} e) = (Inside negated (with_range set low x) Start, at_dash-plain negated set low x e, refl)
-high_moves negated set t low b (escaped {e = x} {b = y} h) =
-    (Inside negated set (DashBackslash low), at_dash-backslash negated set low, (Inside negated (with_range set low y) Start,
-        ap (λ o. at_dash_backslash negated set low o) h, refl))
+high_moves negated set t low b (escaped {e = x} {b = y} h) = (
+  Inside negated set (DashBackslash low),
+  at_dash-backslash negated set low,
+  (
+    Inside negated (with_range set low y) Start,
+    ap (λ o. at_dash_backslash negated set low o) h,
+    refl,
+  ),
+)
 
 start_ready : (negated : Bool) (set : List ℕ) → Ready negated set (Inside negated set Start)
 start_ready negated set b e f = refl
 
 member_moves : (negated : Bool) (set t : List ℕ) (low high : ℕ) (m : Mode) → Ready negated set m → IsMember t low high
     → (n : Mode) × Moves m t n × Ready negated (with_range set low high) n
-member_moves negated set t low high m ready (single {t = x} {b = y} h) = (Inside negated set (Byte y), low_moves negated set x y m ready h,
-    at_byte-else negated set y)
+member_moves negated set t low high m ready (single {t = x} {b = y} h) = (
+  Inside negated set (Byte y),
+  low_moves negated set x y m ready h,
+  at_byte-else negated set y,
+)
 member_moves negated set t low high m ready (range {t = x} {u = y} {low = l} {high = g} h k) = (
   Inside negated (with_range set l g) Start,
-  Moves-join x (45 ∷ y) m (Inside negated set (Byte l)) _ (low_moves negated set x l m ready h) (Inside negated set (Dash l), at_byte-dash negated set l,
-      high_moves negated set y l g k),
+  Moves-join x (45 ∷ y) m (Inside negated set (Byte l)) _ (low_moves negated set x l m ready h) (
+    Inside negated set (Dash l),
+    at_byte-dash negated set l,
+    high_moves negated set y l g k,
+  ),
   start_ready negated (with_range set l g),
 )
 
@@ -140,11 +158,11 @@ after_piece-atom b e0 =
     let e5 = or_second (41 == b) _ e4 in let e6 = or_second (124 == b) _ e5 in let e7 = or_second (42 == b) _ e6 in let e8 = or_second (43 == b) _ e7 in
     let e9 = or_second (63 == b) _ e8 in
     chosen_else (92 == b) _ _ (or_first (92 == b) _ e0) ∙ chosen_else (91 == b) _ _ (or_first (91 == b) _ e1) ∙ chosen_else (93 == b) _ _
-        (or_first (93 == b) _ e2)
+    (or_first (93 == b) _ e2)
     ∙ chosen_else (40 == b) _ _ (or_first (40 == b) _ e3) ∙ chosen_else (41 == b) _ _ (or_first (41 == b) _ e4) ∙ chosen_else (124 == b) _ _
-        (or_first (124 == b) _ e5)
+    (or_first (124 == b) _ e5)
     ∙ chosen_else (42 == b) _ _ (or_first (42 == b) _ e6) ∙ chosen_else (43 == b) _ _ (or_first (43 == b) _ e7) ∙ chosen_else (63 == b) _ _
-        (or_first (63 == b) _ e8) ∙ chosen_else (46 == b) _ _ (or_first (46 == b) _ e9)
+    (or_first (63 == b) _ e8) ∙ chosen_else (46 == b) _ _ (or_first (46 == b) _ e9)
 
 pub piece_completes : {t : List ℕ} {p : Piece} → IsPiece t p → Completes t p
 unfolding after_piece
@@ -204,7 +222,7 @@ start_result negated set u t b h e =
     let moved : t ++ b ∷ [] ≡ bracket negated ++ (u ++ b ∷ []) = ap (λ x. x ++ b ∷ []) e ∙ append_assoc (bracket negated) u (b ∷ []) in
     pick (Result (t ++ b ∷ [])) (93 == b) _ _
     (λ k. subst (λ x. IsPiece x (OneOf (closed negated set))) (sym (moved ∙ ap (λ y. bracket negated ++ (u ++ y ∷ [])) (sym (byte_is 93 b k))))
-        (closed_piece negated u set h))
+    (closed_piece negated u set h))
     (λ k. pick (Result (t ++ b ∷ [])) (92 == b) _ _
     (λ l. (u, b ∷ [], h, ap (λ y. y ∷ []) (sym (byte_is 92 b l)), moved))
     (λ l. pick (Result (t ++ b ∷ [])) (is_special_in_class b) _ _
@@ -298,7 +316,7 @@ first_result b =
     pick (Result (b ∷ [])) (63 == b) _ _ (λ e. is_piece 63 b MaybeSign e maybe_sign) (λ e8.
     pick (Result (b ∷ [])) (46 == b) _ _ (λ e. is_piece 46 b (OneOf (complement (only 10))) e dot) (λ e9.
     atom (or_none (92 == b) _ e0 (or_none (91 == b) _ e1 (or_none (93 == b) _ e2 (or_none (40 == b) _ e3 (or_none (41 == b) _ e4 (or_none (124 == b) _ e5
-        (or_none (42 == b) _ e6 (or_none (43 == b) _ e7 (or_none (63 == b) _ e8 (or_none (46 == b) _ e9 refl))))))))))))))))))))
+    (or_none (42 == b) _ e6 (or_none (43 == b) _ e7 (or_none (63 == b) _ e8 (or_none (46 == b) _ e9 refl))))))))))))))))))))
 
 -- one more byte
 pub byte_read : (t : List ℕ) (m : Mode) (b : ℕ) → Partial t m → Result (t ++ b ∷ []) (lexed m b)
@@ -320,24 +338,27 @@ close_class negated u v t more set low high h at k = (
   closed negated (with_range set low high),
   subst (λ x. IsPiece x (OneOf (closed negated (with_range set low high))))
       (ap (λ y. bracket negated ++ y) (append_assoc u (v ++ more) (93 ∷ []) ∙ ap (λ y. u ++ y) (append_assoc v more (93 ∷ [])))
-          ∙ sym (with_member negated u v t at (more ++ 93 ∷ [])))
+      ∙ sym (with_member negated u v t at (more ++ 93 ∷ [])))
       (closed_piece negated (u ++ (v ++ more)) (with_range set low high) (one_more h k)),
 )
 
 place_completes : (negated : Bool) (u v t set : List ℕ) (place : Place) → AreMembers u set → At v place → t ≡ bracket negated ++ (u ++ v)
     → (rest : List ℕ) × (s : List ℕ) × IsPiece (t ++ rest) (OneOf s)
-place_completes negated u v t set Start h k at =
-    (93 ∷ [], closed negated set, subst (λ x. IsPiece x (OneOf (closed negated set))) (sym (with_member negated u v t at (93 ∷ []) ∙ ap (λ y. bracket negated
-        ++ (u ++ (y ++ 93 ∷ []))) k)) (closed_piece negated u set h))
+place_completes negated u v t set Start h k at = (
+  93 ∷ [],
+  closed negated set,
+  subst (λ x. IsPiece x (OneOf (closed negated set))) (sym (with_member negated u v t at (93 ∷ []) ∙ ap (λ y. bracket negated
+      ++ (u ++ (y ++ 93 ∷ []))) k)) (closed_piece negated u set h),
+)
 place_completes negated u v t set Backslash h k at = close_class negated u v t (110 ∷ []) set 10 10 h at (subst (λ x. IsMember (x ++ 110 ∷ []) 10 10) (sym k)
     (single (escaped escape_n)))
 place_completes negated u v t set (Byte b) h k at = close_class negated u v t [] set b b h at (subst (λ x. IsMember x b b) (sym (append-nil v)) (single k))
 place_completes negated u v t set (Dash b) h k at =
     close_class negated u v t (97 ∷ []) set b 97 h at (subst (λ x. IsMember x b 97) (sym (ap (λ y. y ++ 97 ∷ []) k.2 ∙ append_assoc k.0 (45 ∷ []) (97 ∷ [])))
-        (range k.1 (plain refl)))
+    (range k.1 (plain refl)))
 place_completes negated u v t set (DashBackslash b) h k at =
     close_class negated u v t (110 ∷ []) set b 10 h at (subst (λ x. IsMember x b 10) (sym (ap (λ y. y ++ 110 ∷ []) k.2 ∙ append_assoc k.0 (45 ∷ 92 ∷ [])
-        (110 ∷ []))) (range k.1 (escaped escape_n)))
+    (110 ∷ []))) (range k.1 (escaped escape_n)))
 
 pub partial_completes : (t : List ℕ) (m : Mode) → Partial t m → (rest : List ℕ) × (s : List ℕ) × IsPiece (t ++ rest) (OneOf s)
 partial_completes t Between h = (97 ∷ [], only 97, subst (λ x. IsPiece (x ++ 97 ∷ []) (OneOf (only 97))) (sym h) (atom refl))

@@ -97,8 +97,15 @@ found_more : (Bad : List Cut → Cut → Type 0) (cuts : List Cut) (cut : Cut) (
     → (Bad cuts cut → test ≡ true)
     → FoundAt Bad (cuts ++ cut ∷ []) (first_offset o test (length (cuts_text cuts)))
 unfolding FoundAt
-found_more Bad cuts cut (Some at) test h yes' no' = (h.0, h.1, h.2 ++ cut ∷ [], ap (λ x. x ++ cut ∷ []) h.3 ∙ append_assoc h.0 (h.1 ∷ h.2) (cut ∷ []), h.4, h.5,
-    h.6)
+found_more Bad cuts cut (Some at) test h yes' no' = (
+  h.0,
+  h.1,
+  h.2 ++ cut ∷ [],
+  ap (λ x. x ++ cut ∷ []) h.3 ∙ append_assoc h.0 (h.1 ∷ h.2) (cut ∷ []),
+  h.4,
+  h.5,
+  h.6,
+)
 found_more Bad cuts cut None true h yes' no' = (cuts, cut, [], refl, yes' refl, h, refl)
 found_more Bad cuts cut None false h yes' no' = no_more_place Bad cuts cut h (λ b. false≢true (no' b))
 
@@ -174,9 +181,9 @@ level_deep : (cuts : List Cut) (c : Cut) (s u : Nest) → is_opening c ≡ false
 unfolding AsDeep
 level_deep cuts c s u a b same d =
     let x : count_by is_opening (cuts ++ c ∷ []) ≡ count_by is_opening cuts = count-snoc is_opening cuts c ∙ ap
-        (λ t. count_by is_opening cuts + (if t then 1 else 0)) a ∙ plus_none _ in
+    (λ t. count_by is_opening cuts + (if t then 1 else 0)) a ∙ plus_none _ in
     let y : count_by is_closing (cuts ++ c ∷ []) ≡ count_by is_closing cuts = count-snoc is_closing cuts c ∙ ap
-        (λ t. count_by is_closing cuts + (if t then 1 else 0)) b ∙ plus_none _ in
+    (λ t. count_by is_closing cuts + (if t then 1 else 0)) b ∙ plus_none _ in
     omega arith
 
 put_deep : (cuts : List Cut) (t : List ℕ) (p : Piece) (s u : Nest) → put p s ≡ Some u → AsDeep cuts s → AsDeep (cuts ++ (t, p) ∷ []) u
@@ -204,20 +211,35 @@ put_deep cuts t MaybeSign s u e d = level_deep cuts (t, MaybeSign) s u refl refl
 pub Reads : List ℕ → State → Type 0
 Reads text (reading m s f start) =
     (cuts : List Cut) × (rest : List ℕ) × AreCutTexts cuts × (puts bottom (pieces_of cuts) ≡ Some s) × Partial rest m × (text ≡ cuts_text cuts ++ rest)
-        × FoundIn cuts f × AsDeep cuts s × (start ≡ length (cuts_text cuts))
+    × FoundIn cuts f × AsDeep cuts s × (start ≡ length (cuts_text cuts))
 
 none_in : (Bad : List Cut → Cut → Type 0) → NoPlace Bad []
 none_in Bad before c after e bad = no_place before c after (sym e)
 
 pub first_reads : Reads [] first_state
 unfolding Reads FoundAt AsDeep
-first_reads = ([], [], tt, refl, refl, refl, record { counted = refl; empties = none_in IsEmptyClass; deeps = none_in IsTooDeep; manies =
-    none_in IsOneTooMany }, refl, refl)
+first_reads = (
+  [],
+  [],
+  tt,
+  refl,
+  refl,
+  refl,
+  record {
+    counted = refl;
+    empties = none_in IsEmptyClass;
+    deeps = none_in IsTooDeep;
+    manies =
+        none_in IsOneTooMany;
+  },
+  refl,
+  refl,
+)
 
 -- a piece is read to its end
 piece_reads : (text : List ℕ) (s : Nest) (f : Findings) (start : ℕ) (cuts : List Cut) (t : List ℕ) (p : Piece) (o : Option Nest) (u : State)
     → AreCutTexts cuts → puts bottom (pieces_of cuts) ≡ Some s → IsPiece t p → text ≡ cuts_text cuts ++ t → FoundIn cuts f → AsDeep cuts s
-        → start ≡ length (cuts_text cuts)
+    → start ≡ length (cuts_text cuts)
     → put p s ≡ o → option_map (λ x. reading Between x (noted_piece p (depth_of s) start f) (length text)) o ≡ Some u → Reads text u
 unfolding Reads
 piece_reads text s f start cuts t p None u are is piece at found deep begins e g = absurd (none_some g)
@@ -237,16 +259,25 @@ piece_reads text s f start cuts t p (Some x) u are is piece at found deep begins
 -- one more byte
 step_reads : (text : List ℕ) (b : ℕ) (s : Nest) (f : Findings) (start : ℕ) (cuts : List Cut) (rest : List ℕ) (step : Step) (u : State)
     → AreCutTexts cuts → puts bottom (pieces_of cuts) ≡ Some s → text ≡ cuts_text cuts ++ rest → FoundIn cuts f → AsDeep cuts s
-        → start ≡ length (cuts_text cuts)
+    → start ≡ length (cuts_text cuts)
     → Becomes (rest ++ b ∷ []) step → stepped step s f start (suc (length text)) ≡ Some u → Reads (text ++ b ∷ []) u
 unfolding Reads
 step_reads text b s f start cuts rest Refuse u are is at found deep begins r e = absurd (none_some e)
 step_reads text b s f start cuts rest (Go m) u are is at found deep begins r e =
-    subst (Reads (text ++ b ∷ [])) (some_same e) (cuts, rest ++ b ∷ [], are, is, r, ap (λ x. x ++ b ∷ []) at ∙ append_assoc (cuts_text cuts) rest (b ∷ []),
-        found, deep, begins)
+    subst (Reads (text ++ b ∷ [])) (some_same e) (
+      cuts,
+      rest ++ b ∷ [],
+      are,
+      is,
+      r,
+      ap (λ x. x ++ b ∷ []) at ∙ append_assoc (cuts_text cuts) rest (b ∷ []),
+      found,
+      deep,
+      begins,
+    )
 step_reads text b s f start cuts rest (Done p) u are is at found deep begins r e =
     piece_reads (text ++ b ∷ []) s f start cuts (rest ++ b ∷ []) p (put p s) u are is r (ap (λ x. x ++ b ∷ []) at ∙ append_assoc (cuts_text cuts) rest
-        (b ∷ [])) found deep begins refl
+    (b ∷ [])) found deep begins refl
     (subst (λ n. option_map (λ x. reading Between x (noted_piece p (depth_of s) start f) n) (put p s) ≡ Some u) (longer text b) e)
 
 byte_reads : (text : List ℕ) (b : ℕ) (s u : State) → Reads text s → after_byte s (length text) b ≡ Some u → Reads (text ++ b ∷ []) u
@@ -257,7 +288,7 @@ byte_reads text b (reading m s f start) u h e =
 on_read : (more text : List ℕ) (b : ℕ) (s u : State) (o : Option State) → after_byte s (length text) b ≡ o → Reads text s
     → option_and_then (λ t. after_bytes t (suc (length text)) more) o ≡ Some u
     → ((v : State) → Reads (text ++ b ∷ []) v → after_bytes v (length (text ++ b ∷ [])) more ≡ Some u → Reads ((text ++ b ∷ []) ++ more) u)
-        → Reads (text ++ (b ∷ more)) u
+    → Reads (text ++ (b ∷ more)) u
 on_read more text b s u None e h k rest = absurd (none_some k)
 on_read more text b s u (Some v) e h k rest =
     subst (λ x. Reads x u) (append_assoc text (b ∷ []) more)
@@ -296,12 +327,12 @@ cut_run t u p s f at h =
 After : List Cut → List Cut → Nest → Findings → Nest → Type 0
 After done cuts s f t =
     (g : Findings) × (after_bytes (reading Between s f (length (cuts_text done))) (length (cuts_text done)) (cuts_text cuts)
-        ≡ Some (reading Between t g (length (cuts_text done) + length (cuts_text cuts)))) × FoundIn (done ++ cuts) g
+    ≡ Some (reading Between t g (length (cuts_text done) + length (cuts_text cuts)))) × FoundIn (done ++ cuts) g
 
 cut_put : (done cuts : List Cut) (c : Cut) (s t : Nest) (f : Findings) (o : Option Nest) → IsPiece c.0 c.1 → put c.1 s ≡ o → FoundIn done f → AsDeep done s
     → option_and_then (λ x. puts x (pieces_of cuts)) o ≡ Some t
     → ((u : Nest) (g : Findings) → FoundIn (done ++ c ∷ []) g → AsDeep (done ++ c ∷ []) u → puts u (pieces_of cuts) ≡ Some t → After (done
-        ++ c ∷ []) cuts u g t)
+    ++ c ∷ []) cuts u g t)
     → After done (c ∷ cuts) s f t
 unfolding After
 cut_put done cuts c s t f None is e found deep h rest = absurd (none_some h)
@@ -311,7 +342,7 @@ cut_put done cuts c s t f (Some u) is e found deep h rest =
     let r = rest u g (noted_found done c.0 c.1 s f found deep) (put_deep done c.0 c.1 s u e deep) h in
     let long : length (cuts_text (done ++ c ∷ [])) ≡ n + length c.0 = ap length (text_of-snoc done c) ∙ length-append (cuts_text done) c.0 in
     let ends : length (cuts_text (done ++ c ∷ [])) + length (cuts_text cuts) ≡ n + length (c.0 ++ cuts_text cuts) =
-        omega (arith, long, length-append c.0 (cuts_text cuts)) in (
+    omega (arith, long, length-append c.0 (cuts_text cuts)) in (
       r.0,
       cut_run c.0 (cuts_text cuts) c.1 s f n is
           ∙ ap (λ o. option_and_then (λ x. after_bytes x (n + length c.0) (cuts_text cuts)) (option_map (λ x. reading Between x g (n + length c.0)) o)) e
@@ -337,15 +368,20 @@ pub spelled_read : (text : List ℕ) (cuts : List Cut) (e : Expression) → Spel
 unfolding After AsDeep FoundAt
 spelled_read text cuts e h =
     let k = spelled_put h.2 in
-    let r = cuts_run cuts [] bottom k.0 nothing_found h.1 (record { counted = refl; empties = none_in IsEmptyClass; deeps = none_in IsTooDeep; manies =
-        none_in IsOneTooMany }) refl k.1 in
+    let r = cuts_run cuts [] bottom k.0 nothing_found h.1 (record {
+      counted = refl;
+      empties = none_in IsEmptyClass;
+      deeps = none_in IsTooDeep;
+      manies =
+          none_in IsOneTooMany;
+    }) refl k.1 in
     (k.0, r.0, _, ap (after_bytes first_state 0) h.0 ∙ r.1, k.2, r.2)
 
 -- ---- fronts of texts
 bind_bytes : (t u : List ℕ) (at : ℕ) (o : Option State) → ((x : State) → after_bytes x (suc at) (t ++ u)
     ≡ option_and_then (λ y. after_bytes y (suc at + length t) u) (after_bytes x (suc at) t))
     → option_and_then (λ x. after_bytes x (suc at) (t ++ u)) o ≡ option_and_then (λ x. after_bytes x (at + suc (length t)) u)
-        (option_and_then (λ x. after_bytes x (suc at) t) o)
+    (option_and_then (λ x. after_bytes x (suc at) t) o)
 bind_bytes t u at None rest = refl
 bind_bytes t u at (Some x) rest =
     let e : suc at + length t ≡ at + suc (length t) = omega arith in
@@ -375,11 +411,11 @@ continued front (reading m s f start) h =
         (
           ap (λ x. x ++ (piece.0 ++ cuts_text end.0)) h.5 ∙ append_assoc (cuts_text h.0) h.1 (piece.0 ++ cuts_text end.0)
               ∙ ap (λ x. cuts_text h.0 ++ x) (sym (append_assoc h.1 piece.0 (cuts_text end.0))) ∙ sym
-                  (text_of-append h.0 ((h.1 ++ piece.0, OneOf piece.1) ∷ end.0)),
+              (text_of-append h.0 ((h.1 ++ piece.0, OneOf piece.1) ∷ end.0)),
           AreCuts-append h.0 ((h.1 ++ piece.0, OneOf piece.1) ∷ end.0) h.2 (piece.2, end.3),
           finished_spelled (pieces_of cuts) end.1 end.2
               (ap (puts bottom) (pieces_of-append h.0 ((h.1 ++ piece.0, OneOf piece.1) ∷ end.0))
-                  ∙ puts_then (pieces_of h.0) (OneOf piece.1 ∷ pieces_of end.0) bottom s h.3 ∙ end.4) end.5,
+              ∙ puts_then (pieces_of h.0) (OneOf piece.1 ∷ pieces_of end.0) bottom s h.3 ∙ end.4) end.5,
         ),
       ),
     )
@@ -507,7 +543,7 @@ limits_found cuts f e x None None None a b c h = (record { no_empty_class = a; n
 
 limit_broken : (text : List ℕ) (cuts : List Cut) (e : Expression) (refusal : BadRegex) (empty deep many : Option ℕ) → SpellsInCuts text cuts e
     → FoundAt IsEmptyClass cuts empty → FoundAt IsTooDeep cuts deep → FoundAt IsOneTooMany cuts many → judged empty deep many e ≡ Err refusal
-        → IsCause text refusal
+    → IsCause text refusal
 unfolding FoundAt
 limit_broken text cuts e refusal (Some at) deep many s a b c h = subst (IsCause text) (err_same h) (cuts, e, s, a)
 limit_broken text cuts e refusal None (Some at) many s a b c h = subst (IsCause text) (err_same h) (cuts, e, s, (a, b))
@@ -535,7 +571,7 @@ judged_refused : (text : List ℕ) (t : Nest) (f : Findings) (start : ℕ) (refu
     → judged_if_whole o f (length text) ≡ Err refusal → IsCause text refusal
 judged_refused text t f start refusal None h e k =
     subst (IsCause text) (err_same k) (broken_end text (reading Between t f start) h (λ u g i x same whole. none_some (sym e ∙ ap nest_end (mode_nest same)
-        ∙ whole)))
+    ∙ whole)))
 judged_refused text t f start refusal (Some y) h e k =
     let r = spelled_so text t f start y (all_read text (reading Between t f start) h) e in
     limit_broken text r.0 y refusal f.empty f.deep f.many r.1 r.2.empties r.2.deeps r.2.manies k

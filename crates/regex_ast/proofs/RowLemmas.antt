@@ -49,13 +49,18 @@ mutual
 
   pub choice_put : {ps : List Piece} {e : Expression} → SpellsChoice ps e → (o : List Layer)
       → (c : Option Expression) × (b : Option Expression) × (f : Expression) × (puts (levels o None None None) ps ≡ Some (levels o c b (Some f))) ×
-          (level_whole c b f ≡ e)
+      (level_whole c b f ≡ e)
   choice_put (one_branch {ps} {e} h) o = let r = branch_put h o None in (None, r.0, r.1, r.2, r.3)
   choice_put (more_branches {ps} {qs} {a} {b} h k) o =
       let r = choice_put h o in
-      let s = branch_put k o (Some (level_whole r.0 r.1 r.2)) in
-      (Some (level_whole r.0 r.1 r.2), s.0, s.1, puts_then ps (Bar ∷ qs) (levels o None None None) _ r.3 ∙ s.2, ap (λ z. choice z (joined s.0 s.1)) r.4
-          ∙ ap (λ z. choice a z) s.3)
+      let s = branch_put k o (Some (level_whole r.0 r.1 r.2)) in (
+        Some (level_whole r.0 r.1 r.2),
+        s.0,
+        s.1,
+        puts_then ps (Bar ∷ qs) (levels o None None None) _ r.3 ∙ s.2,
+        ap (λ z. choice z (joined s.0 s.1)) r.4
+            ∙ ap (λ z. choice a z) s.3,
+      )
 
 -- the level_whole text of an expression
 pub spelled_put : {ps : List Piece} {e : Expression} → SpellsChoice ps e → (t : Nest) × (puts bottom ps ≡ Some t) × (nest_end t ≡ Some e)
@@ -102,7 +107,7 @@ layer_whole : (ys zs : List Piece) (c b : Option Expression) (e : Expression) �
     → SpellsChoice (ys ++ zs) (level_whole c b e)
 layer_whole ys zs c b e h k =
     subst (λ t. SpellsChoice t (level_whole c b e)) (sym (ap (λ t. t ++ zs) h.4 ∙ append_assoc h.0 h.1 zs))
-        (choice_more h.0 (h.1 ++ zs) c (joined b e) h.2 (branch_more h.1 zs b e h.3 k))
+    (choice_more h.0 (h.1 ++ zs) c (joined b e) h.2 (branch_more h.1 zs b e h.3 k))
 
 last_moved : (xs ys zs : List Piece) (p : Piece) → (xs ++ (ys ++ zs)) ++ p ∷ [] ≡ xs ++ ((ys ++ zs) ++ p ∷ [])
 last_moved xs ys zs p = append_assoc xs (ys ++ zs) (p ∷ [])
@@ -113,7 +118,7 @@ last_in xs ys zs p = append_assoc xs (ys ++ zs) (p ∷ []) ∙ ap (λ t. xs ++ t
 grouped : (qs rs in' : List Piece) → ((qs ++ (rs ++ Open ∷ [])) ++ in') ++ Close ∷ [] ≡ qs ++ (rs ++ (Open ∷ (in' ++ Close ∷ [])))
 grouped qs rs in' =
     append_assoc (qs ++ (rs ++ Open ∷ [])) in' (Close ∷ []) ∙ append_assoc qs (rs ++ Open ∷ []) (in' ++ Close ∷ []) ∙ ap (λ t. qs ++ t)
-        (append_assoc rs (Open ∷ []) (in' ++ Close ∷ []))
+    (append_assoc rs (Open ∷ []) (in' ++ Close ∷ []))
 
 no_layer : HoldsLayer [] None None
 no_layer = ([], [], refl, refl, refl)
@@ -129,11 +134,24 @@ signed_holds sign p rule ps (levels o c b (Some e)) h = (h.0, h.1, h.2 ++ p ∷ 
 
 -- one more piece
 piece_holds : (ps : List Piece) (p : Piece) (s : Nest) → Holds ps s → IfPut (ps ++ p ∷ []) (put p s)
-piece_holds ps (OneOf set) (levels o c b f) h = (h.0, h.1 ++ h.2, OneOf set ∷ [], h.3, layer_settled h.1 h.2 c b f h.4 h.5, one_class,
-    ap (λ t. t ++ OneOf set ∷ []) h.6 ∙ last_moved h.0 h.1 h.2 (OneOf set))
-piece_holds ps Open (levels o c b f) h =
-    (ps ++ Open ∷ [], [], [], (h.0, h.1 ++ h.2, h.3, layer_settled h.1 h.2 c b f h.4 h.5, ap (λ t. t ++ Open ∷ []) h.6 ∙ last_moved h.0 h.1 h.2 Open), no_layer,
-        refl, sym (append-nil (ps ++ Open ∷ [])))
+piece_holds ps (OneOf set) (levels o c b f) h = (
+  h.0,
+  h.1 ++ h.2,
+  OneOf set ∷ [],
+  h.3,
+  layer_settled h.1 h.2 c b f h.4 h.5,
+  one_class,
+  ap (λ t. t ++ OneOf set ∷ []) h.6 ∙ last_moved h.0 h.1 h.2 (OneOf set),
+)
+piece_holds ps Open (levels o c b f) h = (
+  ps ++ Open ∷ [],
+  [],
+  [],
+  (h.0, h.1 ++ h.2, h.3, layer_settled h.1 h.2 c b f h.4 h.5, ap (λ t. t ++ Open ∷ []) h.6 ∙ last_moved h.0 h.1 h.2 Open),
+  no_layer,
+  refl,
+  sym (append-nil (ps ++ Open ∷ [])),
+)
 piece_holds ps Close (levels [] c b f) h = tt
 piece_holds ps Close (levels (l ∷ o) c b None) h = tt
 piece_holds ps Close (levels (l ∷ o) c b (Some e)) h = (
@@ -182,7 +200,7 @@ finished_spelled ps t e h k = go t (all_hold ps [] bottom t ([], [], [], refl, n
   go (levels [] c b (Some f)) h k =
       let same : level_whole c b f ≡ e = cc in
       subst (λ x. SpellsChoice ps x) same (subst (λ l. SpellsChoice l (level_whole c b f)) (sym (h.6 ∙ ap (λ t. t ++ (h.1 ++ h.2)) h.3))
-          (layer_whole h.1 h.2 c b f h.4 h.5))
+      (layer_whole h.1 h.2 c b f h.4 h.5))
   go (levels (l ∷ o) c b f) h k = absurd (nothing k)
 
 -- ---- each stack can be nest_end

@@ -85,13 +85,13 @@ or_bit v w r =
 
 pub bits-or : (v w : List ℕ) (b : ℕ) → b < 256
     → bit_of (bit_or (slice_index v 0) (slice_index w 0) ∷ bit_or (slice_index v 1) (slice_index w 1) ∷ bit_or (slice_index v 2) (slice_index w 2) ∷ bit_or
-        (slice_index v 3) (slice_index w 3) ∷ []) b
+    (slice_index v 3) (slice_index w 3) ∷ []) b
     ≡ (bit_of v b || bit_of w b)
 unfolding bit_of
 bits-or v w b h =
     by_bit
     (λ i r. (bit_at (slice_index (bit_or (slice_index v 0) (slice_index w 0) ∷ bit_or (slice_index v 1) (slice_index w 1) ∷ bit_or (slice_index v 2)
-        (slice_index w 2) ∷ bit_or (slice_index v 3) (slice_index w 3) ∷ []) i) r == 1)
+    (slice_index w 2) ∷ bit_or (slice_index v 3) (slice_index w 3) ∷ []) i) r == 1)
     ≡ ((bit_at (slice_index v i) r == 1) || (bit_at (slice_index w i) r == 1)))
     (λ r h. or_bit (slice_index v 0) (slice_index w 0) r) (λ r h. or_bit (slice_index v 1) (slice_index w 1) r)
     (λ r h. or_bit (slice_index v 2) (slice_index w 2) r) (λ r h. or_bit (slice_index v 3) (slice_index w 3) r) b h
@@ -104,13 +104,13 @@ not_bit v r small h =
 
 pub bits-not : (v : List ℕ) → ((i : ℕ) → i < 4 → slice_index v i < 2 ^ 64) → (b : ℕ) → b < 256
     → bit_of ((18446744073709551615 - slice_index v 0) ∷ (18446744073709551615 - slice_index v 1) ∷ (18446744073709551615 - slice_index v 2) ∷
-        (18446744073709551615 - slice_index v 3) ∷ []) b
+    (18446744073709551615 - slice_index v 3) ∷ []) b
     ≡ not (bit_of v b)
 unfolding bit_of
 bits-not v small b h =
     by_bit
     (λ i r. (bit_at (slice_index ((18446744073709551615 - slice_index v 0) ∷ (18446744073709551615 - slice_index v 1) ∷
-        (18446744073709551615 - slice_index v 2) ∷ (18446744073709551615 - slice_index v 3) ∷ []) i) r == 1)
+    (18446744073709551615 - slice_index v 2) ∷ (18446744073709551615 - slice_index v 3) ∷ []) i) r == 1)
     ≡ not (bit_at (slice_index v i) r == 1))
     (λ r h. not_bit (slice_index v 0) r (small 0 (omega arith)) h) (λ r h. not_bit (slice_index v 1) r (small 1 (omega arith)) h)
     (λ r h. not_bit (slice_index v 2) r (small 2 (omega arith)) h) (λ r h. not_bit (slice_index v 3) r (small 3 (omega arith)) h) b h
@@ -170,9 +170,9 @@ bits-insert v b c long small =
     elim (cases_eq (c / 64) (b / 64)) [
       | inl e ↦
           subst (λ i. (bit_at (get_or (set v (b / 64) (bit_or (get_or v (b / 64) 0) (1 * 2 ^ (b % 64) % 2 ^ 64))) i 0) (c % 64) == 1)
-              ≡ ((bit_at (get_or v i 0) (c % 64) == 1) || (nat_le b c && nat_le c b))) (sym e)
+          ≡ ((bit_at (get_or v i 0) (c % 64) == 1) || (nat_le b c && nat_le c b))) (sym e)
           (set_here v (b / 64) (b % 64) within (omega arith) (c % 64) ∙ ap (λ k. (bit_at (get_or v (b / 64) 0) (c % 64) == 1) || k) (same_place b c (sym e)
-              ∙ sym (one_byte b c)))
+          ∙ sym (one_byte b c)))
       | inr n ↦
           ap (λ w. bit_at w (c % 64) == 1) (get_or-set_other v (b / 64) (c / 64) _ 0 n)
           ∙ sym (or_false _ _ (one_byte b c ∙ ne_eqb c b (λ e. n (ap (λ k. k / 64) e))))

@@ -126,9 +126,15 @@ lists_exactly t P k gives needs = record {
 pub table_of_links : (e : Expression) (count : ℕ) → class_count e ≡ count → (nil : Bool) → nil ≡ nullable e → (first last : List ℕ) (rows : List (List ℕ))
     → length rows ≡ count
     → ((p : ℕ) → has first p ≡ firsts 0 e p) → ((p : ℕ) → has last p ≡ lasts 0 e p)
-        → ((q p : ℕ) → q < count → has (slice_index_or rows q []) p ≡ follows 0 e q p)
-    → ArePositionsOf e (record { nullable = nil; first = filter (has first) (numbers_from 0 count); last = filter (has last) (numbers_from 0 count); follow =
-        map (λ r. filter (has r) (numbers_from 0 count)) rows; classes = classes_of e })
+    → ((q p : ℕ) → q < count → has (slice_index_or rows q []) p ≡ follows 0 e q p)
+    → ArePositionsOf e (record {
+      nullable = nil;
+      first = filter (has first) (numbers_from 0 count);
+      last = filter (has last) (numbers_from 0 count);
+      follow =
+          map (λ r. filter (has r) (numbers_from 0 count)) rows;
+      classes = classes_of e;
+    })
 table_of_links e count fits nil is first last rows long f l r = record {
   classes = refl;
   nullable = ((λ h. from-nullable 0 e (sym is ∙ h)), (λ h. is ∙ nullable-true 0 e h));
@@ -205,8 +211,12 @@ last-numbers (x ∷ f) p n (suc k) e = let a : f ++ p ∷ [] ≡ numbers_from (s
 split-numbers : (n q k : ℕ) → suc q < k → (f : List ℕ) × (r : List ℕ) × (f ++ (n + q) ∷ (n + suc q) ∷ r ≡ numbers_from n k)
 split-numbers n q zero h = absurd (omega arith)
 split-numbers n q (suc zero) h = absurd (omega arith)
-split-numbers n zero (suc (suc k)) h = ([], numbers_from (suc (suc n)) k, let a : n + 0 ≡ n = omega arith in let b : n + suc 0 ≡ suc n =
-    omega arith in rw (a, b) refl)
+split-numbers n zero (suc (suc k)) h = (
+  [],
+  numbers_from (suc (suc n)) k,
+  let a : n + 0 ≡ n = omega arith in let b : n + suc 0 ≡ suc n =
+      omega arith in rw (a, b) refl,
+)
 split-numbers n (suc q) (suc (suc k)) h =
     let m = split-numbers (suc n) q (suc k) (omega arith) in
     let a : n + suc q ≡ suc n + q = omega arith in let b : n + suc (suc q) ≡ suc n + suc q = omega arith in
@@ -245,14 +255,23 @@ next_row m q true e =
     let s = split-numbers 0 q (suc m) within in
     let a : 0 + q ≡ q = omega arith in let b : 0 + suc q ≡ q + 1 = omega arith in
     lists_one (q + 1) (Succeeds (InTurn m) q) (s.0, s.1, sym (ap2 (λ x y. s.0 ++ x ∷ y ∷ s.1) a b) ∙ s.2)
-        (λ p h. sym (pair-numbers h.0 q p h.1 0 (suc m) h.2).0)
+    (λ p h. sym (pair-numbers h.0 q p h.1 0 (suc m) h.2).0)
 next_row m q false e =
-    lists_none (Succeeds (InTurn m) q) (λ p h. let k = pair-numbers h.0 q p h.1 0 (suc m) h.2 in false≢true (e ∙ lt-ltb (q + 1) (suc m) (omega (arith, k.0,
-        k.1))))
+    lists_none (Succeeds (InTurn m) q) (λ p h. let k = pair-numbers h.0 q p h.1 0 (suc m) h.2 in false≢true (e ∙ lt-ltb (q + 1) (suc m) (omega (
+      arith,
+      k.0,
+      k.1,
+    ))))
 
 literal_table : (m : ℕ) (sets : List (List ℕ)) → length sets ≡ suc m
-    → IsTableOf (InTurn m) sets (record { nullable = false; first = 0 ∷ []; last = m ∷ []; follow = map (next_below (suc m)) (numbers_from 0 (suc m)); classes =
-        sets })
+    → IsTableOf (InTurn m) sets (record {
+      nullable = false;
+      first = 0 ∷ [];
+      last = m ∷ [];
+      follow = map (next_below (suc m)) (numbers_from 0 (suc m));
+      classes =
+          sets;
+    })
 literal_table m sets long = record {
   classes = refl;
   nullable = ((λ h. absurd (false≢true h)), (λ h. absurd (no_cons (sym h))));
@@ -283,7 +302,7 @@ pub rows_from_none : (before rows : List (List ℕ)) (count : ℕ) (e : Expressi
     → (q p : ℕ) → q < count → has (slice_index_or rows q []) p ≡ follows 0 e q p
 rows_from_none before rows count e is step q p h =
     step q p (omega (arith, ap length is ∙ length-replicate count [])) ∙ ap (λ b. b || follows 0 e q p) (ap (λ r. has (slice_index_or r q []) p) is
-        ∙ row_of_none count q p)
+    ∙ row_of_none count q p)
 
 -- what is computed, list by list, is the table of the expression
 pub table_is : (e : Expression) (count : ℕ) → class_count e ≡ count → (nil : Bool) → nil ≡ nullable e → (fs ls : List ℕ) (rows : List (List ℕ))
@@ -291,7 +310,7 @@ pub table_is : (e : Expression) (count : ℕ) → class_count e ≡ count → (n
     → ((p : ℕ) → has fs p ≡ firsts 0 e p) → ((p : ℕ) → has ls p ≡ lasts 0 e p) → ((q p : ℕ) → q < count → has (slice_index_or rows q []) p ≡ follows 0 e q p)
     → (first last : List ℕ) (follow sets : List (List ℕ))
     → first ≡ filter (has fs) (numbers_from 0 count) → last ≡ filter (has ls) (numbers_from 0 count)
-        → follow ≡ map (λ r. filter (has r) (numbers_from 0 count)) rows → sets ≡ classes_of e
+    → follow ≡ map (λ r. filter (has r) (numbers_from 0 count)) rows → sets ≡ classes_of e
     → ArePositionsOf e (record { nullable = nil; first = first; last = last; follow = follow; classes = sets })
 table_is e count fits nil is fs ls rows long f l r first last follow sets e1 e2 e3 e4 =
     rw (e1, e2, e3, e4) (table_of_links e count fits nil is fs ls rows long f l r)

@@ -84,8 +84,13 @@ is_nil (x ∷ xs) = false
 
 -- the findings after a piece that begins at this offset, inside so many parentheses
 abbrev pub noted_piece : Piece → (depth at : ℕ) → Findings → Findings
-noted_piece (OneOf set) depth at f = record { classes = f.classes + 1; empty = first_offset f.empty (is_nil set) at; deep = f.deep; many =
-    first_offset f.many (nat_le POSITION_LIMIT f.classes) at }
+noted_piece (OneOf set) depth at f = record {
+  classes = f.classes + 1;
+  empty = first_offset f.empty (is_nil set) at;
+  deep = f.deep;
+  many =
+      first_offset f.many (nat_le POSITION_LIMIT f.classes) at;
+}
 noted_piece Open depth at f = record { classes = f.classes; empty = f.empty; deep = first_offset f.deep (nat_le DEPTH_LIMIT depth) at; many = f.many }
 noted_piece Close depth at f = f
 noted_piece Bar depth at f = f

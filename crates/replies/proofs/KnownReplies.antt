@@ -23,7 +23,7 @@ use Rattle.replies.proofs.TokenKinds.{known_tokens}
 named_left : (grammar : Grammar) (symbol : SymbolId) → IsWellFormed grammar → IsNonterminal grammar.rules symbol → IsNamed grammar.symbols symbol
 named_left grammar symbol formed left =
     subst (IsNamed grammar.symbols) left.2 (subst (λ r. IsNamed grammar.symbols r.left) left.1.2
-        (All-from_recursion (λ r. IsNamed grammar.symbols r.left) grammar.rules formed.lefts left.1.0 left.0 left.1.1))
+    (All-from_recursion (λ r. IsNamed grammar.symbols r.left) grammar.rules formed.lefts left.1.0 left.0 left.1.1))
 
 named_within : (grammar : Grammar) (tokens : List SymbolId) (symbol : SymbolId) (i j : ℕ) → IsWellFormed grammar → InForest grammar.rules tokens symbol i j
     → IsNamed grammar.symbols symbol

@@ -150,11 +150,11 @@ no_left_side grammar kind formed (literal symbol, is) left =
     let live = literal_is grammar symbol kind is in
     let is_named = at_each (λ r. IsNamed grammar.symbols r.left) grammar.rules left.0 formed.lefts left.1 in
     let name_at : symbol_at grammar.symbols left.0.left ≡ Named is_named.0 = get_or_from_slice_get grammar.symbols left.0.left.0 (Named is_named.0)
-        (Named []) is_named.1 in
+    (Named []) is_named.1 in
     let literal_at : symbol_at grammar.symbols symbol ≡ Literal (symbol_bytes (symbol_at grammar.symbols symbol)) =
-        as_literal (symbol_at grammar.symbols symbol) (and_parts _ _ live.0).0 in
+    as_literal (symbol_at grammar.symbols symbol) (and_parts _ _ live.0).0 in
     let both : Named is_named.0 ≡ Literal (symbol_bytes (symbol_at grammar.symbols symbol)) = sym name_at ∙ ap (symbol_at grammar.symbols) (left.2 ∙ sym live.1)
-        ∙ literal_at in
+    ∙ literal_at in
     cc both
 no_left_side grammar kind formed (named number, is) left = name_has grammar (λ name. IsNonterminal grammar.rules name → ⊥) number kind formed.apart is left
 
@@ -164,7 +164,7 @@ pub known_tokens : (grammar : Grammar) (text : List ℕ) (found : List Token) �
     → AreKnownTokens grammar.symbols found
 known_tokens grammar text found formed is token has =
     known_kind grammar token.kind formed (at_each (λ t. HasDefinition grammar t.kind) found token (are_defined grammar 0 TOKEN_LIMIT text
-        (tokens found) is) has)
+    (tokens found) is) has)
 
 kind_in : (grammar : Grammar) (found : List Token) (kind : SymbolId) → AllByRecursion (λ token. HasDefinition grammar token.kind) found
     → Contains (kinds_of found) kind → HasDefinition grammar kind

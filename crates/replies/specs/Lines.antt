@@ -79,7 +79,7 @@ no_sentence_line version = head (codes "parse") version ++ codes " no sentence\n
 unfoldable pub node_count_line : ℕ → List Node → List ℕ
 node_count_line version nodes =
     head (codes "parse") version ++ codes " forest " ++ decimal (length nodes) ++ codes " nodes " ++ decimal (sum_by (λ node. length node.splits) nodes)
-        ++ codes " splits\n"
+    ++ codes " splits\n"
 
 -- a forest
 abbrev pub forest_text : List Symbol → ℕ → List Node → List ℕ

@@ -81,4 +81,4 @@ pub data AreReplies : Grammar → List Block → List ℕ → Type 0 where
   none : {grammar : Grammar} → AreReplies grammar [] []
   more : {grammar : Grammar} {command : Command} {blocks : List Block} {reply : Reply} {replies : List ℕ} →
       IsReply grammar command reply → AreReplies (grammar_after grammar command) blocks replies
-          → AreReplies grammar (Alone command ∷ blocks) (reply_text grammar.symbols reply ++ replies)
+      → AreReplies grammar (Alone command ∷ blocks) (reply_text grammar.symbols reply ++ replies)

@@ -45,11 +45,11 @@ short_expression (AddRule rule) within = tt
 short_expression (DropRule rule) within = tt
 short_expression (AddToken definition) within =
     let all : length (spaced definition.expression) ≤ 248 = last_part (codes "token") (spaced definition.name) (spaced (codes "="))
-        (spaced definition.expression) 248 within.text in
+    (spaced definition.expression) 248 within.text in
     omega arith
 short_expression (DropToken name) within = tt
 short_expression (AddSkip definition) within =
     let all : length (spaced definition.expression) ≤ 248 = last_part (codes "skip") (spaced definition.name) (spaced (codes "="))
-        (spaced definition.expression) 248 within.text in
+    (spaced definition.expression) 248 within.text in
     omega arith
 short_expression (DropSkip name) within = tt

@@ -83,8 +83,10 @@ past_bad before line after old read last kind (more {new = x} {line = l} {lines 
 
 pub not_both : (bytes : List ℕ) (script : Script) (bad : BadScript) → SpellsScript bytes script → IsFirstBad bytes bad → ⊥
 not_both bytes script bad spelled (at_line {kind = kind} before after line read cut good is) =
-    past_bad before line after nothing read (record { blocks = script.blocks }) kind good (subst (λ lines. TakesAll nothing lines (record { blocks =
-        script.blocks })) cut spelled) is
+    past_bad before line after nothing read (record { blocks = script.blocks }) kind good (subst (λ lines. TakesAll nothing lines (record {
+      blocks =
+          script.blocks;
+    })) cut spelled) is
 
 -- a script is its blocks
 abbrev script_with : List Block → Script
@@ -92,8 +94,10 @@ script_with blocks = record { blocks = blocks }
 
 pub one_script : (bytes : List ℕ) (a b : Script) → SpellsScript bytes a → SpellsScript bytes b → a ≡ b
 one_script bytes a b p q =
-    let same : a.blocks ≡ b.blocks = ap (λ (read : Read). read.blocks) (one_last (lines_of bytes) nothing (record { blocks = a.blocks }) (record { blocks =
-        b.blocks }) p q) in
+    let same : a.blocks ≡ b.blocks = ap (λ (read : Read). read.blocks) (one_last (lines_of bytes) nothing (record { blocks = a.blocks }) (record {
+      blocks =
+          b.blocks;
+    }) p q) in
     ap script_with same
 
 -- ---- bad lines

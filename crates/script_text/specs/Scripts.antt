@@ -64,7 +64,7 @@ pub data IsBad : Read → List ℕ → BadKind → Type 0 where
 pub data IsFirstBad : List ℕ → BadScript → Type 0 where
   at_line : {bytes : List ℕ} {kind : BadKind} (before after : List (List ℕ)) (line : List ℕ) (read : Read) →
       lines_of bytes ≡ before ++ line ∷ after → TakesAll nothing before read → IsBad read line kind
-          → IsFirstBad bytes (record { line = length before + 1; kind = kind })
+      → IsFirstBad bytes (record { line = length before + 1; kind = kind })
 
 -- why a script was not read: this is its first bad line, or memory ran out
 abbrev pub IsScriptError : List ℕ → ScriptError → Type 0

@@ -58,7 +58,7 @@ told_same told bytes script known is = subst (λ t. IsKnownAs t bytes) is known
 pub ends_by : (told : Option (List ℕ)) (bytes script : List ℕ) (end : Status) → IsKnownAs told bytes → told ≡ Some script → length bytes ≤ SCRIPT_LIMIT
     → IsLate end
     → (end ≡ Done → (read : Script) × SpellsScript bytes read) → (end ≡ BadScript → (line : ABadScript) × IsFirstBad bytes line) → (end ≡ WriteFault → ⊥)
-        → EndsBy script end
+    → EndsBy script end
 ends_by told bytes script end known is short late is_done is_bad_script no_fault =
     subst (λ s. EndsBy s end) (sym (told_same told bytes script known is)) (ends_so bytes end short late is_done is_bad_script no_fault)
 

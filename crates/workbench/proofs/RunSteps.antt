@@ -57,12 +57,12 @@ answered_more old new first (Alone command) grammar next out appended so_far ans
   taken = so_far.taken;
   replies =
       let all = AreReplies-push empty_grammar first command (so_far.written ++ out) answers.reply so_far.replies
-          (subst (λ g. IsReply g command answers.reply) so_far.same answers.is) in
+      (subst (λ g. IsReply g command answers.reply) so_far.same answers.is) in
       let text : reply_text (grammar_after_all empty_grammar first).symbols answers.reply ≡ reply_text grammar.symbols answers.reply =
-          ap (λ (g : Grammar). reply_text g.symbols answers.reply) (sym so_far.same) in
+      ap (λ (g : Grammar). reply_text g.symbols answers.reply) (sym so_far.same) in
       subst (AreReplies empty_grammar (first ++ Alone command ∷ []))
       (ap (λ t. (so_far.written ++ out) ++ t) text ∙ append_assoc so_far.written out (reply_text grammar.symbols answers.reply) ∙ ap (λ bytes. so_far.written
-          ++ bytes) (sym answers.appended)) all;
+      ++ bytes) (sym answers.appended)) all;
   same = next-is ∙ ap (λ g. grammar_after g command) so_far.same ∙ sym (grammar_after_all-push empty_grammar first (Alone command));
 }
 

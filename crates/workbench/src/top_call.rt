@@ -111,7 +111,8 @@ fn run_script<K: Sink>(alloc: Global, script: &[u8], sink: &mut K) -> Status
     requires { length script.now ≤ SCRIPT_LIMIT }
     ensures late { IsLate result }
     ensures done { result ≡ Status.Done → (read : AScript) × SpellsScript script.now read × AnswersAll (K.taken sink.old) (K.taken sink.new) read.blocks }
-    ensures bad_script { result ≡ Status.BadScript → (bad : ABadScript) × IsFirstBad script.now bad × Takes (K.taken sink.old) (K.taken sink.new) (bad_line bad) }
+    ensures bad_script { result ≡ Status.BadScript → (bad : ABadScript) × IsFirstBad script.now bad
+        × Takes (K.taken sink.old) (K.taken sink.new) (bad_line bad) }
     ensures write_fault { result ≡ Status.WriteFault
         → HasRisen (K.faults sink.old) (K.faults sink.new) }
     ensures stopped { result ≡ Status.WriteFault → StopsInOutput (K.taken sink.old) (K.taken sink.new) script.now }

@@ -19,7 +19,7 @@ returns-then-not-is_line c =
     let words = c.args.words.now in
     let same : c.deref.result.now ≡ text_in words = c.deref.ensures.value ∙ c.in_ok-text.ensures in
     let a = ended_line words (fits words c.if-len-gt-TEXT_LIMIT.false)
-        (is_no_line c.deref.result.now (text_in words) c.is_line.result c.if-not-is_line.true c.is_line.ensures same) in
+    (is_no_line c.deref.result.now (text_in words) c.is_line.result c.if-not-is_line.true c.is_line.ensures same) in
     record { found = a.found; only = a.only; exact = a.exact; refused = a.refused }
 
 pub returns-in_err-edit : goal.returns-in_err-edit
@@ -27,9 +27,9 @@ returns-in_err-edit c =
     let words = c.args.words.now in
     let why = c.in_err-edit.field-0.0 in
     let line = is_a_line c.deref.result.now (text_in words) c.is_line.result c.if-not-is_line.false c.is_line.ensures (c.deref.ensures.value
-        ∙ c.in_ok-text.ensures) in
+    ∙ c.in_ok-text.ensures) in
     let read = subst (λ (text : List ℕ). reading.IsRefusal why (reading.edit_of text)) (c.deref-2.ensures.value
-        ∙ c.in_ok-text.ensures) c.in_err-edit.ensures.exact in
+    ∙ c.in_ok-text.ensures) c.in_err-edit.ensures.exact in
     let a = unread words why c.from_residual-in_err-edit.result (fits words c.if-len-gt-TEXT_LIMIT.false) line read c.from_residual-in_err-edit.ensures.1 in
     record { found = a.found; only = a.only; exact = a.exact; refused = a.refused }
 

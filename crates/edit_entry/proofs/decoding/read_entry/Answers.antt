@@ -31,5 +31,5 @@ read_edit-requires-clause-one_line c =
 pub returns-in-Ok : goal.returns-in-Ok
 returns-in-Ok c edit sound is =
     let reads : reading.edit_of (text_in c.args.words.now) ≡ Ok c.in-Ok.edit =
-        sym (ap (λ text. reading.edit_of text) (c.deref.ensures.value ∙ c.in_ok-text.ensures)) ∙ c.in-Ok.ensures.exact in
+    sym (ap (λ text. reading.edit_of text) (c.deref.ensures.value ∙ c.in_ok-text.ensures)) ∙ c.in-Ok.ensures.exact in
     ok_same c.in-Ok.edit edit (sym reads ∙ entry_reads c.args.words.now edit sound is)

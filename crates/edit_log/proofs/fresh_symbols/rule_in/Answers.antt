@@ -13,6 +13,6 @@ returns-clause-numbered c =
     let same : c.in_ok-clone.field-0 ≡ c.args.text.now.left = search rules in
     let grown : symbols ≡ with_symbols middle right = c.in_ok-right.ensures.grown ∙ ap (with_symbols middle) c.as_slice.ensures in
     let numbers : c.from_vec.result ≡ map (number_of symbols) right = c.from_vec.ensures ∙ c.in_ok-right.ensures.numbers ∙ ap
-        (map (number_of symbols)) c.as_slice.ensures in
+    (map (number_of symbols)) c.as_slice.ensures in
     rule_numbered (known ++ symbols_in c.args.fresh.now.items) middle symbols c.args.text.now c.in_ok-clone.field-0 c.args.number c.in_ok-left.left
-        c.from_vec.result same c.in_ok-left.ensures.grown c.in_ok-left.ensures.number grown numbers
+    c.from_vec.result same c.in_ok-left.ensures.grown c.in_ok-left.ensures.number grown numbers

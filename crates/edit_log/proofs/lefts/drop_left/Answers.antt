@@ -25,14 +25,17 @@ returns-clause-lists c = λ place.
     let old = under (lefts_in rows) left in
     let within = under_within (lefts_in rows) left number c.requires.there in
     let row = c.index_mut-row.result.now in
-    let same : old ≡ row.rules.items = under_get (lefts_in rows) left row.rules (column_get (λ (row : Row). row.rules) rows left row (omega (arith, within,
-        length-map rows (λ (row : Row). row.rules))) c.index_mut-row.ensures.value) in
+    let same : old ≡ row.rules.items = under_get (lefts_in rows) left row.rules (column_get (λ (row : Row). row.rules) rows left row (omega (
+      arith,
+      within,
+      length-map rows (λ (row : Row). row.rules),
+    )) c.index_mut-row.ensures.value) in
     let at : slice_get old c.place_of-place.result ≡ Some number = ap (λ (xs : List RuleId). slice_get xs c.place_of-place.result)
-        (same ∙ sym c.deref.ensures.value) ∙ c.place_of-place.ensures in
+    (same ∙ sym c.deref.ensures.value) ∙ c.place_of-place.ensures in
     let apart = sorted_keys (λ (n : RuleId). n.0) old (sorted_from_increasing (λ (n : RuleId). n.0) old c.requires.ascends) in
     let items : c.remove.new.self.items ≡ filter (λ n. not (n.0 == number.0)) old =
     c.remove.ensures.items ∙ ap (λ (xs : List RuleId). remove xs c.place_of-place.result) (sym same) ∙ removed
-        (λ (n : RuleId). n.0) old c.place_of-place.result number apart at in
+    (λ (n : RuleId). n.0) old c.place_of-place.result number apart at in
     ap (λ (ls : List (Vec RuleId Global)). under ls place) (map-set (λ (row : Row). row.rules) rows left _)
     ∙ under_changed (lefts_in rows) left c.remove.new.self (λ numbers. filter (λ n. not (n.0 == number.0)) numbers) within items place
 

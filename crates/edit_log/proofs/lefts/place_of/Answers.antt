@@ -8,7 +8,7 @@ unreachable-requires c =
     let numbers = c.args.numbers.now in
     let sorted = sorted_from_increasing (λ (n : RuleId). n.0) numbers c.requires.ascends in
     let h = there_found (λ (n : RuleId). n.0) numbers sorted c.args.number.0 c.binary_search.result c.args.number c.requires.there refl
-        c.binary_search.ensures.position in
+    c.binary_search.ensures.position in
     let not = c.in-Err.is in
     absurd cc
 
@@ -17,4 +17,4 @@ returns c =
     let numbers = c.args.numbers.now in
     let sorted = sorted_from_increasing (λ (n : RuleId). n.0) numbers c.requires.ascends in
     there_at (λ (n : RuleId). n.0) numbers sorted c.args.number.0 c.in-Ok.place c.args.number c.requires.there refl c.in-Ok.ensures.bound
-        c.in-Ok.ensures.position
+    c.in-Ok.ensures.position

@@ -12,7 +12,7 @@ use Rattle.edit_log.proofs.lefts.push_left.Goals as goal
 pub push_reserved-requires : goal.push_reserved-requires
 push_reserved-requires c =
     c.requires.room c.index_mut.result.now.rules (column_get (λ (row : Row). row.rules) c.args.rows.now.items c.args.left.0 c.index_mut.result.now
-        c.requires.within c.index_mut.ensures.value)
+    c.requires.within c.index_mut.ensures.value)
 
 pub returns-clause-lists : goal.returns-clause-lists
 returns-clause-lists c = λ place.
@@ -20,10 +20,10 @@ returns-clause-lists c = λ place.
     let left = c.args.left.0 in
     let new = c.push_reserved.new.self in
     let read = under_get (lefts_in rows) left c.index_mut.result.now.rules
-        (column_get (λ (row : Row). row.rules) rows left c.index_mut.result.now c.requires.within c.index_mut.ensures.value) in
+    (column_get (λ (row : Row). row.rules) rows left c.index_mut.result.now c.requires.within c.index_mut.ensures.value) in
     ap (λ (ls : List (Vec RuleId Global)). under ls place) (map-set (λ (row : Row). row.rules) rows left _)
     ∙ under_changed (lefts_in rows) left new (λ (numbers : List RuleId). numbers ++ c.args.number ∷ [])
-        (omega (arith, c.requires.within, length-map rows (λ (row : Row). row.rules)))
+    (omega (arith, c.requires.within, length-map rows (λ (row : Row). row.rules)))
     (c.push_reserved.ensures.items ∙ ap (λ (numbers : List RuleId). numbers ++ c.args.number ∷ []) (sym read)) place
 
 pub returns-clause-uses : goal.returns-clause-uses

@@ -9,10 +9,10 @@ pub returns-in-Ok : goal.returns-in-Ok
 returns-in-Ok c = λ sorted.
     let position = c.in-Ok.ensures.position (λ (y : DefId). definition_cmp y c.args.definition) (always_returns_same _ _ _ (λ a r f h. search rules)) in
     rw c.remove.ensures.items (take_there c.args.live.now.items c.args.definition sorted c.in-Ok.place (rw c.deref.ensures.value at c.in-Ok.ensures.bound)
-        (rw c.deref.ensures.value at position))
+    (rw c.deref.ensures.value at position))
 
 pub returns-in-Err : goal.returns-in-Err
 returns-in-Err c = λ sorted.
     let position = c.in-Err.ensures.position (λ (y : DefId). definition_cmp y c.args.definition) (always_returns_same _ _ _ (λ a r f h. search rules)) in
     take_none c.args.live.now.items c.args.definition sorted c.in-Err.field-0 (rw c.deref.ensures.value at c.in-Err.ensures.bound)
-        (rw c.deref.ensures.value at position)
+    (rw c.deref.ensures.value at position)

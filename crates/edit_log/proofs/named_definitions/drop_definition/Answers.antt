@@ -27,4 +27,4 @@ returns-in_default c =
     let definitions = c.args.definitions.now.items in
     let tells = subst (Tells c.args.number c.place_of.result) c.deref.ensures.value c.place_of.ensures in
     nothing_removed (λ (live : NamedDefinition). live.number.0) c.args.number.0 definitions
-        (none_in (has c.args.number) definitions c.place_of.result c.in_default.is tells)
+    (none_in (has c.args.number) definitions c.place_of.result c.in_default.is tells)

@@ -14,4 +14,4 @@ returns c =
     let position = answer.position (λ (live : NamedDefinition). nat_cmp live.number.0 c.args.number.0) (always_returns_same _ _ _ (λ a r f h. search rules)) in
     let sorted = sorted_map seen_of (λ (d : Definition). d.number.0) definitions c.requires in
     rw c.ok.ensures.value (searched (λ (live : NamedDefinition). live.number.0) definitions sorted c.args.number.0 c.binary_search_by-found.result answer.bound
-        position)
+    position)

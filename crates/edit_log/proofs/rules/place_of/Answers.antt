@@ -15,4 +15,4 @@ returns c =
     let sorted = subst (λ (rules : List Rule). IsStrictlySortedBy rule_cmp rules) (sym c.as_slice.ensures) c.args.rules.now.ascending in
     let h = searched (λ (r : Rule). r.number.0) c.as_slice.result.now sorted c.args.number.0 c.binary_search_by-found.result answer.bound position in
     rw c.ok.ensures.value (subst (λ (rules : List Rule). option_map (λ place. slice_get rules place) (result_ok c.binary_search_by-found.result)
-        ≡ option_map Some (find (λ r. r.number.0 == c.args.number.0) rules)) c.as_slice.ensures h)
+    ≡ option_map Some (find (λ r. r.number.0 == c.args.number.0) rules)) c.as_slice.ensures h)

@@ -17,7 +17,7 @@ has number r = r.number.0 == number.0
 pub returns-in_default-clause-rules : goal.returns-in_default-clause-rules
 returns-in_default-clause-rules c =
     nothing_removed (λ (r : Rule). r.number.0) c.args.number.0 c.args.rules.rules
-        (none_in (has c.args.number) c.args.rules.rules c.place_of.result c.in_default.is c.place_of.ensures)
+    (none_in (has c.args.number) c.args.rules.rules c.place_of.result c.in_default.is c.place_of.ensures)
 
 pub remove-gone-requires : goal.remove-gone-requires
 remove-gone-requires c =
@@ -35,8 +35,10 @@ kept c =
 
 pub invariant_of-rules : goal.invariant_of-rules
 invariant_of-rules c =
-    record { ascending = subst (IsStrictlySortedBy rule_cmp) (sym (kept c)) (IsStrictlySortedBy-filter rule_cmp
-        (λ r. not (has c.args.number r)) c.args.rules.rules c.args.rules.ascending) }
+    record {
+      ascending = subst (IsStrictlySortedBy rule_cmp) (sym (kept c)) (IsStrictlySortedBy-filter rule_cmp
+          (λ r. not (has c.args.number r)) c.args.rules.rules c.args.rules.ascending);
+    }
 
 pub returns-clause-rules : goal.returns-clause-rules
 returns-clause-rules c = kept (goal.at.returns-clause-rules c).After-from_vec
@@ -48,4 +50,4 @@ returns-clause-gone c =
     let gone = c.remove-gone.result in
     let h = found_in (has c.args.number) rules c.place_of.result place c.in-Some.is c.place_of.ensures in
     ap Some (c.remove-gone.ensures.value ∙ ap (λ items. get_or items place gone) c.into_vec-rules.ensures ∙ get_or_from_slice_get rules place h.item gone h.at)
-        ∙ sym h.found
+    ∙ sym h.found

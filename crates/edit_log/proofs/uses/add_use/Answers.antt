@@ -23,10 +23,10 @@ returns-then-is_used-clause-live c = λ numbers lists.
     let new = uses_in c.count_more.new.rows.items in
     let changes = use_changes rows new c.args.symbol (m + 1) c.requires.within c.count_more.ensures.uses in
     let used : IsUsed c.count_more.new.rows.items c.args.symbol 1 = subst (λ (rs : List Row). IsUsed rs c.args.symbol 1) c.deref.ensures.value
-        (c.is_used.ensures.0 c.if-is_used.true) in
+    (c.is_used.ensures.0 c.if-is_used.true) in
     let has : HasLiteral (literals_in rows) place = subst (λ (ls : List (Option Table)). HasLiteral ls place) c.count_more.ensures.literals used.0 in
     live_started (literals_in rows) numbers c.args.symbol (uses_in rows) new m (m + 1) c.args.live.now.items c.insert.new.live.items changes has
-        (omega arith) lists (c.insert.ensures.live lists.order)
+    (omega arith) lists (c.insert.ensures.live lists.order)
 
 pub returns-else-is_used-clause-live : goal.returns-else-is_used-clause-live
 returns-else-is_used-clause-live c = λ numbers lists.
@@ -37,5 +37,5 @@ returns-else-is_used-clause-live c = λ numbers lists.
     let changes = use_changes rows new c.args.symbol (m + 1) c.requires.within c.count_more.ensures.uses in
     live_more (literals_in rows) numbers c.args.symbol (uses_in rows) new m c.args.live.now.items changes
     (λ (has, at). let used = c.is_used.ensures.1 (subst (λ (rs : List Row). IsUsed rs c.args.symbol 1) (sym c.deref.ensures.value)
-        (subst (λ (ls : List (Option Table)). HasLiteral ls place) (sym c.count_more.ensures.literals) has, at)) in absurd (let never : false ≡ true =
-        sym c.if-is_used.false ∙ used in cc)) lists
+    (subst (λ (ls : List (Option Table)). HasLiteral ls place) (sym c.count_more.ensures.literals) has, at)) in absurd (let never : false ≡ true =
+    sym c.if-is_used.false ∙ used in cc)) lists

@@ -23,7 +23,7 @@ add_use-requires-clause-few c =
     let within : part.0 < length c.args.rows.now.items = c.requires.within part (Contains-get_or right i (record { 0 = 0 }) (omega arith)) in
     let placed : part.0 < length uses = omega (arith, within, length-map c.args.rows.now.items (λ (row : Row). row.uses)) in
     let same = count_now (λ n. n + occurrences (record { 0 = part.0 }) (take i right)) uses (uses_in c.loop-part.rows.items) part.0
-        (c.loop-part.invariant.counts part.0) placed in
+    (c.loop-part.invariant.counts part.0) placed in
     omega (arith, same, counted_at_most (record { 0 = part.0 }) right i, c.requires.few part.0)
 
 pub loop-part-preserved : goal.loop-part-preserved
@@ -39,6 +39,6 @@ loop-part-preserved c =
       live = λ numbers lists.
           subst (λ ls. ListsDefinitions (IsLiveBy ls (uses_in c.add_use.new.rows.items) numbers) c.add_use.new.live.items) so_far.literals
           (c.add_use.ensures.live numbers (subst (λ ls. ListsDefinitions (IsLiveBy ls (uses_in c.loop-part.rows.items) numbers) c.loop-part.live.items)
-              (sym so_far.literals) (so_far.live numbers lists)));
+          (sym so_far.literals) (so_far.live numbers lists)));
       room = omega (arith, c.add_use.ensures.room);
     }

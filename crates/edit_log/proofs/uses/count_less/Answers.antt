@@ -11,7 +11,7 @@ returns-clause-uses c =
     let place = c.args.symbol.0 in
     map-set (λ (row : Row). row.uses) rows place _
     ∙ ap (λ (n : ℕ). set (uses_in rows) place (n - 1)) (sym (column_at (λ (row : Row). row.uses) rows place c.index_mut.result.now 0 c.requires.within
-        c.index_mut.ensures.value))
+    c.index_mut.ensures.value))
 
 pub returns-clause-lefts : goal.returns-clause-lefts
 returns-clause-lefts c = column_stays (λ (row : Row). row.rules) c.args.rows.now.items c.args.symbol.0 c.index_mut.result.now _ c.index_mut.ensures.value refl

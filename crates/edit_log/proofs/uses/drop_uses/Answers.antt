@@ -24,7 +24,7 @@ drop_use-requires-clause-some c =
     let within : part.0 < length c.args.rows.now.items = c.requires.within part (Contains-get_or right i (record { 0 = 0 }) (omega arith)) in
     let placed : part.0 < length uses = omega (arith, within, length-map c.args.rows.now.items (λ (row : Row). row.uses)) in
     let same = count_now (λ n. n - occurrences (record { 0 = part.0 }) (take i right)) uses (uses_in c.loop-part.rows.items) part.0
-        (c.loop-part.invariant.counts part.0) placed in
+    (c.loop-part.invariant.counts part.0) placed in
     let more = counted_more (record { 0 = part.0 }) right i (record { 0 = 0 }) (omega arith) in
     let one = counted_one part part.0 refl in
     let few = c.requires.some part.0 (get_or uses part.0 0) (slice_get-get_or uses part.0 0 placed) in
@@ -43,5 +43,5 @@ loop-part-preserved c =
       live = λ numbers lists.
           subst (λ ls. ListsDefinitions (IsLiveBy ls (uses_in c.drop_use.new.rows.items) numbers) c.drop_use.new.live.items) so_far.literals
           (c.drop_use.ensures.live numbers (subst (λ ls. ListsDefinitions (IsLiveBy ls (uses_in c.loop-part.rows.items) numbers) c.loop-part.live.items)
-              (sym so_far.literals) (so_far.live numbers lists)));
+          (sym so_far.literals) (so_far.live numbers lists)));
     }

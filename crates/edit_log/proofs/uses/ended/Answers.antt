@@ -25,14 +25,21 @@ loop-part-preserved c =
       | then-is_used w ↦
           let used = c.is_used.ensures.0 w.if-is_used.true in
           record {
-            lists = rw w.gone-is (ended_more literals uses right i (record { 0 = 0 }) near c.loop-part.gone.items w.insert.new.live.items (there, used.0, used.1
-                ∙ ap Some c.occurrences.ensures.value) invariant.lists (w.insert.ensures.live invariant.lists.order));
+            lists = rw w.gone-is (ended_more literals uses right i (record { 0 = 0 }) near c.loop-part.gone.items w.insert.new.live.items (
+              there,
+              used.0,
+              used.1
+                  ∙ ap Some c.occurrences.ensures.value,
+            ) invariant.lists (w.insert.ensures.live invariant.lists.order));
             room = rw w.gone-is (omega (arith, w.insert.ensures.room, invariant.room));
           }
       | else-is_used w ↦ record {
         lists = rw w.gone-is (ended_same literals uses right i (record { 0 = 0 }) near c.loop-part.gone.items
-            (λ last. absurd (let never : false ≡ true = sym w.if-is_used.false ∙ c.is_used.ensures.1 (last.1, last.2
-                ∙ ap Some (sym c.occurrences.ensures.value)) in cc)) invariant.lists);
+            (λ last. absurd (let never : false ≡ true = sym w.if-is_used.false ∙ c.is_used.ensures.1 (
+              last.1,
+              last.2
+                  ∙ ap Some (sym c.occurrences.ensures.value),
+            ) in cc)) invariant.lists);
         room = rw w.gone-is (omega (arith, invariant.room));
       }
     ]

@@ -13,10 +13,10 @@ pub returns-clause-taken : goal.returns-clause-taken
 returns-clause-taken c =
     let there = rule_there c.args.grammar.now.grammar c.args.text.now (ap is_some (sym c.number_of.ensures) ∙ c.is_none.ensures ∙ ap not c.if-is_none.false) in
     taken_by_room c.args.grammar.now.grammar (verdict c.args.grammar.now.grammar (edit.DropRule c.args.text.now)) c.check_room.result there
-        c.check_room.ensures.taken
+    c.check_room.ensures.taken
 
 pub returns-clause-refused : goal.returns-clause-refused
 returns-clause-refused c =
     let there = rule_there c.args.grammar.now.grammar c.args.text.now (ap is_some (sym c.number_of.ensures) ∙ c.is_none.ensures ∙ ap not c.if-is_none.false) in
     refused_by_room c.args.grammar.now.grammar (verdict c.args.grammar.now.grammar (edit.DropRule c.args.text.now)) c.check_room.result there
-        c.check_room.ensures.refused
+    c.check_room.ensures.refused

@@ -13,5 +13,5 @@ returns-in_err-put_parts-clause-prefix c =
     let begun : AppendsPrefix c.loop-cut.out.items c.put_parts.new.out.items text = c.in_err-put_parts.ensures.prefix in
     on_err c.from_residual.result
     (stops_at cut_text c.args.cuts.now c.loop-cut.cut-index 0 c.args.out.now.items c.loop-cut.out.items c.put_parts.new.out.items c.loop-cut-test.true
-        c.loop-cut.invariant
+    c.loop-cut.invariant
     (stops_same c.loop-cut.out.items c.put_parts.new.out.items text (cut_text cut) begun (ap (λ d. codes " " ++ d) (sym (append-nil (decimal cut))))))

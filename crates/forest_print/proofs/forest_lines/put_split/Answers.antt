@@ -24,7 +24,7 @@ returns-in_err-put_cuts-clause-prefix c =
     let put : c.put_parts.new.out.items ≡ out ++ before = c.in_ok-put_parts.ensures.whole in
     let begun : AppendsPrefix c.put_parts.new.out.items c.put_cuts.new.out.items (flat_map cut_text split.cuts) =
     subst (λ cuts. AppendsPrefix c.put_parts.new.out.items c.put_cuts.new.out.items (flat_map cut_text cuts)) c.as_slice.ensures
-        c.in_err-put_cuts.ensures.prefix in
+    c.in_err-put_cuts.ensures.prefix in
     let same : split_line split ≡ before ++ (flat_map cut_text split.cuts ++ codes "\n") = simp append_assoc in
     on_err c.from_residual-in_err-put_cuts.result
     (stops_in out c.put_parts.new.out.items c.put_cuts.new.out.items before (flat_map cut_text split.cuts) (codes "\n") (split_line split) put begun same)
@@ -44,7 +44,7 @@ returns-in_err-put_parts-2-clause-prefix c =
     let same : split_line split ≡ (before ++ flat_map cut_text split.cuts) ++ codes "\n" = simp append_assoc in
     on_err c.from_residual-in_err-put_parts-2.result
     (stops_last out c.put_cuts.new.out.items c.put_parts-2.new.out.items (before ++ flat_map cut_text split.cuts) (codes "\n")
-        (split_line split) put begun same)
+    (split_line split) put begun same)
 
 pub returns-clause-whole : goal.returns-clause-whole
 unfolding split_line

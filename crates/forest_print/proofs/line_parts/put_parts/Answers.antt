@@ -6,4 +6,4 @@ pub returns-in_err-put_part-clause-prefix : goal.returns-in_err-put_part-clause-
 returns-in_err-put_part-clause-prefix c =
     on_err c.from_residual.result
     (stops_between part_text c.args.parts.now c.loop-part.part-index c.args.out.now.items c.loop-part.out.items c.put_part.new.out.items c.loop-part.invariant
-        c.in_err-put_part.ensures.kept)
+    c.in_err-put_part.ensures.kept)

@@ -22,8 +22,8 @@ returns-in_err-put_token-clause-prefix c =
     let token = get_or c.args.tokens.now c.loop-token.token-index no_token in
     let begun : AppendsPrefix c.loop-token.out.items c.put_token.new.out.items (token_line (symbol_at symbols token.kind) token) =
     subst (λ symbol. AppendsPrefix c.loop-token.out.items c.put_token.new.out.items (token_line symbol token)) c.symbol.ensures
-        c.in_err-put_token.ensures.prefix in
+    c.in_err-put_token.ensures.prefix in
     on_err c.from_residual.result
     (stops_at (λ t. token_line (symbol_at symbols t.kind) t) c.args.tokens.now c.loop-token.token-index no_token c.args.out.now.items c.loop-token.out.items
-        c.put_token.new.out.items
+    c.put_token.new.out.items
     c.loop-token-test.true c.loop-token.invariant begun)

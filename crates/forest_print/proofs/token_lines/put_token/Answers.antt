@@ -15,7 +15,7 @@ returns-in_err-put_parts-clause-prefix c =
     let begun : AppendsPrefix c.args.out.now.items c.put_parts.new.out.items (codes "token ") = c.in_err-put_parts.ensures.prefix in
     let same : token_line c.args.symbol.now token ≡ codes "token " ++ (symbol ++ ends) = simp append_assoc in
     on_err c.from_residual.result (stops_first c.args.out.now.items c.put_parts.new.out.items (codes "token ") (symbol
-        ++ ends) (token_line c.args.symbol.now token) begun same)
+    ++ ends) (token_line c.args.symbol.now token) begun same)
 
 pub returns-in_err-put_symbol-clause-prefix : goal.returns-in_err-put_symbol-clause-prefix
 unfolding token_line
@@ -27,7 +27,7 @@ returns-in_err-put_symbol-clause-prefix c =
     let same : token_line c.args.symbol.now token ≡ codes "token " ++ (symbol ++ ends) = simp append_assoc in
     on_err c.from_residual-in_err-put_symbol.result
     (stops_in c.args.out.now.items c.put_parts.new.out.items c.put_symbol.new.out.items (codes "token ") symbol ends
-        (token_line c.args.symbol.now token) put c.in_err-put_symbol.ensures.prefix same)
+    (token_line c.args.symbol.now token) put c.in_err-put_symbol.ensures.prefix same)
 
 pub returns-in_err-put_parts-2-clause-prefix : goal.returns-in_err-put_parts-2-clause-prefix
 unfolding token_line
@@ -42,7 +42,7 @@ returns-in_err-put_parts-2-clause-prefix c =
     let same : token_line c.args.symbol.now token ≡ (codes "token " ++ symbol) ++ ends = simp append_assoc in
     on_err c.from_residual-in_err-put_parts-2.result
     (stops_last c.args.out.now.items c.put_symbol.new.out.items c.put_parts-2.new.out.items (codes "token " ++ symbol) ends
-        (token_line c.args.symbol.now token) put begun same)
+    (token_line c.args.symbol.now token) put begun same)
 
 pub returns-clause-whole : goal.returns-clause-whole
 unfolding token_line

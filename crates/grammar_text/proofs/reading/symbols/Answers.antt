@@ -17,14 +17,14 @@ pub returns-then-len-eq-SYMBOL_LIMIT : goal.returns-then-len-eq-SYMBOL_LIMIT
 returns-then-len-eq-SYMBOL_LIMIT c =
     let more : is_empty c.loop-next.next.left ≡ false = cc in
     rw c.offset.ensures (symbols-full SYMBOL_LIMIT c.loop-next.symbols.items c.loop-next.next _
-        (omega arith) more c.loop-next.invariant.trimmed c.loop-next.invariant.so_far)
+    (omega arith) more c.loop-next.invariant.trimmed c.loop-next.invariant.so_far)
 
 pub returns-in_err-symbol : goal.returns-in_err-symbol
 returns-in_err-symbol c =
     let p = err_from_is_err_and c.from_residual.result c.from_residual.ensures.1 in
     let more : is_empty c.loop-next.next.left ≡ false = cc in
     rw (p.1, p.2) (symbols-fail c.in_err-symbol.field-0.0 SYMBOL_LIMIT c.loop-next.symbols.items c.loop-next.next _
-        (omega arith) more c.loop-next.invariant.trimmed c.in_err-symbol.ensures c.loop-next.invariant.so_far)
+    (omega arith) more c.loop-next.invariant.trimmed c.in_err-symbol.ensures c.loop-next.invariant.so_far)
 
 pub loop-next-preserved : goal.loop-next-preserved
 loop-next-preserved c =
@@ -40,4 +40,4 @@ pub returns : goal.returns
 returns c =
     let done : is_empty c.loop-next.next.left ≡ true = cc in
     rw c.from_vec.ensures (symbols-done SYMBOL_LIMIT c.loop-next.symbols.items c.loop-next.next _ done c.loop-next.invariant.trimmed
-        c.loop-next.invariant.so_far)
+    c.loop-next.invariant.so_far)

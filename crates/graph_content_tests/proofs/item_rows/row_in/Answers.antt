@@ -11,5 +11,5 @@ returns-in_ok-row-in-Some c =
     let g = c.args.grammar.now.grammar in
     let items = c.args.kernel.now in
     let found = subst (λ (o : Option Expansion). IfSome o (λ e. IsKey g (kernel items) × IsExpansionOf g.rules items e)) c.in-Some.is c.in_ok-expansion.ensures
-        in
+    in
     kernel_row g items c.in-Some.expansion c.in_ok-row-in-Some.row.items found.0 found.1 c.in_ok-row-in-Some.ensures

@@ -11,5 +11,5 @@ returns-in_ok-row-in-Some c =
     let g = c.args.grammar.now.grammar in
     let key = c.args.key.now in
     let found = subst (λ (o : Option ScanExpansion). IfSome o (λ e. IsKey g (scan key)
-        × IsScanExpansionOf g key e.ranges)) c.in-Some.is c.in_ok-expansion.ensures in
+    × IsScanExpansionOf g key e.ranges)) c.in-Some.is c.in_ok-expansion.ensures in
     state_row g key c.in-Some.expansion c.in_ok-row-in-Some.row.items found.0 found.1 c.in_ok-row-in-Some.ensures

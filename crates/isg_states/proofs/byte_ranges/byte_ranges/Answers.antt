@@ -29,7 +29,7 @@ loop-byte-preserved c =
     elim c.if-not-is_empty.branch [
       | then-not-is_empty+in_ok-add_byte w ↦ rw w.ranges-is
           (tells_more (marks_with c.args.candidates.now) c.loop-byte.byte _ _ c.as_slice-led.result.now c.loop-byte.invariant at
-              (some_of _ w.if-not-is_empty.ensures) w.in_ok-add_byte.ensures)
+          (some_of _ w.if-not-is_empty.ensures) w.in_ok-add_byte.ensures)
       | else-not-is_empty w ↦ rw w.ranges-is
           (tells_skip (marks_with c.args.candidates.now) c.loop-byte.byte _ c.loop-byte.invariant (ap length at ∙ eqb-true _ 0 (sym w.if-not-is_empty.ensures)))
     ]

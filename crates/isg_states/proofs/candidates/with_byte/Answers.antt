@@ -10,9 +10,9 @@ loop-candidate-preserved c =
       | then-has+in_ok-push w ↦ rw (w.found-is, w.in_ok-push.ensures.items)
           (ap (λ t. t ++ c.candidate-item.result.mark ∷ []) c.loop-candidate.invariant
           ∙ sym (with_more c.args.candidates.now c.loop-candidate.candidate-index c.candidate-item.result c.args.byte within c.candidate-item.is
-              (sym c.has.ensures ∙ w.if-has.true)))
+          (sym c.has.ensures ∙ w.if-has.true)))
       | else-has w ↦ rw w.found-is
           (c.loop-candidate.invariant
           ∙ sym (with_same c.args.candidates.now c.loop-candidate.candidate-index c.candidate-item.result c.args.byte within c.candidate-item.is
-              (sym c.has.ensures ∙ w.if-has.false)))
+          (sym c.has.ensures ∙ w.if-has.false)))
     ]

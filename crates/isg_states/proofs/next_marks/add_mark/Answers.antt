@@ -9,11 +9,11 @@ pub returns-in-Ok-clause-added : goal.returns-in-Ok-clause-added
 returns-in-Ok-clause-added g c =
     let position = c.in-Ok.ensures.position (λ (y : Mark). mark_cmp y c.args.mark) (always_returns_same _ _ _ (λ a r f h. search rules)) in
     put_there c.args.found.now.items c.args.mark c.requires.order c.requires.small c.requires.index c.in-Ok.field-0
-        (rw c.deref.ensures.value at c.in-Ok.ensures.bound) (rw c.deref.ensures.value at position)
+    (rw c.deref.ensures.value at c.in-Ok.ensures.bound) (rw c.deref.ensures.value at position)
 
 pub returns-in_ok-insert-in-Err-clause-added : goal.returns-in_ok-insert-in-Err-clause-added
 returns-in_ok-insert-in-Err-clause-added g c =
     let position = c.in-Err.ensures.position (λ (y : Mark). mark_cmp y c.args.mark) (always_returns_same _ _ _ (λ a r f h. search rules)) in
     rw c.in_ok-insert-in-Err.ensures.items
     (put_new c.args.found.now.items c.args.mark c.requires.order c.in-Err.place (rw c.deref.ensures.value at c.in-Err.ensures.bound)
-        (rw c.deref.ensures.value at position))
+    (rw c.deref.ensures.value at position))

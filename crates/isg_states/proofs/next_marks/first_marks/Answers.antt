@@ -29,4 +29,4 @@ pub returns-clause-marks : goal.returns-clause-marks
 returns-clause-marks g c =
     let whole : length c.live_defs-definition-items.result.now ≤ c.loop-definition.definition-index = omega arith in
     first_all c.args.grammar.now.grammar c.live_defs-definition-items.result.now c.loop-definition.definition-index _ whole
-        c.live_defs-definition-items.ensures.members c.loop-definition.invariant.marks
+    c.live_defs-definition-items.ensures.members c.loop-definition.invariant.marks

@@ -10,10 +10,10 @@ loop-mark-preserved c =
     elim c.if-is_last.branch [
       | then-is_last w ↦ rw (w.winner-is, w.first_definition.ensures)
           (ended_more c.args.grammar.now.grammar c.args.marks.now c.loop-mark.mark-index _ _ within c.loop-mark.invariant
-              (c.is_last.ensures.0 w.if-is_last.true))
+          (c.is_last.ensures.0 w.if-is_last.true))
       | else-is_last w ↦ rw w.winner-is
           (ended_same c.args.grammar.now.grammar c.args.marks.now c.loop-mark.mark-index _ _ within c.loop-mark.invariant
-              (λ last. false≢true (sym w.if-is_last.false ∙ c.is_last.ensures.1 last)))
+          (λ last. false≢true (sym w.if-is_last.false ∙ c.is_last.ensures.1 last)))
     ]
 
 pub returns : goal.returns

@@ -13,4 +13,4 @@ found_marks grammar ranges lead (Some k) h = subst (AreMarks grammar) (sym h.2) 
 pub returns : goal.returns
 returns c = found_marks c.args.grammar.now.grammar c.in_ok-expansion.expansion.ranges c.in_ok-expansion.ensures c.in_ok-found.found
     (subst (λ (ranges : List Range). IfSome c.in_ok-found.found (λ k. (range : Range) × Contains ranges range
-        × (k ≡ range.2))) c.as_slice.ensures c.in_ok-found.ensures)
+    × (k ≡ range.2))) c.as_slice.ensures c.in_ok-found.ensures)

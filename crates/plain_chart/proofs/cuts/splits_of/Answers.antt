@@ -10,12 +10,12 @@ loop-rule-init c = rw c.new-found.ensures.items (first_none _ _ _ _)
 pub loop-rule-preserved : goal.loop-rule-preserved
 loop-rule-preserved c =
     let there = rw c.as_slice-rule-items.ensures at (read_is c.as_slice-rule-items.result.now c.loop-rule.rule-index c.rule-item.result c.rule-item.is
-        c.loop-rule-test.true) in
+    c.loop-rule-test.true) in
     elim c.if-is_same.branch [
       | then-is_same+in_ok-add_splits w ↦
           let added = w.in_ok-add_splits.ensures in
           rw (w.found-is, added.grown) (first_more _ _ _ _ _ _ c.loop-rule.invariant c.rule-item.result there c.args.rules.now.ascending
-              (c.is_same.ensures.0 w.if-is_same.true) added.cuts added.exact)
+          (c.is_same.ensures.0 w.if-is_same.true) added.cuts added.exact)
       | else-is_same w ↦ rw w.found-is (first_same _ _ _ _ _ _ c.loop-rule.invariant c.rule-item.result there (λ e. let yes' =
           c.is_same.ensures.1 e in let no' = w.if-is_same.false in cc))
     ]

@@ -20,12 +20,15 @@ loop-from-preserved c = elim c.if-ahead-from.branch [
   | then-ahead-from+then-not-has+in_ok-insert w ↦
       let few : c.loop-from.from < PLACES = omega (arith, c.requires.few, c.requires.ends) in
       let old = rw c.as_slice.ensures at (c.sources-ahead.ensures c.loop-from.from few).0
-          (bit_read c.sources-ahead.result c.loop-from.from w.if-ahead-from.true) in
+      (bit_read c.sources-ahead.result c.loop-from.from w.if-ahead-from.true) in
       let known = known_more c.args.tokens.now c.args.known.now c.loop-from.known c.loop-from.invariant.grows.kept c.index-rules-at.result.right
-          c.loop-from.from c.args.to old in
+      c.loop-from.from c.args.to old in
       rw (w.known-is, w.in_ok-insert.ensures, w.changed-is) (record {
-        grows = grows_more _ _ _ _ _ c.index-rules-at.result c.loop-from.from c.args.to c.loop-from.invariant.grows (c.args.at, c.requires.at,
-            sym c.index-rules-at.is) known (omega (arith, c.requires.ends)) c.requires.ends (λ m. let yes' = w.has.ensures.1 m in let no' = w.if-not-has.true in
+        grows = grows_more _ _ _ _ _ c.index-rules-at.result c.loop-from.from c.args.to c.loop-from.invariant.grows (
+          c.args.at,
+          c.requires.at,
+          sym c.index-rules-at.is,
+        ) known (omega (arith, c.requires.ends)) c.requires.ends (λ m. let yes' = w.has.ensures.1 m in let no' = w.if-not-has.true in
             cc);
         settled = λ e. absurd cc;
       })
@@ -59,8 +62,8 @@ returns-clause-settled c = λ f r i get known.
     let lower = AreKnown-le _ _ _ _ _ known in
     let few : i < PLACES = omega (arith, lower, c.requires.few, c.requires.ends) in
     let old : AreKnown c.args.tokens.now c.args.known.now r.right i c.args.to =
-        subst (λ (q : List Span). AreKnown c.args.tokens.now q r.right i c.args.to) same known in
+    subst (λ (q : List Span). AreKnown c.args.tokens.now q r.right i c.args.to) same known in
     let here : AreKnown c.args.tokens.now c.args.known.now c.index-rules-at.result.right i c.args.to =
-        subst (λ (q : Rule). AreKnown c.args.tokens.now c.args.known.now q.right i c.args.to) (sym rule) old in
+    subst (λ (q : Rule). AreKnown c.args.tokens.now c.args.known.now q.right i c.args.to) (sym rule) old in
     let bit = (c.sources-ahead.ensures i few).1 (rw c.as_slice.ensures here) in
     subst (λ (q : Rule). Contains c.loop-from.known (span q.left i c.args.to)) rule (c.loop-from.invariant.settled f i (omega (arith, lower)) bit)

@@ -10,8 +10,10 @@ nodes_of-requires-clause-within c = λ s m. forest_ends (c.in_ok-reached.ensures
     (rw c.as_slice-2.ensures.value at m)))
 
 pub invariant_of-result : goal.invariant_of-result
-invariant_of-result c = record { ascending = rw c.from_vec.ensures (nodes_ascend _ _ c.as_slice-2.result.now _ c.in_ok-nodes.ensures
-    (rw c.as_slice-2.ensures.value c.in_ok-spans.ensures.ordered)) }
+invariant_of-result c = record {
+  ascending = rw c.from_vec.ensures (nodes_ascend _ _ c.as_slice-2.result.now _ c.in_ok-nodes.ensures
+      (rw c.as_slice-2.ensures.value c.in_ok-spans.ensures.ordered));
+}
 
 pub returns : goal.returns
 returns c =

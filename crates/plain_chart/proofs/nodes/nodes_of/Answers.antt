@@ -17,5 +17,5 @@ pub loop-span-preserved : goal.loop-span-preserved
 loop-span-preserved c =
     let s : Span = get_or c.args.spans.now c.loop-span.span-index none in
     let there = read_is c.args.spans.now c.loop-span.span-index s
-        (sym (get_or_default c.args.spans.now c.loop-span.span-index s none c.loop-span-test.true)) c.loop-span-test.true in
+    (sym (get_or_default c.args.spans.now c.loop-span.span-index s none c.loop-span-test.true)) c.loop-span-test.true in
     rw c.in_ok-push.ensures.items (nodes_more _ _ _ c.loop-span.span-index s _ _ there c.loop-span.invariant c.in_ok-node_of.ensures)

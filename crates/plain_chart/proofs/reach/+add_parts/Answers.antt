@@ -17,7 +17,7 @@ loop-middle-preserved t c =
       | then-ahead-middle+then-is_known+in_ok-add_part-in-len1-up+in_ok-add_parts-in-len1-up w ↦
           let more = (c.sources-ahead.ensures c.loop-middle.middle few).0 (bit_read c.sources-ahead.result c.loop-middle.middle w.if-ahead-middle.true) in
           rw w.reached-is (adds_front_more _ _ _ _ _ _ c.loop-middle.middle _ _ _ _ (omega arith) (omega arith)
-              (w.is_known.ensures.0 w.if-is_known.true) more c.loop-middle.invariant w.in_ok-add_part-in-len1-up.ensures w.in_ok-add_parts-in-len1-up.ensures)
+          (w.is_known.ensures.0 w.if-is_known.true) more c.loop-middle.invariant w.in_ok-add_part-in-len1-up.ensures w.in_ok-add_parts-in-len1-up.ensures)
       | else-ahead-middle w ↦ elim w.else-ahead-middle.branch [
         | else-ahead-middle-via-then-ahead-middle+else-is_known v ↦ rw w.reached-is (adds_front_same _ _ _ _ _ _ c.loop-middle.middle _ _ (λ k more. let yes' =
             v.is_known.ensures.1 k in let no' = v.if-is_known.false in cc) c.loop-middle.invariant)

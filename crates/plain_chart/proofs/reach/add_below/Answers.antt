@@ -12,7 +12,7 @@ loop-rule-preserved c =
     elim c.if-is_same.branch [
       | then-is_same+in_ok-add_parts w ↦
           rw w.reached-is (below_more _ _ _ _ _ c.rule-item.result _ _ _ there (c.is_same.ensures.0 w.if-is_same.true) c.loop-rule.invariant
-              (rw w.as_slice.ensures at w.in_ok-add_parts.ensures))
+          (rw w.as_slice.ensures at w.in_ok-add_parts.ensures))
       | else-is_same w ↦ rw w.reached-is (below_same _ _ _ _ _ c.rule-item.result _ _ there (λ e. let yes' = c.is_same.ensures.1 e in let no' =
           w.if-is_same.false in cc) c.loop-rule.invariant)
     ]

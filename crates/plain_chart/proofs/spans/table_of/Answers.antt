@@ -6,8 +6,12 @@ use Rattle.plain_chart.proofs.TableLemmas.{read_is, some_same}
 use Rattle.plain_chart.proofs.spans.table_of.Goals as goal
 
 pub returns-then-is_same-clause-found : goal.returns-then-is_same-clause-found
-returns-then-is_same-clause-found c = (c.index-tables-at.result, read_is c.args.tables.now c.loop-at.at c.index-tables-at.result c.index-tables-at.is
-    (omega arith), subst (λ (t : Table). t.symbol ≡ c.args.symbol) (sym c.index-tables-at.is) (c.is_same.ensures.0 c.if-is_same.true))
+returns-then-is_same-clause-found c = (
+  c.index-tables-at.result,
+  read_is c.args.tables.now c.loop-at.at c.index-tables-at.result c.index-tables-at.is
+      (omega arith),
+  subst (λ (t : Table). t.symbol ≡ c.args.symbol) (sym c.index-tables-at.is) (c.is_same.ensures.0 c.if-is_same.true),
+)
 
 pub loop-at-preserved : goal.loop-at-preserved
 loop-at-preserved c = λ k l table. elim (cases_lt k c.loop-at.at) [

@@ -19,7 +19,7 @@ returns-in-Class-clause-last t c = λ p.
 pub returns-in-Then-clause-rows : goal.returns-in-Then-clause-rows
 returns-in-Then-clause-rows t c = λ q p h.
     let tree : tree_of c.args.regex.now ≡ sequence (tree_of c.deref.result.now) (tree_of c.deref-in-Then.result.now) =
-        rw (c.in-Then.is, c.deref.ensures, c.deref-in-Then.ensures) refl in
+    rw (c.in-Then.is, c.deref.ensures, c.deref-in-Then.ensures) refl in
     rw tree
     (rows_in_turn (tree_of c.deref.result.now) (tree_of c.deref-in-Then.result.now) c.args.base c.link-first.result.next q p _ _ _ _ _ _
     (c.connect.ensures q p (omega arith)) (c.link-second.ensures.rows q p (omega arith)) (c.link-first.ensures.rows q p h)

@@ -9,7 +9,7 @@ pub loop-number-preserved : goal.loop-number-preserved
 loop-number-preserved c = elim c.if-has.branch [
   | then-has+in_ok-push w ↦
       rw (w.numbers-is, w.in_ok-push.ensures.items, c.loop-number.invariant) (sym (below_in (has c.args.set.now) c.loop-number.number (sym c.has.ensures
-          ∙ w.if-has.true)))
+      ∙ w.if-has.true)))
   | else-has w ↦
       rw (w.numbers-is, c.loop-number.invariant) (sym (below_out (has c.args.set.now) c.loop-number.number (sym c.has.ensures ∙ w.if-has.false)))
 ]

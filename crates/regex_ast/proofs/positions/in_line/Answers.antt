@@ -9,4 +9,4 @@ pub loop-number-preserved : goal.loop-number-preserved
 loop-number-preserved c =
     rw (c.in_ok-push.ensures.items, c.loop-number.invariant)
     (ap (λ r. map (next_below c.args.count) (numbers_from 0 c.loop-number.number) ++ r ∷ []) c.in_ok-next.ensures
-        ∙ sym (map-more (next_below c.args.count) c.loop-number.number))
+    ∙ sym (map-more (next_below c.args.count) c.loop-number.number))

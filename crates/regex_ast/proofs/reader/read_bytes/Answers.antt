@@ -9,10 +9,12 @@ pub returns-in_err-reader-clause-stops : goal.returns-in_err-reader-clause-stops
 returns-in_err-reader-clause-stops c =
     let p = err_from_is_err_and c.from_residual.result c.from_residual.ensures.1 in
     rw (p.1, p.2) (stops_here c.args.text.now c.loop-at.at (state_of c.loop-at.reader) _ c.loop-at-test.true c.loop-at.invariant.0
-        c.in_err-reader.ensures.stops)
+    c.in_err-reader.ensures.stops)
 
 pub loop-at-preserved : goal.loop-at-preserved
 loop-at-preserved c =
-    let few : c.in_ok-reader.reader.findings.classes ≤ c.loop-at.at + 1 = omega (arith, c.in_ok-reader.ensures.few, c.loop-at.invariant.1) in
-    (goes_on c.args.text.now c.loop-at.at (state_of c.loop-at.reader) (state_of c.in_ok-reader.reader) c.loop-at-test.true c.loop-at.invariant.0
-        c.in_ok-reader.ensures.stands, few)
+    let few : c.in_ok-reader.reader.findings.classes ≤ c.loop-at.at + 1 = omega (arith, c.in_ok-reader.ensures.few, c.loop-at.invariant.1) in (
+      goes_on c.args.text.now c.loop-at.at (state_of c.loop-at.reader) (state_of c.in_ok-reader.reader) c.loop-at-test.true c.loop-at.invariant.0
+          c.in_ok-reader.ensures.stands,
+      few,
+    )

@@ -19,12 +19,12 @@ returns-in_err-reader-clause-exact c =
 pub returns-clause-found : goal.returns-clause-found
 returns-clause-found c =
     IfOk-weaker c.finish.result _ _ (λ r k. found_answer c.args.text.now (state_of c.in_ok-reader.reader) _ (tree_of r) c.in_ok-reader.ensures.stands k)
-        c.finish.ensures.read
+    c.finish.ensures.read
 
 pub returns-clause-only : goal.returns-clause-only
 returns-clause-only c = λ e h.
     only_match c.finish.result _ e (only_answer c.args.text.now e (state_of c.in_ok-reader.reader) _ h c.in_ok-reader.ensures.stands) c.finish.ensures.read
-        c.finish.ensures.refused
+    c.finish.ensures.refused
 
 pub returns-clause-exact : goal.returns-clause-exact
 returns-clause-exact c = cause_match c.finish.result c.args.text.now (state_of c.in_ok-reader.reader) c.in_ok-reader.ensures.stands c.finish.ensures.refused
@@ -32,4 +32,4 @@ returns-clause-exact c = cause_match c.finish.result c.args.text.now (state_of c
 pub returns-clause-few : goal.returns-clause-few
 returns-clause-few c =
     IfOk-weaker c.finish.result _ _ (λ r k. within_few c.args.text.now (tree_of r) (found_answer c.args.text.now (state_of c.in_ok-reader.reader) _
-        (tree_of r) c.in_ok-reader.ensures.stands k)) c.finish.ensures.read
+    (tree_of r) c.in_ok-reader.ensures.stands k)) c.finish.ensures.read

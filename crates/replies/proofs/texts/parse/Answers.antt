@@ -12,14 +12,14 @@ chart-requires-clause-terminals c = subst (λ rules. AreTerminals rules c.args.k
 pub returns-in-Ok-Some : goal.returns-in-Ok-Some
 returns-in-Ok-Some c =
     let few : length c.args.kinds.now ≤ 64 = few_kinds (length c.args.kinds.now) c.chart.result c.in-Ok-Some.field-0 c.chart.ensures.too_large c.in-Ok-Some.is
-        in
+    in
     let found : IsForestOf c.rules.result.now.rules c.args.kinds.now c.in-Ok-Some.forest = search rules in
     forest few (subst (λ rules. IsForestOf rules c.args.kinds.now c.in-Ok-Some.forest) c.rules.ensures.rules found)
 
 pub returns-in-Ok-None : goal.returns-in-Ok-None
 returns-in-Ok-None c =
     let few : length c.args.kinds.now ≤ 64 = few_kinds (length c.args.kinds.now) c.chart.result c.in-Ok-None.field-0 c.chart.ensures.too_large c.in-Ok-None.is
-        in
+    in
     let nothing : IsSentence c.rules.result.now.rules c.args.kinds.now → ⊥ = search rules in
     no_sentence few (subst (λ rules. IsSentence rules c.args.kinds.now → ⊥) c.rules.ensures.rules nothing)
 

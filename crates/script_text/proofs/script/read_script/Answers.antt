@@ -24,8 +24,11 @@ first_bad c =
     (subst (IsReason (IsBad c.lines.progress line)) c.in-Err-Wrong.field-0-is c.in-Err-Wrong.ensures.refused)
 
 pub returns-in-Err-Wrong-clause-only : goal.returns-in-Err-Wrong-clause-only
-returns-in-Err-Wrong-clause-only c = λ script spelled. absurd (not_both c.args.bytes.now script (record { line = c.lines.number + 1; kind =
-    c.in-Err-Wrong.kind }) spelled (first_bad c))
+returns-in-Err-Wrong-clause-only c = λ script spelled. absurd (not_both c.args.bytes.now script (record {
+  line = c.lines.number + 1;
+  kind =
+      c.in-Err-Wrong.kind;
+}) spelled (first_bad c))
 
 pub returns-in-Err-Wrong-clause-exact : goal.returns-in-Err-Wrong-clause-exact
 returns-in-Err-Wrong-clause-exact c = rw c.in-Err-Wrong.kind-is (first_bad c)

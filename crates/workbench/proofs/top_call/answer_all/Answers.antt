@@ -26,39 +26,39 @@ pub returns-in_err-answer_block-clause-front : goal.returns-in_err-answer_block-
 returns-in_err-answer_block-clause-front g c =
     on_err c.from_residual-in_err-answer_block.result
     (answered_stop (g.K.Sink.taken c.args.sink.now) (g.K.Sink.taken c.loop-block.sink) c.args.blocks.now c.loop-block.block-index c.loop-block.session
-        c.loop-block.out.items c.loop-block.invariant.answered)
+    c.loop-block.out.items c.loop-block.invariant.answered)
 
 pub returns-in_err-flush_full-clause-front : goal.returns-in_err-flush_full-clause-front
 returns-in_err-flush_full-clause-front g c =
     let blocks = c.args.blocks.now in
     let i = c.loop-block.block-index in
     let answered = answered_more (g.K.Sink.taken c.args.sink.now) (g.K.Sink.taken c.loop-block.sink)
-        (take i blocks) c.block-item.result c.loop-block.session c.answer_block.new.self
+    (take i blocks) c.block-item.result c.loop-block.session c.answer_block.new.self
     c.loop-block.out.items c.answer_block.new.out.items c.loop-block.invariant.answered c.in_ok-answer_block.ensures.replied c.in_ok-answer_block.ensures.next
-        in
+    in
     let first : take (i + 1) blocks ≡ take i blocks ++ c.block-item.result ∷ [] =
-        front_more blocks i c.block-item.result c.loop-block-test.true c.block-item.is in
+    front_more blocks i c.block-item.result c.loop-block-test.true c.block-item.is in
     on_err c.from_residual-in_err-flush_full.result
     (answered_refused (g.K.Sink.taken c.args.sink.now) (g.K.Sink.taken c.loop-block.sink) (g.K.Sink.taken c.flush_full.new.sink) blocks (take i blocks
-        ++ c.block-item.result ∷ []) (drop (i + 1) blocks)
+    ++ c.block-item.result ∷ []) (drop (i + 1) blocks)
     c.answer_block.new.self c.answer_block.new.out.items (sym (take-append-drop (i + 1) blocks)
-        ∙ ap (λ bs. bs ++ drop (i + 1) blocks) first) answered c.in_err-flush_full.ensures.refused)
+    ∙ ap (λ bs. bs ++ drop (i + 1) blocks) first) answered c.in_err-flush_full.ensures.refused)
 
 pub loop-block-preserved : goal.loop-block-preserved
 loop-block-preserved g c =
     let blocks = c.args.blocks.now in
     let i = c.loop-block.block-index in
     let answered = answered_more (g.K.Sink.taken c.args.sink.now) (g.K.Sink.taken c.loop-block.sink)
-        (take i blocks) c.block-item.result c.loop-block.session c.answer_block.new.self
+    (take i blocks) c.block-item.result c.loop-block.session c.answer_block.new.self
     c.loop-block.out.items c.answer_block.new.out.items c.loop-block.invariant.answered c.in_ok-answer_block.ensures.replied c.in_ok-answer_block.ensures.next
-        in
+    in
     let first : take (i + 1) blocks ≡ take i blocks ++ c.block-item.result ∷ [] =
-        front_more blocks i c.block-item.result c.loop-block-test.true c.block-item.is in
+    front_more blocks i c.block-item.result c.loop-block-test.true c.block-item.is in
     let gone = c.in_ok-flush_full.ensures.written in
     record {
       answered = rw first
           (answered_flushed (g.K.Sink.taken c.args.sink.now) (g.K.Sink.taken c.loop-block.sink) (g.K.Sink.taken c.flush_full.new.sink) (take i blocks
-              ++ c.block-item.result ∷ []) c.answer_block.new.self
+          ++ c.block-item.result ∷ []) c.answer_block.new.self
           c.answer_block.new.out.items gone.0 c.flush_full.new.out.items answered gone.1 gone.2);
       counted = omega (arith, c.loop-block.invariant.counted, c.flush_full.ensures.counted);
     }
@@ -69,10 +69,10 @@ returns-in_err-write_all-clause-front g c =
     let i = c.loop-block.block-index in
     let refused : TakesProperPrefix (g.K.Sink.taken c.loop-block.sink) (g.K.Sink.taken c.write_all.new.sink) c.loop-block.out.items =
     subst (TakesProperPrefix (g.K.Sink.taken c.loop-block.sink) (g.K.Sink.taken c.write_all.new.sink)) c.deref.ensures.value c.in_err-write_all.ensures.refused
-        in
+    in
     on_err c.from_residual-in_err-write_all.result
     (answered_refused (g.K.Sink.taken c.args.sink.now) (g.K.Sink.taken c.loop-block.sink) (g.K.Sink.taken c.write_all.new.sink) blocks (take i blocks)
-        (drop i blocks)
+    (drop i blocks)
     c.loop-block.session c.loop-block.out.items (sym (take-append-drop i blocks)) c.loop-block.invariant.answered
     (part_is_front (g.K.Sink.taken c.loop-block.sink) (g.K.Sink.taken c.write_all.new.sink) c.loop-block.out.items refused))
 
@@ -81,5 +81,5 @@ returns-clause-whole g c =
     let whole : Takes (g.K.Sink.taken c.loop-block.sink) (g.K.Sink.taken c.write_all.new.sink) c.loop-block.out.items =
     subst (Takes (g.K.Sink.taken c.loop-block.sink) (g.K.Sink.taken c.write_all.new.sink)) c.deref.ensures.value c.in_ok-write_all.ensures.whole in
     answered_whole (g.K.Sink.taken c.args.sink.now) (g.K.Sink.taken c.loop-block.sink)
-        (g.K.Sink.taken c.write_all.new.sink) c.args.blocks.now c.loop-block.block-index c.loop-block.session c.loop-block.out.items
+    (g.K.Sink.taken c.write_all.new.sink) c.args.blocks.now c.loop-block.block-index c.loop-block.session c.loop-block.out.items
     c.loop-block-test.false c.loop-block.invariant.answered whole

@@ -40,15 +40,19 @@ returns-in-Ok-clause-complete g c = λ one free_source free_sink script told.
     let short : length c.deref.result.now ≤ SCRIPT_LIMIT = search rules in
     ends_by left c.deref.result.now script c.run_script.result known told short c.run_script.ensures.late
     (λ is. let whole = c.run_script.ensures.done is in (whole.0, whole.1)) (λ is. let bad = c.run_script.ensures.bad_script is in (bad.0, bad.1))
-        (λ is. free_sink (c.run_script.ensures.write_fault is))
+    (λ is. free_sink (c.run_script.ensures.write_fault is))
 
 pub returns-in-Ok-clause-stopped : goal.returns-in-Ok-clause-stopped
 returns-in-Ok-clause-stopped g c = λ is.
     let left = g.S.Source.left c.args.source.now in
     let known : IsKnownAs (g.S.Source.left c.args.source.now) c.deref.result.now = subst (IsKnownAs left) (sym c.deref.ensures.value) c.in-Ok.ensures.whole in
     let short : length c.deref.result.now ≤ SCRIPT_LIMIT = search rules in
-    record { script = c.deref.result.now; is_read = record { given = known; ended = c.in-Ok.ensures.ended; short = short }; taken =
-        c.run_script.ensures.stopped is }
+    record {
+      script = c.deref.result.now;
+      is_read = record { given = known; ended = c.in-Ok.ensures.ended; short = short };
+      taken =
+          c.run_script.ensures.stopped is;
+    }
 
 pub returns-in-Ok-clause-no_memory : goal.returns-in-Ok-clause-no_memory
 returns-in-Ok-clause-no_memory g c = λ is.
@@ -57,8 +61,12 @@ returns-in-Ok-clause-no_memory g c = λ is.
     let short : length c.deref.result.now ≤ SCRIPT_LIMIT = search rules in
     elim (c.run_script.ensures.no_memory is) [
       | inl same ↦ inl same
-      | inr front ↦ inr (record { script = c.deref.result.now; is_read = record { given = known; ended = c.in-Ok.ensures.ended; short = short }; taken =
-          front })
+      | inr front ↦ inr (record {
+        script = c.deref.result.now;
+        is_read = record { given = known; ended = c.in-Ok.ensures.ended; short = short };
+        taken =
+            front;
+      })
     ]
 
 pub returns-in-Ok-clause-front : goal.returns-in-Ok-clause-front
@@ -93,7 +101,7 @@ returns-in-Ok-clause-only_bad_script g c =
     let left = g.S.Source.left c.args.source.now in
     let known : IsKnownAs left c.deref.result.now = subst (IsKnownAs left) (sym c.deref.ensures.value) c.in-Ok.ensures.whole in
     only_bad left (g.S.Source.left c.read_all.new.source) (g.K.Sink.taken c.args.sink.now)
-        (g.K.Sink.taken c.run_script.new.sink) c.deref.result.now c.run_script.result known c.run_script.ensures.late
+    (g.K.Sink.taken c.run_script.new.sink) c.deref.result.now c.run_script.result known c.run_script.ensures.late
     (λ is. let whole = c.run_script.ensures.done is in (whole.0, whole.1)) c.run_script.ensures.stopped c.run_script.ensures.no_memory
 
 pub returns-in-Err-Failed-clause-only_bad_script : goal.returns-in-Err-Failed-clause-only_bad_script

@@ -11,13 +11,13 @@ pub returns-in-Err-Bad-clause-stopped : goal.returns-in-Err-Bad-clause-stopped
 returns-in-Err-Bad-clause-stopped g c = λ is.
     let first : IsFirstBad c.args.script.now c.in-Err-Bad.bad = search rules in
     of_refusal c.in-Err-Bad.bad first (after_failure c.refuse-written.result BadScript c.status_after.result WriteFault c.status_after.ensures.ok
-        c.refuse-written.ensures.front is (λ e. cc e))
+    c.refuse-written.ensures.front is (λ e. cc e))
 
 pub returns-in-Err-Bad-clause-no_memory : goal.returns-in-Err-Bad-clause-no_memory
 returns-in-Err-Bad-clause-no_memory g c = λ is.
     let first : IsFirstBad c.args.script.now c.in-Err-Bad.bad = search rules in
     inr (of_refusal c.in-Err-Bad.bad first (after_failure c.refuse-written.result BadScript c.status_after.result NoMemory c.status_after.ensures.ok
-        c.refuse-written.ensures.front is (λ e. cc e)))
+    c.refuse-written.ensures.front is (λ e. cc e)))
 
 pub answer_all-written-requires : goal.answer_all-written-requires
 answer_all-written-requires g c = rw c.as_slice.ensures (all_proper c.args.script.now c.in-Ok.read (bytes_from_places c.args.script.now
@@ -26,13 +26,13 @@ answer_all-written-requires g c = rw c.as_slice.ensures (all_proper c.args.scrip
 pub returns-clause-stopped : goal.returns-clause-stopped
 returns-clause-stopped g c = λ is.
     let first = after_failure c.answer_all-written.result Done c.status_after-2.result WriteFault c.status_after-2.ensures.ok c.answer_all-written.ensures.front
-        is (λ e. cc e) in
+    is (λ e. cc e) in
     of_replies c.in-Ok.read c.in-Ok.ensures.found (subst (StopsInReplies (g.K.Sink.taken c.args.sink.now) (g.K.Sink.taken c.answer_all-written.new.sink))
-        c.as_slice.ensures first)
+    c.as_slice.ensures first)
 
 pub returns-clause-no_memory : goal.returns-clause-no_memory
 returns-clause-no_memory g c = λ is.
     let first = after_failure c.answer_all-written.result Done c.status_after-2.result NoMemory c.status_after-2.ensures.ok c.answer_all-written.ensures.front
-        is (λ e. cc e) in
+    is (λ e. cc e) in
     inr (of_replies c.in-Ok.read c.in-Ok.ensures.found (subst (StopsInReplies (g.K.Sink.taken c.args.sink.now) (g.K.Sink.taken c.answer_all-written.new.sink))
-        c.as_slice.ensures first))
+    c.as_slice.ensures first))

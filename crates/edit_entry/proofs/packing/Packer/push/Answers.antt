@@ -16,11 +16,13 @@ closed words text byte b packed is small same fits =
     let len : length (text_in words) ≡ length text = ap length is in
     subst (λ (x : ℕ). Closes (pushed words x) (text ++ byte ∷ [])) (sym same)
     (subst (λ (t : List ℕ). Closes (pushed words byte) (t ++ byte ∷ [])) is (pushed_closes words (text_in words) byte packed (text_bytes words)
-        (omega arith) fits))
+    (omega arith) fits))
 
 pub offset_bounds-self-inside-word : goal.offset_bounds-self-inside-word
-offset_bounds-self-inside-word c = record { fits = (let s = short c.self.inside.words c.args.self.now c.self.invariant c.self.view_is c.requires in
-    omega arith) }
+offset_bounds-self-inside-word c = record {
+  fits = (let s = short c.self.inside.words c.args.self.now c.self.invariant c.self.view_is c.requires in
+      omega arith);
+}
 
 pub bounds-self-inside-word : goal.bounds-self-inside-word
 bounds-self-inside-word c = let s = short c.self.inside.words c.args.self.now c.self.invariant c.self.view_is c.requires in omega arith

@@ -12,7 +12,7 @@ add_symbols-requires-clause-new c =
     let edit = c.requires.0 in
     let g = subst (λ (r : Replica). IsApplicable r edit (planned.AddDefinition c.args.plan)) (sym c.self.view_is) c.requires.1 in
     symbols_apart (grammar_in c.self.inside.version c.self.inside.table.symbols.keys c.self.inside.rules.rules c.self.inside.definitions.items) edit c.args.plan
-        c.self.invariant.well_formed g.accepted g.plan
+    c.self.invariant.well_formed g.accepted g.plan
 
 pub invariant_of-self : goal.invariant_of-self
 invariant_of-self c =
@@ -20,7 +20,7 @@ invariant_of-self c =
     let g = subst (λ (r : Replica). IsApplicable r edit (planned.AddDefinition c.args.plan)) (sym c.self.view_is) c.requires.1 in
     let added = c.add_symbols.ensures in
     agrees_definition_added c.self.inside.version c.self.inside.table.symbols.keys c.add_symbols.new.self.symbols.keys c.self.inside.rules.rules
-        c.self.inside.definitions.items c.push_reserved.new.self.items edit c.args.plan
+    c.self.inside.definitions.items c.push_reserved.new.self.items edit c.args.plan
     _ _ _ _ _ _ _ _ _ _ _ _ c.self.invariant g.accepted g.plan added.symbols c.push_reserved.ensures.items added.lefts added.uses added.literals
     (ap option_flatten c.set_number.ensures.1) (λ other apart. ap option_flatten (c.set_number.ensures.2 other apart)) c.insert.ensures.live
 
@@ -28,6 +28,6 @@ pub returns : goal.returns
 returns c edit applicable =
     let g = subst (λ (r : Replica). IsApplicable r edit (planned.AddDefinition c.args.plan)) (sym c.self.view_is) applicable in
     definition_come c.self.inside.version c.self.inside.table.symbols.keys c.add_symbols.new.self.symbols.keys c.self.inside.rules.rules
-        c.self.inside.definitions.items c.push_reserved.new.self.items edit c.args.plan
+    c.self.inside.definitions.items c.push_reserved.new.self.items edit c.args.plan
     g.plan c.add_symbols.ensures.symbols c.push_reserved.ensures.items
     ∙ ap (λ (r : Replica). after r.grammar edit) c.self.view_is

@@ -9,6 +9,6 @@ pub invariant_of-result : goal.invariant_of-result
 invariant_of-result c =
     let rows = c.in_ok-table.ensures.rows in
     agrees_empty _ _ _ _ _ rows.0 _ _ _ _ _ c.in_ok-table.ensures.symbols c.no_rules.ensures (none_among rule_eq c.new-2.result c.new-2.ensures.empty)
-        (none_among bytes_eq c.new-4.result c.new-4.ensures.empty)
+    (none_among bytes_eq c.new-4.result c.new-4.ensures.empty)
     (ap (λ rs. lefts_in rs) rows.2) rows.1 (ap (λ rs. uses_in rs) rows.2)
-        (ap (λ rs. literals_in rs) rows.2) c.new-3.ensures.items c.new-5.ensures.items c.new.ensures.items
+    (ap (λ rs. literals_in rs) rows.2) c.new-3.ensures.items c.new-5.ensures.items c.new.ensures.items

@@ -20,19 +20,23 @@ returns-in-Some c =
     let g : Grammar = grammar_in c.self.inside.version c.self.inside.table.symbols.keys c.self.inside.rules.rules c.self.inside.definitions.items in
     let at : slice_get g.symbols c.in-Some.place ≡ Some (Named c.args.name.now) =
     found_at g.symbols (Named c.args.name.now) c.in-Some.place (ap (λ n. position (symbol_eq (Named n)) g.symbols) (sym c.in_ok-clone.ensures.cases)
-        ∙ sym c.get_index_of.ensures.index ∙ c.in-Some.is) in
+    ∙ sym c.get_index_of.ensures.index ∙ c.in-Some.is) in
     let rows = c.self.inside.table.rows.items in
     let row = c.index.result.now in
-    let within : c.in-Some.place < length rows = omega (arith, slice_get_within g.symbols c.in-Some.place (Named c.args.name.now) at,
-        c.self.invariant.has_lefts.len, length-map rows (λ (row : Row). row.rules)) in
+    let within : c.in-Some.place < length rows = omega (
+      arith,
+      slice_get_within g.symbols c.in-Some.place (Named c.args.name.now) at,
+      c.self.invariant.has_lefts.len,
+      length-map rows (λ (row : Row). row.rules),
+    ) in
     let kept = sym (column_at (λ (row : Row). row.rules) rows c.in-Some.place row row.rules within c.index.ensures) in
     let numbers = under_index g.symbols g.rules (lefts_in rows) c.in-Some.place row.rules (Named c.args.name.now) c.self.invariant.has_lefts kept at in
     ap not (c.is_empty.ensures ∙ ap (λ n. n == 0) row.rules.ok.0) ∙ left_by_list g c.args.name.now c.in-Some.place row.rules.items c.self.invariant.well_formed
-        at numbers ∙ ap (λ (r : Replica). is_left r.grammar c.args.name.now) c.self.view_is
+    at numbers ∙ ap (λ (r : Replica). is_left r.grammar c.args.name.now) c.self.view_is
 
 pub returns : goal.returns
 returns c =
     let g : Grammar = grammar_in c.self.inside.version c.self.inside.table.symbols.keys c.self.inside.rules.rules c.self.inside.definitions.items in
     left_unknown g c.args.name.now c.self.invariant.well_formed (ap (λ n. position (symbol_eq (Named n)) g.symbols) (sym c.in_ok-clone.ensures.cases)
-        ∙ sym c.get_index_of.ensures.index ∙ c.in-None.is)
+    ∙ sym c.get_index_of.ensures.index ∙ c.in-None.is)
     ∙ ap (λ (r : Replica). is_left r.grammar c.args.name.now) c.self.view_is

@@ -30,29 +30,38 @@ returns-clause-plan c =
           ∙ ap (λ (r : Replica). r.grammar.version + 1) (sym c.self.view_is)) c.in_ok-live.ensures.numbered,
       fresh_for_rule g c.args.text c.rule_in.new.fresh.items c.in_ok-live.ensures.grown c.in_ok-live.ensures.fresh c.in_ok-live.ensures.few short,
     ) in
-    subst (λ (r : Replica). IsPlanFor r.grammar (AddRule c.args.text) (plan.AddRule (record { text = c.args.text; live = c.in_ok-live.live; fresh =
-        c.rule_in.new.fresh }))) c.self.view_is is
+    subst (λ (r : Replica). IsPlanFor r.grammar (AddRule c.args.text) (plan.AddRule (record {
+      text = c.args.text;
+      live = c.in_ok-live.live;
+      fresh =
+          c.rule_in.new.fresh;
+    }))) c.self.view_is is
 
 pub returns-clause-touch : goal.returns-clause-touch
 returns-clause-touch c =
     let g : Grammar = grammar_in c.self.inside.version c.self.inside.table.symbols.keys c.self.inside.rules.rules c.self.inside.definitions.items in
     let accepted : IsAccepted g (AddRule c.args.text) = subst (λ (r : Replica). IsAccepted r.grammar (AddRule c.args.text)) (sym c.self.view_is) c.requires in
     let fresh = fresh_for_rule g c.args.text c.rule_in.new.fresh.items c.in_ok-live.ensures.grown c.in_ok-live.ensures.fresh c.in_ok-live.ensures.few
-        (short_right c.args.text c.requires.proper.0) in
+    (short_right c.args.text c.requires.proper.0) in
     let live = rule_planned g c.args.text c.rule_in.new.fresh.items c.next_number.result c.in_ok-live.live c.in_ok-live.ensures.grown (c.next_number.ensures
-        ∙ ap (λ (r : Replica). r.grammar.version + 1) (sym c.self.view_is)) c.in_ok-live.ensures.numbered in
+    ∙ ap (λ (r : Replica). r.grammar.version + 1) (sym c.self.view_is)) c.in_ok-live.ensures.numbered in
     let rows = c.self.inside.table.rows.items in
     let scan : IsTrue c.makes_live.result ↔ (IsTrue (list_any is_literal (symbols_in c.rule_in.new.fresh.items))
-        ⊎ Wakes (literals_in rows) (uses_in rows) c.in_ok-live.live.right) =
+    ⊎ Wakes (literals_in rows) (uses_in rows) c.in_ok-live.live.right) =
     subst (λ fs. IsTrue c.makes_live.result ↔ (IsTrue (list_any is_literal (symbols_in fs)) ⊎ Wakes (literals_in rows) (uses_in rows) c.in_ok-live.live.right))
-        c.deref.ensures.value
+    c.deref.ensures.value
     (subst (λ rs. IsTrue c.makes_live.result ↔ (IsTrue (list_any is_literal (symbols_in c.deref.result.now))
-        ⊎ Wakes (literals_in rs) (uses_in rs) c.in_ok-live.live.right)) c.deref-2.ensures.value
+    ⊎ Wakes (literals_in rs) (uses_in rs) c.in_ok-live.live.right)) c.deref-2.ensures.value
     (subst (λ xs. IsTrue c.makes_live.result ↔ (IsTrue (list_any is_literal (symbols_in c.deref.result.now)) ⊎ Wakes (literals_in c.deref-2.result.now)
-        (uses_in c.deref-2.result.now) xs)) c.as_slice.ensures c.makes_live.ensures)) in
-    subst (λ (r : Replica). IsTouchOf r.grammar (AddRule c.args.text) (record { left = Some c.in_ok-live.live.left; gone_rule = None; scan =
-        c.makes_live.result; gone_defs = c.from_vec.result })) c.self.view_is
+    (uses_in c.deref-2.result.now) xs)) c.as_slice.ensures c.makes_live.ensures)) in
+    subst (λ (r : Replica). IsTouchOf r.grammar (AddRule c.args.text) (record {
+      left = Some c.in_ok-live.live.left;
+      gone_rule = None;
+      scan =
+          c.makes_live.result;
+      gone_defs = c.from_vec.result;
+    })) c.self.view_is
     (touch_rule_added g c.args.text (uses_in c.self.inside.table.rows.items) (literals_in c.self.inside.table.rows.items) c.rule_in.new.fresh.items
-        c.in_ok-live.live (record { left = Some c.in_ok-live.live.left; gone_rule = None; scan = c.makes_live.result; gone_defs = c.from_vec.result })
+    c.in_ok-live.live (record { left = Some c.in_ok-live.live.left; gone_rule = None; scan = c.makes_live.result; gone_defs = c.from_vec.result })
     c.self.invariant.well_formed accepted fresh c.self.invariant.has_uses c.self.invariant.has_literals live refl refl (c.from_vec.ensures
-        ∙ c.new.ensures.items) scan)
+    ∙ c.new.ensures.items) scan)

@@ -28,15 +28,15 @@ returns-in-Literal-clause-live c = by c.live_literal.result refl
     by : (told : Option (Bor Table)) → c.live_literal.result ≡ told → IsTrue (is_some told) ↔ IsLive c.args.self.now.grammar c.args.def
     by None is =
         let dead = told_dead g (uses_in c.deref.result.now) (literals_in c.deref.result.now) (uses_in c.self.inside.table.rows.items)
-            (literals_in c.self.inside.table.rows.items) c.in-Literal.symbol c.live_literal.result
+        (literals_in c.self.inside.table.rows.items) c.in-Literal.symbol c.live_literal.result
         c.self.invariant.well_formed c.self.invariant.has_uses c.self.invariant.has_literals (ap (λ (rs : List Row). uses_in rs) c.deref.ensures.value)
-            (ap (λ (rs : List Row). literals_in rs) c.deref.ensures.value) c.live_literal.ensures is in
+        (ap (λ (rs : List Row). literals_in rs) c.deref.ensures.value) c.live_literal.ensures is in
         (λ some. absurd cc, λ live. absurd (dead (seen.1 live)))
     by (Some table) is =
         let live = told_live g (uses_in c.deref.result.now) (literals_in c.deref.result.now) (uses_in c.self.inside.table.rows.items)
-            (literals_in c.self.inside.table.rows.items) c.in-Literal.symbol c.live_literal.result table
+        (literals_in c.self.inside.table.rows.items) c.in-Literal.symbol c.live_literal.result table
         c.self.invariant.well_formed c.self.invariant.has_uses c.self.invariant.has_literals (ap (λ (rs : List Row). uses_in rs) c.deref.ensures.value)
-            (ap (λ (rs : List Row). literals_in rs) c.deref.ensures.value) c.live_literal.ensures is in
+        (ap (λ (rs : List Row). literals_in rs) c.deref.ensures.value) c.live_literal.ensures is in
         (λ some. seen.0 live, λ live. refl)
 
 pub returns-in-Literal-clause-positions : goal.returns-in-Literal-clause-positions
@@ -47,35 +47,35 @@ returns-in-Literal-clause-positions c = by c.live_literal.result refl
     by None is = tt
     by (Some table) is =
         let some : live_literal (uses_in c.deref.result.now) (literals_in c.deref.result.now) c.in-Literal.symbol.0 ≡ Some table.now =
-            sym c.live_literal.ensures ∙ ap (option_map (λ p. p.now)) is in
+        sym c.live_literal.ensures ∙ ap (option_map (λ p. p.now)) is in
         let kept = told_literal (uses_in c.deref.result.now) (literals_in c.deref.result.now) c.in-Literal.symbol.0 table.now some in
         let are = literal_positions c.self.inside.table.symbols.keys
-            (literals_in c.self.inside.table.rows.items) c.in-Literal.symbol table.now c.self.invariant.has_literals
-            (subst (λ ls. slice_get ls c.in-Literal.symbol.0 ≡ Some (Some table.now)) (ap (λ (rs : List Row). literals_in rs) c.deref.ensures.value) kept) in
+        (literals_in c.self.inside.table.rows.items) c.in-Literal.symbol table.now c.self.invariant.has_literals
+        (subst (λ ls. slice_get ls c.in-Literal.symbol.0 ≡ Some (Some table.now)) (ap (λ (rs : List Row). literals_in rs) c.deref.ensures.value) kept) in
         subst (λ d. ArePositionsFor c.args.self.now.grammar d table.now) (sym c.in-Literal.is)
-            (subst (λ (r : Replica). ArePositionsFor r.grammar (literal c.in-Literal.symbol) table.now) c.self.view_is are)
+        (subst (λ (r : Replica). ArePositionsFor r.grammar (literal c.in-Literal.symbol) table.now) c.self.view_is are)
 
 pub returns-in-Some-clause-live : goal.returns-in-Some-clause-live
 returns-in-Some-clause-live c =
     let live = named_live c.self.inside.definitions.items c.in-Named.number c.definition_of.result c.in-Some.live c.deref-in-Named.result.now
-        c.deref-in-Named.ensures.value c.definition_of.ensures c.in-Some.is in
+    c.deref-in-Named.ensures.value c.definition_of.ensures c.in-Some.is in
     let seen : IsLive c.args.self.now.grammar c.args.def = subst (λ d. IsLive c.args.self.now.grammar d) (sym c.in-Named.is)
-        (subst (λ (r : Replica). IsLive r.grammar (named c.in-Named.number)) c.self.view_is live) in
+    (subst (λ (r : Replica). IsLive r.grammar (named c.in-Named.number)) c.self.view_is live) in
     (λ t. seen, λ l. refl)
 
 pub returns-in-Some-clause-positions : goal.returns-in-Some-clause-positions
 returns-in-Some-clause-positions c =
     let are = named_positions (grammar_in c.self.inside.version c.self.inside.table.symbols.keys c.self.inside.rules.rules c.self.inside.definitions.items)
-        c.self.inside.definitions.items c.in-Named.number c.definition_of.result c.in-Some.live c.deref-in-Named.result.now refl c.self.invariant.has_positions
-        c.deref-in-Named.ensures.value c.definition_of.ensures c.in-Some.is in
+    c.self.inside.definitions.items c.in-Named.number c.definition_of.result c.in-Some.live c.deref-in-Named.result.now refl c.self.invariant.has_positions
+    c.deref-in-Named.ensures.value c.definition_of.ensures c.in-Some.is in
     subst (λ d. ArePositionsFor c.args.self.now.grammar d c.in-Some.live.now.positions) (sym c.in-Named.is)
-        (subst (λ (r : Replica). ArePositionsFor r.grammar (named c.in-Named.number) c.in-Some.live.now.positions) c.self.view_is are)
+    (subst (λ (r : Replica). ArePositionsFor r.grammar (named c.in-Named.number) c.in-Some.live.now.positions) c.self.view_is are)
 
 pub returns-in-None-clause-live : goal.returns-in-None-clause-live
 returns-in-None-clause-live c =
     let dead = named_dead (grammar_in c.self.inside.version c.self.inside.table.symbols.keys c.self.inside.rules.rules c.self.inside.definitions.items)
-        c.self.inside.definitions.items c.in-Named.number c.definition_of.result c.deref-in-Named.result.now refl c.deref-in-Named.ensures.value
-        c.definition_of.ensures c.in-None.is in
+    c.self.inside.definitions.items c.in-Named.number c.definition_of.result c.deref-in-Named.result.now refl c.deref-in-Named.ensures.value
+    c.definition_of.ensures c.in-None.is in
     let seen : IsLive c.args.self.now.grammar c.args.def → ⊥ = subst (λ d. IsLive c.args.self.now.grammar d → ⊥) (sym c.in-Named.is)
-        (subst (λ (r : Replica). IsLive r.grammar (named c.in-Named.number) → ⊥) c.self.view_is dead) in
+    (subst (λ (r : Replica). IsLive r.grammar (named c.in-Named.number) → ⊥) c.self.view_is dead) in
     (λ t. absurd cc, λ l. absurd (seen l))

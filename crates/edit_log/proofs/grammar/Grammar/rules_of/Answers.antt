@@ -13,9 +13,9 @@ pub returns-in-None : goal.returns-in-None
 returns-in-None c =
     let rows = c.self.inside.table.rows.items in
     let past : length c.self.inside.table.symbols.keys ≤ c.args.left.0 =
-        omega (arith, c.self.invariant.has_lefts.len, length-map rows (λ (row : Row). row.rules), ap length c.deref.ensures.value, c.in-None.ensures.lookup) in
+    omega (arith, c.self.invariant.has_lefts.len, length-map rows (λ (row : Row). row.rules), ap length c.deref.ensures.value, c.in-None.ensures.lookup) in
     subst (λ (r : Replica). [] ≡ numbers_of_left r.grammar.rules c.args.left) c.self.view_is
-        (no_left c.self.inside.table.symbols.keys c.self.inside.rules.rules c.args.left c.self.invariant.well_formed.lefts past)
+    (no_left c.self.inside.table.symbols.keys c.self.inside.rules.rules c.args.left c.self.invariant.well_formed.lefts past)
 
 pub returns-in-Some : goal.returns-in-Some
 returns-in-Some c =
@@ -28,4 +28,4 @@ returns-in-Some c =
     let kept = under_get (lefts_in rows) left row.rules (column_get (λ (row : Row). row.rules) rows left row within at) in
     let lists = c.self.invariant.has_lefts.lists left (omega (arith, within, c.self.invariant.has_lefts.len, length-map rows (λ (row : Row). row.rules))) in
     subst (λ (r : Replica). c.deref-in-Some.result.now ≡ numbers_of_left r.grammar.rules c.args.left) c.self.view_is (c.deref-in-Some.ensures.value ∙ sym kept
-        ∙ lists)
+    ∙ lists)

@@ -12,6 +12,6 @@ use Rattle.edit_log.proofs.symbol_table.SymbolTable.add_symbols.Goals as goal
 pub push_symbol-requires-clause-new : goal.push_symbol-requires-clause-new
 push_symbol-requires-clause-new c =
     let next = next_is c.args.fresh.items c.loop-one.yielded (into_iter_items c.loop-one.one-iterator)
-        (into_iter_items c.next.new.self) c.in-Some.one c.loop-one.invariant.front c.in-Some.ensures.steps.0 in
+    (into_iter_items c.next.new.self) c.in-Some.one c.loop-one.invariant.front c.in-Some.ensures.steps.0 in
     next_new c.args.self.now.symbols.keys c.loop-one.self.symbols.keys c.args.fresh.items c.loop-one.yielded
-        (into_iter_items c.next.new.self) c.in-Some.one next c.requires.new c.loop-one.invariant.symbols
+    (into_iter_items c.next.new.self) c.in-Some.one next c.requires.new c.loop-one.invariant.symbols

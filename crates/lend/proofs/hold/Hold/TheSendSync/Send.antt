@@ -16,5 +16,16 @@ inside_keyless null_ptr = tt
 inside_keyless (block_ptr b o) = tt
 
 pub send : (T : RattleType) → IsSend T → IsSync T → IsSend (the_row T)
-send T s y = record { owned = λ d vs. ((λ vss. (tt, ((λ uss. (tt, tt)), tt))), (frac_keyless d.age d.parts, (inside_keyless d.at,
-    y.shared d.value (block_of d.at) (count_of d.at) (d.age ∷ [])))); leaving = λ k f vs. tt }
+send T s y = record {
+  owned = λ d vs. (
+    (λ vss. (tt, ((λ uss. (tt, tt)), tt))),
+    (
+      frac_keyless d.age d.parts,
+      (
+        inside_keyless d.at,
+        y.shared d.value (block_of d.at) (count_of d.at) (d.age ∷ []),
+      ),
+    ),
+  );
+  leaving = λ k f vs. tt;
+}

@@ -45,20 +45,20 @@ cut_spec 𝓤 𝓛 𝓜 𝓡 wired T L =
     let kept : (Hold 𝓛 R).Denot = record { marker = record {}; at = n.at; value = n.value; age = n.age; parts = left } in
     let made : (Hold 𝓛 R).Denot = record { marker = record {}; at = n.at; value = n.value; age = n.age; parts = right } in
     let Told : Type 0 = ((n.at ≡ n.at) × (n.value ≡ n.value) × (n.age ≡ n.age) × (left ≡ left)) × ((n.at ≡ n.at) × (n.value ≡ n.value) × (n.age ≡ n.age)
-        × (right ≡ right)) in
+    × (right ≡ right)) in
     let Shuts = holdings.Shuts 𝓛 R κ' q' nb₀ no₀ ν₀ in let N : Fml = holdings.Mine 𝓛 R n in let N₁ : Fml = holdings.Mine 𝓛 R kept in
     let N₂ : Fml = holdings.Mine 𝓛 R made in
     qed 𝓛 (((‵ (flft κ' q') ⊛ ‵ (fsep (flft κs.1.0 qs.1.0) ftrue)) ⊛ ‵ (owns (types_at En.signature.params κs) z.0.3 z.0.4)) ∷ raw
-        ((c κs z.0.3).requires z.1) ∷ []) ∵ split ! $ split ! $ move ! (2 ∷ []) $ fsplit ! $ fsplit ! $ keep ! (1 ∷ 3 ∷ 4 ∷ []) $
+    ((c κs z.0.3).requires z.1) ∷ []) ∵ split ! $ split ! $ move ! (2 ∷ []) $ fsplit ! $ fsplit ! $ keep ! (1 ∷ 3 ∷ 4 ∷ []) $
     suffices ! (Run (vptr nb₀ no₀ ∷ [])) (subst (λ (us : List Val). ent 𝓤 (Run (vptr nb₀ no₀ ∷ [])) (Run us)) (sym (λ i. are.0.0 i ++ []))
-        (id⊢ 𝓤 (Run (vptr nb₀ no₀ ∷ [])))) $
+    (id⊢ 𝓤 (Run (vptr nb₀ no₀ ∷ [])))) $
     enter ! 𝓣.C 𝓣.Λ fn (vptr nb₀ no₀ ∷ []) Post $ alloc_all ! (λ l. pass_all ! refl ((tt, tt), tt) $
     use2 𝓛 (later (‵ N ⊛ raw (all 𝓤 Shuts))) (holdings.hold_opens 𝓛 R κ' q' nb₀ no₀ ν₀ n) $ await ! tt $ split ! $
-        use1 𝓛 (‵ N₁ ⊛ ‵ N₂) (holdings.cuts 𝓛 R LR n.at n.value n.age n.parts left right (whole_is n.parts)) $ split ! $ move ! (2 ∷ []) $
-        use1 𝓛 (raw (Shuts kept)) (all_e 𝓤 Shuts kept) $ move ! (1 ∷ 0 ∷ []) $ use2 𝓛 (later (‵ (holdings.lent 𝓛 R κ' q' nb₀ no₀ ν₀ kept) ⊛ ‵ (flft κ' q')))
-        (apply∗ 𝓤 (sem 𝓛 N₁) _) $ await ! tt $ split ! $
+    use1 𝓛 (‵ N₁ ⊛ ‵ N₂) (holdings.cuts 𝓛 R LR n.at n.value n.age n.parts left right (whole_is n.parts)) $ split ! $ move ! (2 ∷ []) $
+    use1 𝓛 (raw (Shuts kept)) (all_e 𝓤 Shuts kept) $ move ! (1 ∷ 0 ∷ []) $ use2 𝓛 (later (‵ (holdings.lent 𝓛 R κ' q' nb₀ no₀ ν₀ kept) ⊛ ‵ (flft κ' q')))
+    (apply∗ 𝓤 (sem 𝓛 N₁) _) $ await ! tt $ split ! $
     feq_i ! (List Val) z.0.4.0 (vptr nb₀ no₀ ∷ []) are.0.0 $ fjoin ! $
     nothing ! $ move ! (1 ∷ 0 ∷ []) $ fjoin ! $ move ! (2 ∷ []) $ sets ! (agg ! (no_more !)) refl (tt, tt) $
-        sets ! (agg ! (and_then ! (get ! refl) (no_more !))) refl (tt, (tt, tt)) $ use0 𝓛 (‵ (holdings.Data 𝓛 R)) (holdings.hold_made 𝓛 R) $ fjoin ! $
-        move ! (2 ∷ 3 ∷ []) $ join ! $ use0 𝓛 (raw (fact 𝓤 Told)) (fact_i 𝓤 Told (emp 𝓤) ((refl, refl, refl, refl), (refl, refl, refl, refl))) $
+    sets ! (agg ! (and_then ! (get ! refl) (no_more !))) refl (tt, (tt, tt)) $ use0 𝓛 (‵ (holdings.Data 𝓛 R)) (holdings.hold_made 𝓛 R) $ fjoin ! $
+    move ! (2 ∷ 3 ∷ []) $ join ! $ use0 𝓛 (raw (fact 𝓤 Told)) (fact_i 𝓤 Told (emp 𝓤) ((refl, refl, refl, refl), (refl, refl, refl, refl))) $
     returns ! (look_at ! 0 refl) $ free_all ! refl $ keep ! (1 ∷ 3 ∷ 2 ∷ 0 ∷ []) $ by ! (leaves 𝓛 En hs c z token made (kept, tt) (tt, tt))))

@@ -43,27 +43,27 @@ end_spec 𝓤 𝓛 𝓜 𝓡 wired T A L LA dx g d dd glue allocator glued =
     let inst = bounded (a_type ∷ a_type ∷ []) (T, (A, tt)) (dcons dx (dcons d (dcons dd dnil))) in let fn = inst_fn inst code.function in
     let hs : Stays En.signature.params En.kept = (stay_dropped (plain (λ _. Hold 𝓛 R)) no, (stay_dropped (plain (λ _. Lent R Z LZ g)) no, tt)) in
     proved_at 𝓛 En hs c 𝓜 𝓡 (Goes-dropped 𝓛 2 (plain (λ _. Hold 𝓛 R)) no (λ κs x f. refl), (Goes-blank 𝓛 2 (plain (λ _. Lent R Z LZ g)) no (λ κs x f. tt), tt))
-        (#self inst) fn (code.unfolded 𝓤 H 𝓜 𝓡 wired (T, (A, tt)) dx d dd) (λ z are.
+    (#self inst) fn (code.unfolded 𝓤 H 𝓜 𝓡 wired (T, (A, tt)) dx d dd) (λ z are.
     let κs = z.0.0 in let qs = z.0.1 in let m = z.0.3.0 in let v = z.0.3.1.0 in let a = v.alloc in let x = v.value in
     let Post : Val → SProp 𝓤 = (walk_of 𝓛 En hs c).post z in let Run : List Val → SProp 𝓤 = λ ws. WpFn 𝓤 H 𝓣.C 𝓣.Λ fn ws Post in
     let toks = ‵ (flft κs.0 qs.0) ⊛ ‵ (flft κs.1.0 qs.1.0) ⊛ ‵ ftrue in
     let Asked : Type 0 = (v.age ≡ m.age) × (m.parts ≡ WHOLE) in let Told : Type 0 = x ≡ x in
     let k = one (layout (Hold 𝓛 R)) z.0.4.0 (((hold_laws.the_row_laws R LR).lawful 𝓛).typed m z.0.4.0 are.0) in
     qed 𝓛 ((toks ⊛ ‵ (owns (types_at En.signature.params κs) z.0.3 z.0.4)) ∷ raw (fact 𝓤 (κs.0 ⊑ T.lives)) ∷ raw (fact 𝓤 (κs.1.0 ⊑ A.lives)) ∷ raw
-        (fact 𝓤 Asked) ∷ []) ∵
+    (fact 𝓤 Asked) ∷ []) ∵
     move ! (3 ∷ []) $ heard ! Asked (λ asked. keep ! (0 ∷ []) $ split ! $ move ! (1 ∷ []) $ fsplit3 ! $ fsplit ! $ move ! (2 ∷ []) $
-        lent_out R Z LZ g ! v z.0.4.1.0 (λ b o h e ws fits.
+    lent_out R Z LZ g ! v z.0.4.1.0 (λ b o h e ws fits.
     let w : Val = both (vptr b o) h in let typed = loose_good R Z LZ g b o h fits in let p : Ptr = block_ptr b o in
     let B = box_owns (g.dealloc_token a) R p x in let r : (Loose R Z LZ g).Denot = record { at = p; alloc = a; value = x } in
     let Vs : List Val = k.0 ∷ w ∷ [] in
     -- [the right; the handle; the hold's data and parts; true; the tokens]
     keep ! (0 ∷ 1 ∷ 3 ∷ 5 ∷ []) $ fsplit ! $ drop ! $ rewrite ! 0 (λ (j : ℕ). ‵ (flent (j ∷ []) B)) asked.0 refl $
-        rewrite ! 2 (λ (j : ℕ). ‵ (hold_owns R m.at m.value m.age j)) asked.1 refl $
+    rewrite ! 2 (λ (j : ℕ). ‵ (hold_owns R m.at m.value m.age j)) asked.1 refl $
     suffices ! (Run Vs) (subst (λ (us : List Val). ent 𝓤 (Run Vs) (Run us)) (sym (λ i. k.1 i ++ (ws i ++ []))) (id⊢ 𝓤 (Run Vs))) $
     enter ! 𝓣.C 𝓣.Λ fn Vs Post $ alloc_all ! (λ l. pass_all ! refl (k.2, (typed, tt)) $
     move ! (2 ∷ 0 ∷ []) $ use2 𝓛 (later (‵ B)) (ends 𝓛 R LR (g.dealloc_token a) p x m.at m.value m.age) $ await ! tt $
     sets ! (of_opd ! (get_in ! (fld ! refl (stop !)) (sub ! 0 refl (whole !)))) refl (tt, tt) $
-        sets ! (of_opd ! (get_in ! (fld ! refl (stop !)) (sub ! 1 refl (whole !)))) refl fits $
+    sets ! (of_opd ! (get_in ! (fld ! refl (stop !)) (sub ! 1 refl (whole !)))) refl fits $
     sets ! (of_opd ! (get ! refl)) refl fits $ sets ! (agg ! (and_then ! (get ! refl) (and_then ! (get ! refl) (no_more !)))) refl typed $
     loose_in R Z LZ g ! b o h a x $ nothing ! $ nothing ! $ fjoin ! $ nothing ! $ fjoin ! $ use0 𝓛 (raw (fact 𝓤 Told)) (fact_i 𝓤 Told (emp 𝓤) refl) $
     returns ! (look_at ! 0 refl) $ free_all ! refl $ keep ! (3 ∷ 1 ∷ 2 ∷ 0 ∷ []) $ by ! (leaves 𝓛 En hs c z w r (tt, ((tt, (tt, tt)), tt)) (tt, (tt, tt)))))))

@@ -38,29 +38,34 @@ join_spec 𝓤 𝓛 𝓜 𝓡 wired T L =
     let inst = layouts (a_type ∷ []) (T, tt) in let fn = inst_fn inst code.function in
     let hs : Stays En.signature.params En.kept = (stay_ref (0 ∷ []) tt (plain (λ _. Hold 𝓛 R)), (stay_dropped (plain (λ _. Hold 𝓛 R)) no, tt)) in
     proved_at 𝓛 En hs c 𝓜 𝓡 (Goes-ref 𝓛 2 0 tt (plain (λ _. Hold 𝓛 R)), (Goes-dropped 𝓛 2 (plain (λ _. Hold 𝓛 R)) no (λ κs x f. refl), tt)) (#self inst) fn
-        (code.unfolded 𝓤 H 𝓜 𝓡 wired (T, tt)) (λ z are.
+    (code.unfolded 𝓤 H 𝓜 𝓡 wired (T, tt)) (λ z are.
     let κs = z.0.0 in let qs = z.0.1 in let Post : Val → SProp 𝓤 = (walk_of 𝓛 En hs c).post z in
     let Run : List Val → SProp 𝓤 = λ ws. WpFn 𝓤 H 𝓣.C 𝓣.Λ fn ws Post in let Out : RattleType = type_at En.signature.result κs in
     let κ' : Lft = κs.0 in let q' : Share = qs.0 in let m = z.0.3.0 in let nb₀ : ℕ = m.ref_ptr.0 in let no₀ : ℕ = m.ref_ptr.1 in let ν₀ : ℕ = m.ghost_name in
     let n = m.now in
-    let x = z.0.3.1.0 in let sum : ℕ = n.parts + x.parts in let kept : (Hold 𝓛 R).Denot = record { marker = record {}; at = n.at; value = n.value; age = n.age;
-        parts = sum } in
+    let x = z.0.3.1.0 in let sum : ℕ = n.parts + x.parts in let kept : (Hold 𝓛 R).Denot = record {
+      marker = record {};
+      at = n.at;
+      value = n.value;
+      age = n.age;
+      parts = sum;
+    } in
     let Told : Type 0 = (n.at ≡ n.at) × (n.value ≡ n.value) × (n.age ≡ n.age) × (sum ≡ sum) in
     let Shuts = holdings.Shuts 𝓛 R κ' q' nb₀ no₀ ν₀ in let N : Fml = holdings.Mine 𝓛 R n in let N₁ : Fml = holdings.Mine 𝓛 R kept in
     let v = one (layout (Hold 𝓛 R)) z.0.4.1.0 (((hold_laws.the_row_laws R LR).lawful 𝓛).typed x z.0.4.1.0 are.1.0) in
     let Vs : List Val = vptr nb₀ no₀ ∷ v.0 ∷ [] in
     qed 𝓛 (((‵ (flft κ' q') ⊛ ‵ (fsep (flft κs.1.0 qs.1.0) ftrue)) ⊛ ‵ (owns (types_at En.signature.params κs) z.0.3 z.0.4)) ∷ raw
-        (fact 𝓤 (κs.1.0 ⊑ T.lives)) ∷ raw (fact 𝓤 (x.age ≡ n.age)) ∷ []) ∵
+    (fact 𝓤 (κs.1.0 ⊑ T.lives)) ∷ raw (fact 𝓤 (x.age ≡ n.age)) ∷ []) ∵
     move ! (2 ∷ []) $ heard ! (x.age ≡ n.age) (λ same. split ! $ split ! $ move ! (2 ∷ []) $ fsplit3 ! $ fsplit ! $ move ! (2 ∷ []) $ fsplit ! $
-        keep ! (3 ∷ 5 ∷ 1 ∷ 6 ∷ []) $ rewrite ! 2 (λ (j : ℕ). ‵ (hold_owns R x.at x.value j x.parts)) same refl $
+    keep ! (3 ∷ 5 ∷ 1 ∷ 6 ∷ []) $ rewrite ! 2 (λ (j : ℕ). ‵ (hold_owns R x.at x.value j x.parts)) same refl $
     suffices ! (Run Vs) (subst (λ (us : List Val). ent 𝓤 (Run Vs) (Run us)) (sym (λ i. are.0.0 i ++ (v.1 i ++ []))) (id⊢ 𝓤 (Run Vs))) $
     enter ! 𝓣.C 𝓣.Λ fn Vs Post $ alloc_all ! (λ l. pass_all ! refl ((tt, tt), (v.2, tt)) $
     use2 𝓛 (later (‵ N ⊛ raw (all 𝓤 Shuts))) (holdings.hold_opens 𝓛 R κ' q' nb₀ no₀ ν₀ n) $ await ! tt $ split ! $ move ! (0 ∷ 2 ∷ []) $
     use2 𝓛 (later (‵ N₁)) (holdings.glues 𝓛 R n.at x.at n.value x.value n.age sum n.parts x.parts refl) $ await ! tt $
     move ! (1 ∷ []) $ use1 𝓛 (raw (Shuts kept)) (all_e 𝓤 Shuts kept) $ move ! (1 ∷ 0 ∷ []) $
-        use2 𝓛 (later (‵ (holdings.lent 𝓛 R κ' q' nb₀ no₀ ν₀ kept) ⊛ ‵ (flft κ' q'))) (apply∗ 𝓤 (sem 𝓛 N₁) _) $ await ! tt $ split ! $
+    use2 𝓛 (later (‵ (holdings.lent 𝓛 R κ' q' nb₀ no₀ ν₀ kept) ⊛ ‵ (flft κ' q'))) (apply∗ 𝓤 (sem 𝓛 N₁) _) $ await ! tt $ split ! $
     feq_i ! (List Val) z.0.4.0 (vptr nb₀ no₀ ∷ []) are.0.0 $ fjoin ! $ nothing ! $ nothing ! $ fjoin ! $ move ! (1 ∷ 0 ∷ []) $ fjoin ! $ move ! (1 ∷ 2 ∷ []) $
-        join ! $
+    join ! $
     sets ! (of_opd ! (unit_lit !)) refl (tt, tt) $ feq_i ! (List Val) (vunit ∷ []) (vunit ∷ []) refl $
-        use0 𝓛 (raw (fact 𝓤 Told)) (fact_i 𝓤 Told (emp 𝓤) (refl, refl, refl, refl)) $
+    use0 𝓛 (raw (fact 𝓤 Told)) (fact_i 𝓤 Told (emp 𝓤) (refl, refl, refl, refl)) $
     returns ! (look_at ! 0 refl) $ free_all ! refl $ keep ! (2 ∷ 3 ∷ 1 ∷ 0 ∷ []) $ by ! (leaves 𝓛 En hs c z vunit tt (kept, (tt, tt)) (tt, (tt, tt))))))

@@ -44,25 +44,25 @@ show_spec 𝓤 𝓛 𝓜 𝓡 wired T L =
     let inst = layouts (a_type ∷ []) (T, tt) in let fn = inst_fn inst code.function in let self = RefOf (0 ∷ []) tt (plain (λ _. Hold 𝓛 R)) (λ _. tt) in
     let hs : Stays En.signature.params En.kept = (stay_dropped self yes, (stay_dropped (plain (λ _. RawPtr)) yes, tt)) in
     proved_at 𝓛 En hs c 𝓜 𝓡 (Goes-dropped 𝓛 2 self yes (λ κs x f. refl), (Goes-dropped 𝓛 2 (plain (λ _. RawPtr)) yes (λ κs x f. refl), tt)) (#self inst) fn
-        (code.unfolded 𝓤 H 𝓜 𝓡 wired (T, tt)) (λ z are.
+    (code.unfolded 𝓤 H 𝓜 𝓡 wired (T, tt)) (λ z are.
     let κs = z.0.0 in let qs = z.0.1 in let Post : Val → SProp 𝓤 = (walk_of 𝓛 En hs c).post z in
     let Run : List Val → SProp 𝓤 = λ ws. WpFn 𝓤 H 𝓣.C 𝓣.Λ fn ws Post in let Out : RattleType = type_at En.signature.result κs in
     let κ : Lft = κs.0 in let q : Share = qs.0 in let b : ℕ = z.0.3.0.ref_ptr.0 in let o : ℕ = z.0.3.0.ref_ptr.1 in let n = z.0.3.0.now in
     let at : Ptr = z.0.3.1.0 in
     let Asked : Type 0 = (at ≡ n.at) × (0 < n.parts) in let Told : Type 0 = n.value ≡ n.value in
     qed 𝓛 (((‵ (flft κ q) ⊛ ‵ (fsep (flft κs.1.0 qs.1.0) ftrue)) ⊛ ‵ (owns (types_at En.signature.params κs) z.0.3 z.0.4)) ∷ raw
-        (fact 𝓤 (κs.1.0 ⊑ T.lives)) ∷ raw (fact 𝓤 Asked) ∷ []) ∵
+    (fact 𝓤 (κs.1.0 ⊑ T.lives)) ∷ raw (fact 𝓤 Asked) ∷ []) ∵
     move ! (2 ∷ []) $ heard ! Asked (λ asked. split ! $ split ! $ move ! (2 ∷ []) $ fsplit ! $ fsplit ! $ keep ! (1 ∷ 3 ∷ 4 ∷ []) $
     use1 𝓛 (‵ (hidden_shr (Struct (shape (hold.the_type R))) κ (tt, tt) b o) ⊛ ‵ (fhide (hold_shares R n.at n.value n.age n.parts κ))) (id⊢ 𝓤 _) $ split ! $
-        drop ! $ unhide ! $
+    drop ! $ unhide ! $
     use1 𝓛 (‵ (lent_at R n.at n.value κ)) (sees R LR n.at n.value n.age 𝓛 [] n.parts κ asked.1) $
     in_a_block ! n.at (λ (p : Ptr). lent_at R p n.value κ) (nowhere 𝓛 R n.value κ) (λ pb po e. fsplit ! $ drop ! $ hide ! $
     let Vs : List Val = vptr b o ∷ vptr pb po ∷ [] in let second : z.0.4.1.0 ≡ vptr pb po ∷ [] = are.1.0 ∙ ap (λ (p : Ptr). ptr_val p ∷ []) (asked.0 ∙ e) in
     suffices ! (Run Vs) (subst (λ (us : List Val). ent 𝓤 (Run Vs) (Run us)) (sym (λ i. are.0.0 i ++ (second i ++ []))) (id⊢ 𝓤 (Run Vs))) $
     enter ! 𝓣.C 𝓣.Λ fn Vs Post $ alloc_all ! (λ l. pass_all ! refl ((tt, tt), ((tt, tt), tt)) $ let Ev = env fn.locals l in
     first ! $ blocks ! $ sets_last ! (addr ! (through ! refl (stop !))) refl (tt, tt) $ exec ! 𝓣.C 𝓣.Λ Ev (after 1 fn.body) (at_ret Ev Post) $
-        sets ! (of_opd ! (get ! refl)) refl (tt, tt) $
+    sets ! (of_opd ! (get ! refl)) refl (tt, tt) $
     feq_i ! (List Val) (vptr pb po ∷ []) (vptr pb po ∷ []) refl $ fjoin ! $ move ! (1 ∷ 2 ∷ []) $ join ! $ nothing ! $ nothing ! $ fjoin ! $ nothing ! $
-        fjoin ! $
+    fjoin ! $
     use0 𝓛 (raw (fact 𝓤 Told)) (fact_i 𝓤 Told (emp 𝓤) refl) $ returns ! (look_at ! 0 refl) $ free_all ! refl $ keep ! (2 ∷ 1 ∷ 3 ∷ 0 ∷ []) $
     by ! (leaves 𝓛 En hs c z (vptr pb po) (record { ref_ptr = (pb, po); now = n.value }) (tt, (tt, tt)) (tt, (tt, tt)))))))

@@ -17,7 +17,7 @@ index_mut-requires c =
     let table = c.in_ok-at.ensures.found.0 in
     let kept = indexed_keeps _ _ _ _ c.self.invariant c.in_ok-at.ensures.found.1 in
     let there = read_is c.table_for.new.tables.items c.in_ok-at.at c.index_mut-table.result.now c.index_mut-table.ensures.value
-        (slice_get_within c.table_for.new.tables.items c.in_ok-at.at table.0 table.1) in
+    (slice_get_within c.table_for.new.tables.items c.in_ok-at.at table.0 table.1) in
     omega (arith, kept.wide c.in_ok-at.at c.index_mut-table.result.now there, c.index_mut-table.result.now.bits.ok, c.bit_of.ensures)
 
 pub invariant_of-self-2 : goal.invariant_of-self-2
@@ -25,8 +25,8 @@ invariant_of-self-2 c =
     let table = c.in_ok-at.ensures.found.0 in
     let kept = indexed_keeps _ _ _ _ c.self.invariant c.in_ok-at.ensures.found.1 in
     let there = read_is c.table_for.new.tables.items c.in_ok-at.at c.index_mut-table.result.now c.index_mut-table.ensures.value
-        (slice_get_within c.table_for.new.tables.items c.in_ok-at.at table.0 table.1) in
+    (slice_get_within c.table_for.new.tables.items c.in_ok-at.at table.0 table.1) in
     let one = some_same c.index_mut-table.result.now table.0 (sym there ∙ table.1) in
     let symbols : c.index_mut-table.result.now.symbol ≡ c.args.symbol = ap (λ (t : Table). t.symbol) one ∙ table.2 in
     rw c.in_ok-push.ensures.items (indexed_insert _ _ kept c.args.symbol c.args.from c.args.to c.in_ok-at.at c.index_mut-table.result.now _ there symbols refl
-        (ap (λ n. set c.index_mut-table.result.now.bits.items n true) c.bit_of.ensures) c.requires.begins c.requires.ends)
+    (ap (λ n. set c.index_mut-table.result.now.bits.items n true) c.bit_of.ensures) c.requires.begins c.requires.ends)

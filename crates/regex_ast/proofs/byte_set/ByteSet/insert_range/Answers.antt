@@ -18,9 +18,9 @@ returns c =
     let none : c.args.high < c.args.low =
     elim (cases_lt c.args.high c.args.low) [ inl h ↦ h | inr h ↦ absurd (omega (arith, c.loop-byte.auto.byte-end h)) ] in
     set_with_range c.self.inside.words c.loop-byte.self-inside.words c.args.self.now c.args.low c.args.high c.loop-byte.byte c.self.view_is
-        c.loop-byte.invariant.2
+    c.loop-byte.invariant.2
     (subst (λ n. (s : Bool) (b : ℕ) → (s || (nat_le c.args.low b && nat_lt b n)) ≡ (s || (nat_le c.args.low b && nat_le b c.args.high)))
-        (sym (c.loop-byte.invariant.1 none)) (no_more c.args.low c.args.high none))
+    (sym (c.loop-byte.invariant.1 none)) (no_more c.args.low c.args.high none))
 
 pub returns-2 : goal.returns-2
 returns-2 c =
@@ -29,5 +29,5 @@ returns-2 c =
     rw c.from.ensures
     (set_with_range c.self.inside.words _ c.args.self.now c.args.low c.args.high (c.loop-byte.byte + 1) c.self.view_is
     (bits-more c.self.inside.words c.loop-byte.self-inside.words c.args.low c.loop-byte.byte c.loop-byte.invariant.0 small c.loop-byte.auto.byte
-        c.loop-byte.invariant.2)
+    c.loop-byte.invariant.2)
     (rw last (all_of_them c.args.low c.args.high)))

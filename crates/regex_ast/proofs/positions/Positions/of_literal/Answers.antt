@@ -7,7 +7,7 @@ use Rattle.regex_ast.proofs.positions.Positions.of_literal.Goals as goal
 pub invariant_of-result : goal.invariant_of-result
 invariant_of-result c =
     let rows : length c.in_ok-in_line.field-0 ≡ length c.args.bytes.now = ap length c.in_ok-in_line.ensures ∙ length_rows
-        (next_below (length c.args.bytes.now)) 0 (length c.args.bytes.now) in
+    (next_below (length c.args.bytes.now)) 0 (length c.args.bytes.now) in
     let sets : length c.in_ok-one_each.field-0 ≡ length c.args.bytes.now = ap length c.in_ok-one_each.ensures ∙ length_only c.args.bytes.now in
     (rows ∙ sym sets, omega arith)
 

@@ -26,9 +26,9 @@ returns-clause-replied c =
     let before = c.self.inside.grammar.grammar in
     let edit = c.args.edit.now in
     let next : c.apply.new.self.grammar ≡ after before edit =
-        c.apply.ensures edit (c.in_ok-ready.ensures.ready edit c.in-Ok.ensures.entry c.in-Ok.ensures.taken) ∙ ap
-        (λ g. after g edit) c.in_ok-ready.ensures.history in
+    c.apply.ensures edit (c.in_ok-ready.ensures.ready edit c.in-Ok.ensures.entry c.in-Ok.ensures.taken) ∙ ap
+    (λ g. after g edit) c.in_ok-ready.ensures.history in
     let version : c.version-version.result ≡ c.args.self.now.version + 1 =
     c.version-version.ensures.version ∙ ap (λ (g : Grammar). g.version) next ∙ version_after before edit ∙ ap (λ (g : Grammar). g.version + 1) c.self.view_is in
     subst (λ n. IsReply c.args.self.now (Edit edit) (Edited n)) (sym version) (taken (ap (λ g. verdict g edit) (sym c.self.view_is)
-        ∙ c.in-Ok.ensures.taken.taken))
+    ∙ c.in-Ok.ensures.taken.taken))

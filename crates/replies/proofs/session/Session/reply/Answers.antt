@@ -9,7 +9,7 @@ use Rattle.replies.proofs.session.Session.reply.Goals as goal
 parsed_so : (c : goal.In_ok-outcome-in-Parse) → IsReply c.args.self.now c.args.command.now (Parse c.version-version.result c.in_ok-outcome-in-Parse.outcome)
 parsed_so c =
     parsed_reply c.self.inside.grammar.grammar c.args.self.now c.args.command.now c.in-Parse.text c.bytes.result.now c.version-version.result
-        c.in_ok-outcome-in-Parse.outcome
+    c.in_ok-outcome-in-Parse.outcome
     c.self.view_is c.in-Parse.is c.bytes.ensures c.version-version.ensures.version c.in_ok-outcome-in-Parse.ensures
 
 pub returns-in_ok-outcome-in-Parse-clause-replied : goal.returns-in_ok-outcome-in-Parse-clause-replied
@@ -24,7 +24,7 @@ scanned_so : (c : goal.In_ok-result-in-Tokens) → IsReply c.args.self.now c.arg
     (Tokens c.version-version-in-Tokens.result c.in_ok-result-in-Tokens.result)
 scanned_so c =
     scanned_reply c.self-in-Tokens.inside.grammar.grammar c.args.self.now c.args.command.now c.in-Tokens.text c.bytes-in-Tokens.result.now
-        c.version-version-in-Tokens.result c.in_ok-result-in-Tokens.result
+    c.version-version-in-Tokens.result c.in_ok-result-in-Tokens.result
     c.self-in-Tokens.view_is c.in-Tokens.is c.bytes-in-Tokens.ensures c.version-version-in-Tokens.ensures.version c.in_ok-result-in-Tokens.ensures
 
 pub returns-in_ok-result-in-Tokens-clause-replied : goal.returns-in_ok-result-in-Tokens-clause-replied
