@@ -22,7 +22,7 @@ well_formed_always history accepted = along empty_grammar history well_formed_em
 -- the rule is there already, or has this number
 pub new_rule : (g : Grammar) (edit : Edit) (live : Rule) → Contains (after g edit).rules live → Contains g.rules live ⊎ (live.number.0 ≡ g.version + 1)
 unfolding after
-new_rule g (AddRule r) live there = elim (Contains-push_cases g.rules (numbered (with_symbols g.symbols (symbols_of (AddRule r))) (g.version + 1) r) live there) [
+new_rule g (AddRule r) live is = elim (Contains-push_cases g.rules (numbered (with_symbols g.symbols (symbols_of (AddRule r))) (g.version + 1) r) live is) [
   | inl c ↦ inl c
   | inr e ↦ inr (ap (λ (r : Rule). r.number.0) (sym e))
 ]

@@ -19,7 +19,11 @@ use Rattle.pin_rule.specs.Keeps.{Keeps, Alike, law_of}
 use Rattle.pin_rule.proofs.Seats.{here}
 use Rattle.pin_rule.proofs.Telling.{tells, meets}
 
-words_alike : (b : Bool) (v : View) (ws : List ℕ) → Alike v (cond b (record v { log = v.log ++ record { words = ws } ∷ []; log_words = [] }) (record v { log_words = ws }))
+words_alike : (b : Bool) (v : View) (ws : List ℕ) → Alike v (cond b (record v {
+  log = v.log ++ record { words = ws } ∷ [];
+  log_words =
+      [];
+}) (record v { log_words = ws }))
 words_alike true v ws = (refl, refl)
 words_alike false v ws = (refl, refl)
 
@@ -49,14 +53,27 @@ module _ (L : List Entry → Type 0) (F : List Entry → List ℕ → Type 0) (k
   Read n w = (w.0 ≡ after me.0 o n) × (w.1 ≡ me.1) × Tells L F w.0 × Meets me.0 o n
 
   kept : (words : List ℕ) (views : List View) → Lawful L F me.0.sizes words views → get_elem? views id ≡ maybe.some me.0
-      → Lawful L F me.0.sizes (set words (word_of me.0.sizes o) (f (slice_index words (word_of me.0.sizes o)))) (set views id (after me.0 o (slice_index words (word_of me.0.sizes o))))
+      → Lawful L F me.0.sizes (set words (word_of me.0.sizes o) (f (slice_index words (word_of me.0.sizes o))))
+      (set views id (after me.0 o (slice_index words (word_of me.0.sizes o))))
   kept words views h at = let n = slice_index words (word_of me.0.sizes o) in
       subst (λ (x : ℕ). Lawful L F me.0.sizes (set words (word_of me.0.sizes o) x) (set views id (after me.0 o n))) (does_it n) (k words views id n h at refl)
 
   pub reads : me.0.share ≢ 0 → IsIn me.0.sizes o → Allows (law_of L F key) slots id me i f Read
-  reads some inside = subst (λ (y : Sizes). Allows (law_of L F y) slots id me i f Read) (sym same) (subst (λ (j : ℕ). Allows (law_of L F me.0.sizes) slots id me j f Read) (sym at_word)
-      (λ s h len at fit. let n = slice_index s.words (word_of me.0.sizes o) in let w = after me.0 o n in let a = alike me.0 o n in let h' = kept s.words s.views h at in
-      (w, keeps, tt, h', (refl, refl, tells L F me.0.sizes _ _ id w (here s.views id me.0 w at) h' (λ e. some (sym a.1 ∙ e)), meets L F me.0 s.words s.views id at h o inside))))
+  reads some inside = subst (λ (y : Sizes). Allows (law_of L F y) slots id me i f Read) (sym same)
+      (subst (λ (j : ℕ). Allows (law_of L F me.0.sizes) slots id me j f Read) (sym at_word)
+      (λ s h len at fit. let n = slice_index s.words (word_of me.0.sizes o) in let w = after me.0 o n in let a = alike me.0 o n in let h' =
+      kept s.words s.views h at in (
+        w,
+        keeps,
+        tt,
+        h',
+        (
+          refl,
+          refl,
+          tells L F me.0.sizes _ _ id w (here s.views id me.0 w at) h' (λ e. some (sym a.1 ∙ e)),
+          meets L F me.0 s.words s.views id at h o inside,
+        ),
+      )))
 
   abbrev pub Stored : View → Me (Unit {0}) View → Type 0
   Stored v w = (w.0 ≡ v) × (w.1 ≡ me.1)
@@ -64,4 +81,10 @@ module _ (L : List Entry → Type 0) (F : List Entry → List ℕ → Type 0) (k
   pub stores : (new : ℕ) → ((n m : ℕ) → after me.0 o n ≡ after me.0 o m) → Allows (law_of L F key) slots id me i f (λ _. Stored (after me.0 o new))
   stores new same_after = subst (λ (y : Sizes). Allows (law_of L F y) slots id me i f (λ _. Stored (after me.0 o new))) (sym same)
       (subst (λ (j : ℕ). Allows (law_of L F me.0.sizes) slots id me j f (λ _. Stored (after me.0 o new))) (sym at_word)
-      (λ s h len at fit. let n = slice_index s.words (word_of me.0.sizes o) in (after me.0 o n, keeps, tt, kept s.words s.views h at, (same_after n new, refl))))
+      (λ s h len at fit. let n = slice_index s.words (word_of me.0.sizes o) in (
+        after me.0 o n,
+        keeps,
+        tt,
+        kept s.words s.views h at,
+        (same_after n new, refl),
+      )))

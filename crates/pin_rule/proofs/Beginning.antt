@@ -90,7 +90,11 @@ begins L F z first = let ws = replicate (word_count z) (let o : ℕ = 0 in o) in
       };
       pinned = each (PinsLive first_role) (λ p e. absurd (none_some p e));
       pins = record {
-        counted = λ l t k. elim k [ inl y ↦ subst (λ (m : Live). release z ws m.page + 0 ≡ m.base + t) (sym y.0) (let a = none_dropped 0 in let b = y.1 in omega arith) | inr y ↦ absurd y.1 ];
+        counted = λ l t k. elim k [
+          | inl y ↦ subst (λ (m : Live). release z ws m.page + 0 ≡ m.base + t) (sym y.0) (let a = none_dropped 0 in let b =
+              y.1 in omega arith)
+          | inr y ↦ absurd y.1
+        ];
         released = λ page _ _. none_dropped page;
       };
       budget = (let a = sum_zero z.versions (release z ws) none_dropped in omega arith);

@@ -24,7 +24,8 @@ pins_else version p n = ap (λ b. cond b 1 0) (ne_eqb p.version version n)
 
 at_most_one : (version : ℕ) (o : Option Pin) → pins_on version o ≤ one_pin o
 at_most_one version None = omega arith
-at_most_one version (Some p) = dite (ℕ_discrete p.version version) (λ e. let a = pins_here version p e in omega arith) (λ n. let a = pins_else version p n in omega arith)
+at_most_one version (Some p) = dite (ℕ_discrete p.version version) (λ e. let a = pins_here version p e in omega arith) (λ n. let a =
+    pins_else version p n in omega arith)
 
 pub some_pinning : (views : List View) (version : ℕ) → pinning views version ≤ total pins_of views
 some_pinning views version = total_le (λ (u : View). pins_on version u.pinned) pins_of (λ u. let a = at_most_one version u.pinned in omega arith) views
@@ -34,4 +35,6 @@ module _ (L : List Entry → Type 0) (F : List Entry → List ℕ → Type 0) (z
   few_dropped page inside = let b = h.budget in let a = sum_at z.versions (release z words) page inside in omega arith
 
   pub few_taken : (l : Live) (t : ℕ) → HasTaken h.role h.taken l t → t ≤ z.pins
-  few_taken l t k = let c = h.pins.counted l t k in let b = h.budget in let a = sum_at z.versions (release z words) l.page (h.live.page_in l (taken_live z h.role h.live h.taken l t k)) in let n = some_pinning views l.version in omega arith
+  few_taken l t k = let c = h.pins.counted l t k in let b = h.budget in
+      let a = sum_at z.versions (release z words) l.page (h.live.page_in l (taken_live z h.role h.live h.taken l t k)) in
+      let n = some_pinning views l.version in omega arith

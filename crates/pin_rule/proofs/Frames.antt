@@ -1,5 +1,6 @@
 -- What a written word leaves: the words of the other parts of the table, and rows that are read by their words.
-use Rattle.std.proofs.Common.{◌≡◌, ◌≢◌, ℕ, zero, suc, ◌+◌, ◌*◌, ◌<◌, ◌≤◌, List, [], ◌∷◌, slice_index, length, set, sym, refl, ap, ◌∙◌, arith, get_or-set_other, get_or-set_same, get_or, suc-mul, inl, inr}
+use Rattle.std.proofs.Common.{◌≡◌, ◌≢◌, ℕ, zero, suc, ◌+◌, ◌*◌, ◌<◌, ◌≤◌, List, [], ◌∷◌, slice_index, length, set, sym, refl, ap, ◌∙◌, arith, get_or-set_other}
+use Rattle.std.proofs.Common.{get_or-set_same, get_or, suc-mul, inl, inr}
 use Rattle.std.proofs.lemmas.Bool.{cases_lt}
 use Rattle.std.proofs.Math.Nat.{mul-le-mul_right}
 use Rattle.pin_rule.specs.declared.sizes.Sizes.{Sizes}
@@ -23,7 +24,8 @@ pub key_same : (f g : ℕ → ℕ) (width : ℕ) → 2 + f 0 ≤ width → Same 
 key_same f g width h s = words_same f g width 2 (f 0) h s ∙ ap (words_of g 2) (s 0 (omega arith))
 
 pub content_same : (f g : ℕ → ℕ) (width : ℕ) → 2 + (f 0 + f 1) ≤ width → Same width f g → content_of f ≡ content_of g
-content_same f g width h s = let a = s 0 (omega arith) in let b = s 1 (omega arith) in words_same f g width 0 (2 + (f 0 + f 1)) (omega arith) s ∙ (λ i. words_of g 0 (2 + (a i + b i)))
+content_same f g width h s = let a = s 0 (omega arith) in let b = s 1 (omega arith) in
+    words_same f g width 0 (2 + (f 0 + f 1)) (omega arith) s ∙ (λ i. words_of g 0 (2 + (a i + b i)))
 
 length_words : (f : ℕ → ℕ) (from n : ℕ) → length (words_of f from n) ≡ n
 length_words f from zero = refl
@@ -159,11 +161,29 @@ module _ (z : Sizes) (words : List ℕ) (x : ℕ) where
 apart : (r q w i j : ℕ) → r < q → i < w → r * w + i ≢ q * w + j
 apart r q w i j h k e = let m = before r q w i h k in omega arith
 
-pub row-row : (z : Sizes) (words : List ℕ) (x row index r i : ℕ) → index < z.width → i < z.width → ((r ≡ row) → i ≢ index) → row_at z (set words (row_word z row index) x) r i ≡ row_at z words r i
-row-row z words x row index r i h k n = other z words x (row_word z row index) (row_word z r i) (λ e. let e' : r * z.width + i ≡ row * z.width + index = omega arith in
-    elim (cases_lt r row) [ inl a ↦ apart r row z.width i index a k e' | inr b ↦ elim (cases_lt row r) [ inl a ↦ apart row r z.width index i a h (sym e') | inr c ↦ let same : r ≡ row = omega arith in n same (let s : r * z.width ≡ row * z.width = ap (λ q. q * z.width) same in omega arith) ] ])
+pub row-row : (z : Sizes) (words : List ℕ) (x row index r i : ℕ) → index < z.width → i < z.width → ((r ≡ row) → i ≢ index)
+    → row_at z (set words (row_word z row index) x) r i ≡ row_at z words r i
+row-row z words x row index r i h k n = other z words x (row_word z row index) (row_word z r i) (λ e. let e' : r * z.width + i ≡ row * z.width + index =
+    omega arith in
+    elim (cases_lt r row) [
+      | inl a ↦ apart r row z.width i index a k e'
+      | inr b ↦ elim (cases_lt row r) [
+        | inl a ↦ apart row r z.width index i a h
+            (sym e')
+        | inr c ↦ let same : r ≡ row = omega arith in n same (let s : r * z.width ≡ row * z.width = ap (λ q. q * z.width) same in omega arith)
+      ]
+    ])
 
 -- a place of another page
-pub place-page : (z : Sizes) (words : List ℕ) (x page place q p : ℕ) → place < z.places → p < z.places → q ≢ page → entry z (set words (place_word z page place) x) q p ≡ entry z words q p
-place-page z words x page place q p h k n = other z words x (place_word z page place) (place_word z q p) (λ e. let e' : q * z.places + p ≡ page * z.places + place = omega arith in
-    elim (cases_lt q page) [ inl a ↦ apart q page z.places p place a k e' | inr b ↦ elim (cases_lt page q) [ inl a ↦ apart page q z.places place p a h (sym e') | inr c ↦ n (omega arith) ] ])
+pub place-page : (z : Sizes) (words : List ℕ) (x page place q p : ℕ) → place < z.places → p < z.places → q ≢ page
+    → entry z (set words (place_word z page place) x) q p ≡ entry z words q p
+place-page z words x page place q p h k n = other z words x (place_word z page place) (place_word z q p) (λ e. let e' : q * z.places + p
+    ≡ page * z.places + place = omega arith in
+    elim (cases_lt q page) [
+      | inl a ↦ apart q page z.places p place a k e'
+      | inr b ↦ elim (cases_lt page q) [
+        | inl a ↦ apart page q z.places place p a h
+            (sym e')
+        | inr c ↦ n (omega arith)
+      ]
+    ])

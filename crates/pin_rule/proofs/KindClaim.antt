@@ -26,7 +26,8 @@ use Rattle.pin_rule.proofs.Settling.{settles, right_pinned}
 use Rattle.pin_rule.proofs.KindLoads.{learns_met}
 use Rattle.pin_rule.proofs.Seats.{IsAlike, IsSteady, none_some, same_some, owns_cases, owns_here, owns_else}
 
-module _ (L : List Entry → Type 0) (F : List Entry → List ℕ → Type 0) (v : View) (row : ℕ) (inside : row < v.sizes.rows) (none : v.own ≡ None) (some : v.share ≢ 0) (pin : Pin) (pinned : v.pinned ≡ Some pin) where
+module _ (L : List Entry → Type 0) (F : List Entry → List ℕ → Type 0) (v : View) (row : ℕ) (inside : row < v.sizes.rows) (none : v.own ≡ None)
+    (some : v.share ≢ 0) (pin : Pin) (pinned : v.pinned ≡ Some pin) where
   abbrev z : Sizes
   z = v.sizes
 
@@ -36,7 +37,8 @@ module _ (L : List Entry → Type 0) (F : List Entry → List ℕ → Type 0) (v
   steady : (n : ℕ) → IsSteady v (after_claim v row n)
   steady n = record { log = refl; log_words = refl; pinned = refl; pins_left = refl }
 
-  module _ (words : List ℕ) (views : List View) (id : ℕ) (h : Lawful L F v.sizes words views) (at : get_elem? views id ≡ maybe.some v) (free : claim v.sizes words row ≡ 0) where
+  module _ (words : List ℕ) (views : List View) (id : ℕ) (h : Lawful L F v.sizes words views) (at : get_elem? views id ≡ maybe.some v)
+      (free : claim v.sizes words row ≡ 0) where
     abbrev w : View
     w = after_claim v row 0
 
@@ -72,9 +74,15 @@ module _ (L : List Entry → Type 0) (F : List Entry → List ℕ → Type 0) (v
 
     won : Lawful L F v.sizes words' (set views id w)
     won = settles L F z words words' views id v w at h (length-set words (claim_word z row) 1) (alike 0) (right_pinned v w pin (alike 0) some pinned) (steady 0)
-        (record { cur = claim-cur z words 1 row; releases = λ p pi. claim-release z words 1 row p pi; log = record { logs = λ e i _ _. claim-logged z words 1 row e i inside; made = λ m p _ _ _. claim-entry z words 1 row m.page p inside } })
         (record {
-          bit = λ r ri. dite (ℕ_discrete r row) (λ e. subst (λ (q : ℕ). claim z words' q ≤ 1) (sym e) (let c = here in omega arith)) (λ n. let c = claim-claim z words 1 row r n in let b = h.claims.bit r ri in omega arith);
+          cur = claim-cur z words 1 row;
+          releases = λ p pi. claim-release z words 1 row p pi;
+          log =
+              record { logs = λ e i _ _. claim-logged z words 1 row e i inside; made = λ m p _ _ _. claim-entry z words 1 row m.page p inside };
+        })
+        (record {
+          bit = λ r ri. dite (ℕ_discrete r row) (λ e. subst (λ (q : ℕ). claim z words' q ≤ 1) (sym e) (let c = here in omega arith)) (λ n. let c =
+              claim-claim z words 1 row r n in let b = h.claims.bit r ri in omega arith);
           in_use = λ r ri c'. dite (ℕ_discrete r row)
               (λ e. inl (id, o, owns_here views id v w at o refl, sym e))
               (λ n. elim (h.claims.in_use r ri (sym (claim-claim z words 1 row r n) ∙ c')) [
@@ -83,12 +91,27 @@ module _ (L : List Entry → Type 0) (F : List Entry → List ℕ → Type 0) (v
               ]);
           owned = λ i p x. elim (owns_cases views id v w at i p x) [
             | inl t ↦ subst (IsOwned z words' h.role) (sym (mine p t.1))
-                (record { in_range = inside; in_use = here; in_no_page = (λ y. outside (live_back z words words' h.role kept row y)); not_to_free = (λ y. idle z h.role h.live y.0 y.1); written = tt })
+                (record {
+                  in_range = inside;
+                  in_use = here;
+                  in_no_page = (λ y. outside (live_back z words words' h.role kept row y));
+                  not_to_free =
+                      (λ y. idle z h.role h.live y.0 y.1);
+                  written = tt;
+                })
             | inr t ↦ let q = h.claims.owned i p t.1 in owned_moves z words words' h.role F h.log h.live h.pages kept p q (stays p.row q.in_use) (same p.row)
           ];
           one_owner = λ i j p q x y e. elim (owns_cases views id v w at i p x) [
-            | inl t ↦ elim (owns_cases views id v w at j q y) [ inl u ↦ t.0 ∙ sym u.0 | inr u ↦ absurd (apart j q u.1 (sym e ∙ ap (λ (a : OwnRow). a.row) (mine p t.1))) ]
-            | inr t ↦ elim (owns_cases views id v w at j q y) [ inl u ↦ absurd (apart i p t.1 (e ∙ ap (λ (a : OwnRow). a.row) (mine q u.1))) | inr u ↦ h.claims.one_owner i j p q t.1 u.1 e ]
+            | inl t ↦ elim (owns_cases views id v w at j q y) [
+              | inl u ↦ t.0 ∙ sym u.0
+              | inr u ↦
+                  absurd (apart j q u.1 (sym e ∙ ap (λ (a : OwnRow). a.row) (mine p t.1)))
+            ]
+            | inr t ↦ elim (owns_cases views id v w at j q y) [
+              | inl u ↦ absurd (apart i p t.1 (e ∙ ap (λ (a : OwnRow). a.row) (mine q u.1)))
+              | inr u ↦
+                  h.claims.one_owner i j p q t.1 u.1 e
+            ]
           ];
           to_free = λ r x. absurd (idle z h.role h.live x.0 x.1);
         })
@@ -96,4 +119,5 @@ module _ (L : List Entry → Type 0) (F : List Entry → List ℕ → Type 0) (v
 
   pub keeps_claim : Keeps L F v (op.Claim row)
   keeps_claim words views id zero h at e = won words views id h at e
-  keeps_claim words views id (suc m) h at e = learns_met L F z words views id v (after_claim v row (suc m)) at h (claim_word z row) (suc m) e (alike (suc m)) (steady (suc m)) refl (h.known id v at) (h.facts id v at)
+  keeps_claim words views id (suc m) h at e = learns_met L F z words views id v (after_claim v row (suc m)) at h (claim_word z row) (suc m) e (alike (suc m))
+      (steady (suc m)) refl (h.known id v at) (h.facts id v at)

@@ -22,7 +22,8 @@ use Rattle.pin_rule.proofs.Seats.{IsAlike, none_some, owner_row, owns_cases, own
 module _ (L : List Entry → Type 0) (F : List Entry → List ℕ → Type 0) (v : View) (o : OwnRow) (own : v.own ≡ Some o) where
   pub keeps_give_back : Keeps L F v (op.GiveBack o.row)
   keeps_give_back words views id n h at _ =
-      let z = v.sizes in let row = o.row in let words' = set words (claim_word z row) 0 in let w : View = after_give_back v row in let views' = set views id w in
+      let z = v.sizes in let row = o.row in let words' = set words (claim_word z row) 0 in let w : View = after_give_back v row in
+      let views' = set views id w in
       let was : OwnsAt views id o = (v, at, own) in let mine = h.claims.owned id o was in let inside = mine.in_range in
       let alike : IsAlike v w = record { sizes = refl; share = refl; role = refl } in
       let free : claim z words' row ≡ 0 = wrote z words 0 (claim_word z row) h.long (claim_in z row inside) in
@@ -33,19 +34,37 @@ module _ (L : List Entry → Type 0) (F : List Entry → List ℕ → Type 0) (v
         in_use = λ r _ c st. stays r (λ e. mine.in_no_page (subst (IsHeldLive z words h.role) e st)) ∙ c;
         rows = λ r _ _ _. same r;
       } in
-      let theirs : (i : ℕ) (p : OwnRow) → OwnsAt views' i p → (i ≢ id) × OwnsAt views i p = λ i p y. elim (owns_cases views id v w at i p y) [ inl t ↦ absurd (none_some p t.1) | inr t ↦ t ] in
+      let theirs : (i : ℕ) (p : OwnRow) → OwnsAt views' i p → (i ≢ id) × OwnsAt views i p = λ i p y. elim (owns_cases views id v w at i p y) [
+        | inl t ↦
+            absurd (none_some p t.1)
+        | inr t ↦ t
+      ] in
       let others : (i : ℕ) (p : OwnRow) → i ≢ id → OwnsAt views i p → p.row ≢ row = λ i p n y e. n (h.claims.one_owner i id p o y was e) in
-      settles L F z words words' views id v w at h (length-set words (claim_word z row) 0) alike (right_free v w alike refl refl (h.shares.rightful id v at)) (record { log = refl; log_words = refl; pinned = refl; pins_left = refl })
-      (record { cur = claim-cur z words 0 row; releases = λ p pi. claim-release z words 0 row p pi; log = record { logs = λ e i _ _. claim-logged z words 0 row e i inside; made = λ m p _ _ _. claim-entry z words 0 row m.page p inside } })
+      settles L F z words words' views id v w at h (length-set words (claim_word z row) 0) alike (right_free v w alike refl refl (h.shares.rightful id v at))
+      (record { log = refl; log_words = refl; pinned = refl; pins_left = refl })
       (record {
-        bit = λ r ri. dite (ℕ_discrete r row) (λ e. subst (λ (q : ℕ). claim z words' q ≤ 1) (sym e) (omega arith)) (λ n. let b = h.claims.bit r ri in let e = stays r n in omega arith);
+        cur = claim-cur z words 0 row;
+        releases = λ p pi. claim-release z words 0 row p pi;
+        log =
+            record { logs = λ e i _ _. claim-logged z words 0 row e i inside; made = λ m p _ _ _. claim-entry z words 0 row m.page p inside };
+      })
+      (record {
+        bit = λ r ri. dite (ℕ_discrete r row) (λ e. subst (λ (q : ℕ). claim z words' q ≤ 1) (sym e) (omega arith)) (λ n. let b = h.claims.bit r ri in let e =
+            stays r n in omega arith);
         in_use = λ r ri c'. dite (ℕ_discrete r row)
             (λ e. absurd (not_one (claim z words' row) (ap (claim z words') (sym e) ∙ c') free))
             (λ n. elim (h.claims.in_use r ri (sym (stays r n) ∙ c')) [
-              | inl y ↦ inl (y.0, y.1, owns_else views id v w at y.0 y.1 (λ e. n (sym y.3 ∙ sym (owner_row views id v o y.1 at own (subst (λ (j : ℕ). OwnsAt views j y.1) e y.2)))) y.2, y.3)
+              | inl y ↦ inl (
+                y.0,
+                y.1,
+                owns_else views id v w at y.0 y.1 (λ e. n (sym y.3
+                    ∙ sym (owner_row views id v o y.1 at own (subst (λ (j : ℕ). OwnsAt views j y.1) e y.2)))) y.2,
+                y.3,
+              )
               | inr y ↦ elim y [ inl t ↦ inr (inl (live_on z words words' h.role kept r t)) | inr t ↦ absurd (idle z h.role h.live t.0 t.1) ]
             ]);
-        owned = λ i p y. let t = theirs i p y in let q = h.claims.owned i p t.1 in owned_moves z words words' h.role F h.log h.live h.pages kept p q (stays p.row (others i p t.0 t.1) ∙ q.in_use) (same p.row);
+        owned = λ i p y. let t = theirs i p y in let q = h.claims.owned i p t.1 in
+            owned_moves z words words' h.role F h.log h.live h.pages kept p q (stays p.row (others i p t.0 t.1) ∙ q.in_use) (same p.row);
         one_owner = λ i j p q y y' e. h.claims.one_owner i j p q (theirs i p y).1 (theirs j q y').1 e;
         to_free = λ r t. absurd (idle z h.role h.live t.0 t.1);
       })

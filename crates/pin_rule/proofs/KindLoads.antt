@@ -27,7 +27,8 @@ use Rattle.pin_rule.proofs.Seats.{IsAlike, IsSteady, none_some, same_some, owned
 use Rattle.pin_rule.proofs.Versions.{Speaks, speaks, idle}
 use Rattle.pin_rule.proofs.Settling.{settles, right_on}
 
-module _ (L : List Entry → Type 0) (F : List Entry → List ℕ → Type 0) (z : Sizes) (words : List ℕ) (views : List View) (id : ℕ) (v w : View) (at : get_elem? views id ≡ maybe.some v) (h : Lawful L F z words views) where
+module _ (L : List Entry → Type 0) (F : List Entry → List ℕ → Type 0) (z : Sizes) (words : List ℕ) (views : List View) (id : ℕ) (v w : View)
+    (at : get_elem? views id ≡ maybe.some v) (h : Lawful L F z words views) where
   -- a view may learn what stands
   pub learns : IsAlike v w → IsSteady v w → w.own ≡ v.own → KnowsWhole z words h.role w → Knows z words h.role w → Lawful L F z words (set views id w)
   learns alike steady same_own whole knows = settles L F z words words views id v w at h refl alike
@@ -37,15 +38,24 @@ module _ (L : List Entry → Type 0) (F : List Entry → List ℕ → Type 0) (z
       (record { places = λ _ _ _ _. refl; in_use = λ _ _ c _. c; rows = λ _ _ _ _ _ _. refl }) knows whole
 
   -- the same where the word that was read is written again
-  pub learns_met : (i n : ℕ) → slice_index words i ≡ n → IsAlike v w → IsSteady v w → w.own ≡ v.own → KnowsWhole z words h.role w → Knows z words h.role w → Lawful L F z (set words i n) (set views id w)
-  learns_met i n e alike steady same_own whole knows = subst (λ (ws : List ℕ). Lawful L F z ws (set views id w)) (sym (ap (set words i) (sym e) ∙ set_same words i)) (learns alike steady same_own whole knows)
+  pub learns_met : (i n : ℕ) → slice_index words i ≡ n → IsAlike v w → IsSteady v w → w.own ≡ v.own → KnowsWhole z words h.role w → Knows z words h.role w
+      → Lawful L F z (set words i n) (set views id w)
+  learns_met i n e alike steady same_own whole knows = subst (λ (ws : List ℕ). Lawful L F z ws (set views id w))
+      (sym (ap (set words i) (sym e) ∙ set_same words i)) (learns alike steady same_own whole knows)
 
-pub met_stands : (z : Sizes) (words : List ℕ) (role : Role) (live : IsVersions z role) (version : Option ℕ) (es : List EntryFact) (page place n : ℕ) → place < z.places
-    → ((m : ℕ) → version ≡ Some m → Speaks role page m) → entry z words page place ≡ n → Each (EntryStands z words role) es → Each (EntryStands z words role) (met_entry version es place n)
+pub met_stands : (z : Sizes) (words : List ℕ) (role : Role) (live : IsVersions z role) (version : Option ℕ) (es : List EntryFact) (page place n : ℕ)
+    → place < z.places
+    → ((m : ℕ) → version ≡ Some m → Speaks role page m) → entry z words page place ≡ n → Each (EntryStands z words role) es
+    → Each (EntryStands z words role) (met_entry version es place n)
 met_stands z words role live None es page place n inside of e h = h
 met_stands z words role live (Some m) es page place zero inside of e h = h
 met_stands z words role live (Some m) es page place (suc row) inside of e h = let s = of m refl in (
-  record { known = s.0; live = λ l i is. (inside, ap (λ (p : ℕ). entry z words p place) (s.1 l i is) ∙ e); given_up = λ g is _. absurd (idle z role live g is) },
+  record {
+    known = s.0;
+    live = λ l i is. (inside, ap (λ (p : ℕ). entry z words p place) (s.1 l i is) ∙ e);
+    given_up =
+        λ g is _. absurd (idle z role live g is);
+  },
   h,
 )
 
@@ -56,24 +66,37 @@ names (x ∷ xs) row version e = dite (ℕ_discrete x.row row)
     (λ same. (x, inl refl, same, same_some x.version version (sym (ap (λ b. cond b (Some x.version) (version_of xs row)) (eq-eqb x.row row same)) ∙ e)))
     (λ n. let r = names xs row version (sym (ap (λ b. cond b (Some x.version) (version_of xs row)) (ne_eqb x.row row n)) ∙ e) in (r.0, inr r.1, r.2, r.3))
 
-word_stands : (z : Sizes) (words : List ℕ) (role : Role) (o : Option ℕ) (es : List EntryFact) (ws : List WordFact) (row index n : ℕ) → version_of es row ≡ o → index < z.width → row_at z words row index ≡ n
+word_stands : (z : Sizes) (words : List ℕ) (role : Role) (o : Option ℕ) (es : List EntryFact) (ws : List WordFact) (row index n : ℕ) → version_of es row ≡ o
+    → index < z.width → row_at z words row index ≡ n
     → Each (EntryStands z words role) es → Each (WordStands z words role) ws → Each (WordStands z words role) (met_word o ws row index n)
 word_stands z words role None es ws row index n is inside read h k = k
-word_stands z words role (Some version) es ws row index n is inside read h k = let r = names es row version is in let e = each_in (EntryStands z words role) r.0 es h r.1 in (
-  record {
-    known = (let top = e.known in let same = r.3 in omega arith);
-    live = λ l i is_v. let y = e.live l i (is_v ∙ sym r.3) in ((r.0.place, y.0, y.1 ∙ ap suc r.2), (inside, read));
-  },
-  k,
-)
+word_stands z words role (Some version) es ws row index n is inside read h k = let r = names es row version is in
+    let e = each_in (EntryStands z words role) r.0 es h r.1 in (
+      record {
+        known = (let top = e.known in let same = r.3 in omega arith);
+        live = λ l i is_v. let y = e.live l i (is_v ∙ sym r.3) in ((r.0.place, y.0, y.1 ∙ ap suc r.2), (inside, read));
+      },
+      k,
+    )
 
 module _ (L : List Entry → Type 0) (F : List Entry → List ℕ → Type 0) (v : View) where
   pub keeps_load_place : (page place : ℕ) → place < v.sizes.places → Keeps L F v (op.LoadPlace page place)
   keeps_load_place page place inside words views id n h at e = let z = v.sizes in let w = after_load_place v page place n in let k = h.facts id v at in
-      learns_met L F z words views id v w at h (place_word z page place) n e (record { sizes = refl; share = refl; role = refl }) (record { log = refl; log_words = refl; pinned = refl; pins_left = refl }) refl (h.known id v at)
+      learns_met L F z words views id v w at h (place_word z page place) n e (record { sizes = refl; share = refl; role = refl }) (record {
+        log = refl;
+        log_words = refl;
+        pinned = refl;
+        pins_left = refl;
+      }) refl (h.known id v at)
       (met_stands z words h.role h.live (version_at v page) v.entries page place n inside (speaks L F z words views id v at h page) e k.0, k.1)
 
   pub keeps_load_row : (row index : ℕ) → index < v.sizes.width → Keeps L F v (op.LoadRow row index)
   keeps_load_row row index inside words views id n h at e = let z = v.sizes in let w = after_load_row v row index n in let k = h.facts id v at in
-      learns_met L F z words views id v w at h (row_word z row index) n e (record { sizes = refl; share = refl; role = refl }) (record { log = refl; log_words = refl; pinned = refl; pins_left = refl }) refl (h.known id v at)
+      learns_met L F z words views id v w at h (row_word z row index) n e (record { sizes = refl; share = refl; role = refl }) (record {
+        log = refl;
+        log_words =
+            refl;
+        pinned = refl;
+        pins_left = refl;
+      }) refl (h.known id v at)
       (k.0, word_stands z words h.role (version_of v.entries row) v.entries v.words row index n refl inside e k.0 k.1)

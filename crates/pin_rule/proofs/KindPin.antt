@@ -24,7 +24,8 @@ use Rattle.pin_rule.specs.Ops.{one_more}
 use Rattle.pin_rule.specs.Steps.{pin_of, after_pin, after_unpin}
 use Rattle.pin_rule.specs.Keeps.{Keeps}
 use Rattle.pin_rule.proofs.Lists.{in_at, in_mapped, total_set, sum_same, sum_more}
-use Rattle.pin_rule.proofs.Frames.{wrote, release_in, cur-release, cur-claim, cur-entry, cur-logged, cur-row, release-cur, release-release, release-claim, release-entry, release-logged, release-row}
+use Rattle.pin_rule.proofs.Frames.{wrote, release_in, cur-release, cur-claim, cur-entry, cur-logged, cur-row, release-cur, release-release, release-claim}
+use Rattle.pin_rule.proofs.Frames.{release-entry, release-logged, release-row}
 use Rattle.pin_rule.proofs.Seats.{IsAlike, none_some, same_some, each_set, owned_before, owned_after, claims_by}
 use Rattle.pin_rule.proofs.Versions.{newest_live, same_live, taken_live}
 use Rattle.pin_rule.proofs.Parts.{Kept, current_moves, pages_move, carried_moves, knows_on, known_on, claims_keep}
@@ -41,33 +42,43 @@ pub record Elsewhere (z : Sizes) (words words' : List ℕ) : Type 0 where
   pub rows : (r i : ℕ) → row_at z words' r i ≡ row_at z words r i
 
 -- a word of CUR or of the releases was written, and the seat has another pin
-module _ (L : List Entry → Type 0) (F : List Entry → List ℕ → Type 0) (z : Sizes) (words words' : List ℕ) (views : List View) (id : ℕ) (v w : View) (at : get_elem? views id ≡ maybe.some v)
+module _ (L : List Entry → Type 0) (F : List Entry → List ℕ → Type 0) (z : Sizes) (words words' : List ℕ) (views : List View) (id : ℕ) (v w : View)
+    (at : get_elem? views id ≡ maybe.some v)
     (h : Lawful L F z words views) (long : length words' ≡ length words) (alike : IsAlike v w) (right : IsRightful w) (else_ : Elsewhere z words words') where
   kept : Kept z words words' h.role
   kept = record { places = λ l p _ _. else_.entries l.page p; in_use = λ r _ c _. else_.claims r ∙ c; rows = λ r _ _ _ i _. sym (else_.rows r i) }
 
-  pub repins : (taken : ℕ) → slice_index words' 0 ≡ current_of h.role taken → w.own ≡ v.own → (w.log ≡ v.log) → KnowsLog h.log w → Knows z words h.role w → KnowsWhole z words h.role w
+  pub repins : (taken : ℕ) → slice_index words' 0 ≡ current_of h.role taken → w.own ≡ v.own → (w.log ≡ v.log) → KnowsLog h.log w → Knows z words h.role w
+      → KnowsWhole z words h.role w
       → PinsLive h.role w → Pins z words' (set views id w) h.role taken → Budget z words' (set views id w) → Lawful L F z words' (set views id w)
   repins taken cur same_own same_log log knows whole pinned pins budget = builds L F z words words' views id v w at h long alike right taken (λ _ _. same_log)
-      (current_moves z words words' h.role L h.log h.taken taken (record { logs = λ e i _ _. else_.logs e i; made = λ m p _ _ _. else_.entries m.page p }) cur h.current)
+      (current_moves z words words' h.role L h.log h.taken taken (record {
+        logs = λ e i _ _. else_.logs e i;
+        made =
+            λ m p _ _ _. else_.entries m.page p;
+      }) cur h.current)
       log pinned pins budget
       (claims_by z words' h.role views (set views id w) (owned_before views id v w at same_own) (owned_after views id v w at same_own)
       (claims_keep z words words' h.role F h.log h.live h.pages kept views (λ r _. else_.claims r) (λ r _ i _. sym (else_.rows r i)) h.claims))
       (pages_move z words words' h.role F h.log h.live h.pages kept)
       (carried_moves z words words' h.role F h.log h.live h.pages kept h.carried)
-      (let on = knows_on z words words' h.role F h.log h.live h.pages kept in each_set views id v w at (Knows z words' h.role) (on w knows) (λ j u e. on u (h.facts j u e)))
-      (let on = known_on z words words' h.role F h.log h.live h.pages kept in each_set views id v w at (KnowsWhole z words' h.role) (on w whole) (λ j u e. on u (h.known j u e)))
+      (let on = knows_on z words words' h.role F h.log h.live h.pages kept in each_set views id v w at (Knows z words' h.role) (on w knows)
+      (λ j u e. on u (h.facts j u e)))
+      (let on = known_on z words words' h.role F h.log h.live h.pages kept in each_set views id v w at (KnowsWhole z words' h.role) (on w whole)
+      (λ j u e. on u (h.known j u e)))
 
 -- an older version is not the newest
 older_below : (z : Sizes) (role : Role) → IsVersions z role → (o : Older) → In o role.older → o.live.version < role.newest.version
-older_below z role h o i = let r = in_at o.live (map (λ (x : Older). x.live) role.older) (in_mapped (λ (x : Older). x.live) o role.older i) in let e = h.consecutive (suc r.0) o.live r.1 in omega arith
+older_below z role h o i = let r = in_at o.live (map (λ (x : Older). x.live) role.older) (in_mapped (λ (x : Older). x.live) o role.older i) in
+    let e = h.consecutive (suc r.0) o.live r.1 in omega arith
 
 module _ (L : List Entry → Type 0) (F : List Entry → List ℕ → Type 0) (v : View) (some : v.share ≢ 0) (free : v.pinned ≡ None) (left : 1 ≤ v.pins_left) where
   pub keeps_pin : Keeps L F v op.Pin
   keeps_pin words views id n h at e =
       let z = v.sizes in let w = after_pin v n in let x = one_more n in let words' = set words 0 x in let views' = set views id w in let role = h.role in
       let top = h.current.cur in let few = few_taken L F z words views h role.newest h.taken (inl (refl, refl)) in let most = z.pins_in in
-      let page_in = h.live.page_in role.newest (newest_live role) in let pages = z.versions_in in let version = h.current.version in let log_in = h.current.log_in in let logs = z.log_in in
+      let page_in = h.live.page_in role.newest (newest_live role) in let pages = z.versions_in in let version = h.current.version in
+      let log_in = h.current.log_in in let logs = z.log_in in
       let above = room_above role.newest.version role.newest.page h.taken (omega arith) (omega arith) (omega arith) in
       let plus : one_more n ≡ n + 1 = no_carry n (omega arith) in
       let some_words : 0 < word_count z = omega arith in
@@ -80,27 +91,40 @@ module _ (L : List Entry → Type 0) (F : List Entry → List ℕ → Type 0) (v
       (h.taken + 1)
       (let a = wrote z words x 0 h.long some_words in let r : x ≡ current_of role (h.taken + 1) = omega arith in a ∙ r)
       refl refl (record { prefix = my.prefix; few = my.few; words = my.words }) (h.facts id v at) (h.known id v at)
-      (λ p is. let s = same_some (pin_of n) p is in (role.newest, newest_live role, sym same_version ∙ ap (λ (q : Pin). q.version) s, sym same_page ∙ ap (λ (q : Pin). q.page) s))
+      (λ p is. let s = same_some (pin_of n) p is in (
+        role.newest,
+        newest_live role,
+        sym same_version ∙ ap (λ (q : Pin). q.version) s,
+        sym same_page
+            ∙ ap (λ (q : Pin). q.page) s,
+      ))
       (record {
         counted = λ l t k. let f : ℕ → View → ℕ = λ version u. pins_on version u.pinned in elim k [
           | inl y ↦ subst (λ (m : Live). release z words' m.page + pinning views' m.version ≡ m.base + t) (sym y.0)
-              (let c = h.pins.counted role.newest h.taken (inl (refl, refl)) in let a = total_set (f role.newest.version) views id v w at in let r = cur-release z words x role.newest.page in
-              let none = ap (pins_on role.newest.version) free in let one = pins_here role.newest.version (pin_of n) same_version in let is = y.1 in omega arith)
-          | inr y ↦ let c = h.pins.counted l t (inr y) in let a = total_set (f l.version) views id v w at in let r = cur-release z words x l.page in let none = ap (pins_on l.version) free in
-              let below = older_below z role h.live y.0 y.1 in let is = ap (λ (m : Live). m.version) y.2 in let zero_more = pins_else l.version (pin_of n) (λ q. omega arith) in omega arith
+              (let c = h.pins.counted role.newest h.taken (inl (refl, refl)) in let a = total_set (f role.newest.version) views id v w at in let r =
+              cur-release z words x role.newest.page in
+              let none = ap (pins_on role.newest.version) free in let one = pins_here role.newest.version (pin_of n) same_version in let is = y.1 in
+              omega arith)
+          | inr y ↦ let c = h.pins.counted l t (inr y) in let a = total_set (f l.version) views id v w at in let r = cur-release z words x l.page in
+              let none = ap (pins_on l.version) free in
+              let below = older_below z role h.live y.0 y.1 in let is = ap (λ (m : Live). m.version) y.2 in
+              let zero_more = pins_else l.version (pin_of n) (λ q. omega arith) in omega arith
         ];
         released = λ page inside none. cur-release z words x page ∙ h.pins.released page inside none;
       })
-      (let b = h.budget in let s = sum_same z.versions (release z words') (release z words) (λ page _. cur-release z words x page) in let t = total_set pins_of views id v w at in let none = ap one_pin free in omega arith)
+      (let b = h.budget in let s = sum_same z.versions (release z words') (release z words) (λ page _. cur-release z words x page) in let t =
+      total_set pins_of views id v w at in let none = ap one_pin free in omega arith)
 
 module _ (L : List Entry → Type 0) (F : List Entry → List ℕ → Type 0) (v : View) (p : Pin) (pinned : v.pinned ≡ Some p) (free : v.own ≡ None) where
   pub keeps_unpin : Keeps L F v (op.Unpin p.page)
   keeps_unpin words views id n h at e =
-      let z = v.sizes in let w = after_unpin v p.page n in let x = one_more n in let i = release_word z p.page in let words' = set words i x in let views' = set views id w in let role = h.role in
+      let z = v.sizes in let w = after_unpin v p.page n in let x = one_more n in let i = release_word z p.page in let words' = set words i x in
+      let views' = set views id w in let role = h.role in
       let l0 = h.pinned id v at p pinned in let my_page : p.page < z.versions = (let a = h.live.page_in l0.0 l0.1 in let b = l0.3 in omega arith) in
       let few = few_dropped L F z words views h p.page my_page in let most = z.pins_in in
       let plus : one_more n ≡ n + 1 = no_carry n (omega arith) in
-      let more : release z words' p.page ≡ release z words p.page + 1 = wrote z words x i h.long (release_in z p.page my_page) ∙ plus ∙ ap (λ (m : ℕ). m + 1) (sym e) in
+      let more : release z words' p.page ≡ release z words p.page + 1 = wrote z words x i h.long (release_in z p.page my_page) ∙ plus ∙ ap (λ (m : ℕ). m + 1)
+      (sym e) in
       let alike : IsAlike v w = record { sizes = refl; share = refl; role = refl } in let my = h.logs id v at in let right = h.shares.rightful id v at in
       repins L F z words words' views id v w at h (length-set words i x) alike (λ q. absurd (none_some p (sym (right.0 q).0 ∙ pinned)), λ _. free)
       (record {
@@ -109,15 +133,20 @@ module _ (L : List Entry → Type 0) (F : List Entry → List ℕ → Type 0) (v
         logs = λ a b. release-logged z words x p.page a b my_page;
         rows = λ r b. release-row z words x p.page r b my_page;
       })
-      h.taken (release-cur z words x p.page ∙ h.current.cur) refl refl (record { prefix = my.prefix; few = my.few; words = my.words }) (h.facts id v at) (h.known id v at)
+      h.taken (release-cur z words x p.page ∙ h.current.cur) refl refl (record { prefix = my.prefix; few = my.few; words = my.words }) (h.facts id v at)
+      (h.known id v at)
       (λ q is. absurd (none_some q is))
       (record {
-        counted = λ l t k. let live = taken_live z role h.live h.taken l t k in let c = h.pins.counted l t k in let f : View → ℕ = λ u. pins_on l.version u.pinned in let a = total_set f views id v w at in
+        counted = λ l t k. let live = taken_live z role h.live h.taken l t k in let c = h.pins.counted l t k in
+            let f : View → ℕ = λ u. pins_on l.version u.pinned in let a = total_set f views id v w at in
             let was = ap (pins_on l.version) pinned in dite (ℕ_discrete l.page p.page)
-            (λ same. let is = same_live z role h.live l l0.0 live l0.1 (h.live.pages_differ l l0.0 live l0.1 (same ∙ sym l0.3)) in let one = pins_here l.version p (sym l0.2 ∙ ap (λ (m : Live). m.version) (sym is)) in
+            (λ same. let is = same_live z role h.live l l0.0 live l0.1 (h.live.pages_differ l l0.0 live l0.1 (same ∙ sym l0.3)) in let one =
+            pins_here l.version p (sym l0.2 ∙ ap (λ (m : Live). m.version) (sym is)) in
             let r0 = ap (release z words) same in let r1 = ap (release z words') same in omega arith)
             (λ other. let r = release-release z words x p.page l.page other in
-            let zero_more = pins_else l.version p (λ q. other (ap (λ (m : Live). m.page) (same_live z role h.live l l0.0 live l0.1 (sym q ∙ sym l0.2)) ∙ l0.3)) in omega arith);
+            let zero_more = pins_else l.version p (λ q. other (ap (λ (m : Live). m.page) (same_live z role h.live l l0.0 live l0.1 (sym q ∙ sym l0.2))
+            ∙ l0.3)) in omega arith);
         released = λ page inside none. release-release z words x p.page page (λ q. none l0.0 l0.1 (l0.3 ∙ sym q)) ∙ h.pins.released page inside none;
       })
-      (let b = h.budget in let s = sum_more z.versions (release z words) (release z words') p.page my_page more (λ j _ q. release-release z words x p.page j q) in let t = total_set pins_of views id v w at in let one = ap one_pin pinned in omega arith)
+      (let b = h.budget in let s = sum_more z.versions (release z words) (release z words') p.page my_page more
+      (λ j _ q. release-release z words x p.page j q) in let t = total_set pins_of views id v w at in let one = ap one_pin pinned in omega arith)

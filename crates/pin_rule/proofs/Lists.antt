@@ -95,12 +95,17 @@ sum_same (suc n) f g h = let a = sum_same n f g (λ i lt. h i (omega arith)) in 
 
 pub sum_at : (n : ℕ) (f : ℕ → ℕ) (i : ℕ) → i < n → f i ≤ sum_to n f
 sum_at zero f i h = absurd (omega arith)
-sum_at (suc n) f i h = elim (cases_lt i n) [ inl lt ↦ let a = sum_at n f i lt in omega arith | inr ge ↦ let same : i ≡ n = omega arith in let e = ap f same in omega arith ]
+sum_at (suc n) f i h = elim (cases_lt i n) [
+  | inl lt ↦ let a = sum_at n f i lt in omega arith
+  | inr ge ↦ let same : i ≡ n = omega arith in let e =
+      ap f same in omega arith
+]
 
 -- one of them is one more
 pub sum_more : (n : ℕ) (f g : ℕ → ℕ) (i : ℕ) → i < n → g i ≡ f i + 1 → ((j : ℕ) → j < n → j ≢ i → g j ≡ f j) → sum_to n g ≡ sum_to n f + 1
 sum_more zero f g i h e s = absurd (omega arith)
 sum_more (suc n) f g i h e s = elim (cases_lt i n) [
   | inl lt ↦ let a = sum_more n f g i lt e (λ j lj ne. s j (omega arith) ne) in let b = s n (omega arith) (λ x. omega arith) in omega arith
-  | inr ge ↦ let same : i ≡ n = omega arith in let b : sum_to n g ≡ sum_to n f = sum_same n g f (λ j lt. s j (omega arith) (λ x. omega arith)) in let c = ap f same in let d = ap g same in omega arith
+  | inr ge ↦ let same : i ≡ n = omega arith in let b : sum_to n g ≡ sum_to n f = sum_same n g f (λ j lt. s j (omega arith) (λ x. omega arith)) in
+      let c = ap f same in let d = ap g same in omega arith
 ]

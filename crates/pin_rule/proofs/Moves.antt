@@ -20,7 +20,13 @@ module _ (F : List ℕ → Type 0) (z : Sizes) (words words' : List ℕ) (page :
         in_use = c;
         room = omega arith;
         fitting = subst F (content_same f g z.width room s) e.fitting;
-        path = subst (λ (key : List ℕ). StandsOnPath z words' page p key) k (e.path.0, e.path.1, e.path.2, λ q lt. up (on_path z (key_of f) q) (on_page z (key_of f) (omega arith) q) (e.path.3 q lt));
+        path = subst (λ (key : List ℕ). StandsOnPath z words' page p key) k (
+          e.path.0,
+          e.path.1,
+          e.path.2,
+          λ q lt. up (on_path z (key_of f) q)
+              (on_page z (key_of f) (omega arith) q) (e.path.3 q lt),
+        );
       }
 
   -- each place is as it was, and each row that a place holds is in use and as it was
@@ -43,8 +49,10 @@ module _ (F : List ℕ → Type 0) (z : Sizes) (words words' : List ℕ) (page :
     page_moves = record {
       entries = λ p r inside e'. let e : entry z words page p ≡ suc r = sym (kept.places p inside) ∙ e' in let i = h.entries p r inside e in
           entry_moves p r inside i (kept.in_use r i.in_range i.in_use (p, inside, e)) (row_moves p r inside e) (λ q qi ne z'. ne (sym (kept.places q qi) ∙ z'));
-      keys_once = λ p q a b pi qi ea' eb' k. let ea : entry z words page p ≡ suc a = sym (kept.places p pi) ∙ ea' in let eb : entry z words page q ≡ suc b = sym (kept.places q qi) ∙ eb' in
+      keys_once = λ p q a b pi qi ea' eb' k. let ea : entry z words page p ≡ suc a = sym (kept.places p pi) ∙ ea' in
+          let eb : entry z words page q ≡ suc b = sym (kept.places q qi) ∙ eb' in
           let ra = (h.entries p a pi ea).room in let rb = (h.entries q b qi eb).room in
           h.keys_once p q a b pi qi ea eb
-          (key_same (row_at z words a) (row_at z words' a) z.width (omega arith) (row_moves p a pi ea) ∙ k ∙ sym (key_same (row_at z words b) (row_at z words' b) z.width (omega arith) (row_moves q b qi eb)));
+          (key_same (row_at z words a) (row_at z words' a) z.width (omega arith) (row_moves p a pi ea) ∙ k
+          ∙ sym (key_same (row_at z words b) (row_at z words' b) z.width (omega arith) (row_moves q b qi eb)));
     }

@@ -8,7 +8,8 @@ high : (n taken : ℕ) → taken < 4294967296 → (4294967296 * n + taken) / 429
 high n taken h = omega arith
 
 pub version_is : (version page taken : ℕ) → page < 16 → taken < 4294967296 → version_named (2 ^ 32 * (16 * version + page) + taken) ≡ version
-version_is version page taken p t = ap (λ (n : ℕ). n / 16) (high (16 * version + page) taken t) ∙ (let r : (16 * version + page) / 16 ≡ version = omega arith in r)
+version_is version page taken p t = ap (λ (n : ℕ). n / 16) (high (16 * version + page) taken t) ∙ (let r : (16 * version + page) / 16 ≡ version =
+    omega arith in r)
 
 pub page_is : (version page taken : ℕ) → page < 16 → taken < 4294967296 → page_named (2 ^ 32 * (16 * version + page) + taken) ≡ page
 page_is version page taken p t = ap (λ (n : ℕ). n % 16) (high (16 * version + page) taken t) ∙ (let r : (16 * version + page) % 16 ≡ page = omega arith in r)

@@ -35,7 +35,8 @@ module _ (z : Sizes) (words words' : List ℕ) (role : Role) where
     pub releases : (page : ℕ) → page < z.versions → release z words' page ≡ release z words page
     pub log : LogStays
 
-  pub current_moves : (L : List Entry → Type 0) (log : List Entry) (taken taken' : ℕ) → LogStays → slice_index words' 0 ≡ current_of role taken' → IsCurrent L z words log role taken → IsCurrent L z words' log role taken'
+  pub current_moves : (L : List Entry → Type 0) (log : List Entry) (taken taken' : ℕ) → LogStays → slice_index words' 0 ≡ current_of role taken'
+      → IsCurrent L z words log role taken → IsCurrent L z words' log role taken'
   current_moves L log taken taken' q cur h = record {
     cur = cur;
     version = h.version;
@@ -84,15 +85,18 @@ module _ (z : Sizes) (words words' : List ℕ) (role : Role) where
       rows = λ r ri c x. kept.rows r ri c (l, i, x);
     })
 
-    pub content_stays : (next : List Entry) (l : Live) (r : ℕ) → IsLive role l → IsHeld z words l.page r → F next (content_of (row_at z words r)) → F next (content_of (row_at z words' r))
-    content_stays next l r i x = subst (F next) (content_same (row_at z words r) (row_at z words' r) z.width ((h l i).entries x.0 r x.1 x.2).room (row_stays l r i x))
+    pub content_stays : (next : List Entry) (l : Live) (r : ℕ) → IsLive role l → IsHeld z words l.page r → F next (content_of (row_at z words r))
+        → F next (content_of (row_at z words' r))
+    content_stays next l r i x = subst (F next) (content_same (row_at z words r) (row_at z words' r) z.width ((h l i).entries x.0 r x.1 x.2).room
+        (row_stays l r i x))
 
     pub carried_moves : Carried F z words log role → Carried F z words' log role
     carried_moves c = record {
       between = λ a b d row ia ib id lt le x y. c.between a b d row ia ib id lt le (held_back kept a row ia x) (held_back kept d row id y);
       after_left = λ g b d row e ib id le x y. absurd (idle z role live g e);
       stands = λ l row i x. held_on kept l row i (c.stands l row i x);
-      kept = λ m next place row is to lt e. let k = c.kept m next place row is to lt e in let i = newest_live role in (held_on kept role.newest row i k.0, content_stays next role.newest row i k.0 k.1);
+      kept = λ m next place row is to lt e. let k = c.kept m next place row is to lt e in let i = newest_live role in
+          (held_on kept role.newest row i k.0, content_stays next role.newest row i k.0 k.1);
     }
 
     stands_on : (l : Live) (r : ℕ) → IsLive role l → IsHeld z words l.page r → (w : ℕ × ℕ) → StandsIn z words r w → StandsIn z words' r w
@@ -101,17 +105,37 @@ module _ (z : Sizes) (words words' : List ℕ) (role : Role) where
     pub knows_on : (v : View) → Knows z words role v → Knows z words' role v
     knows_on v k = (
       each_map (EntryStands z words role) (EntryStands z words' role)
-          (λ e x. record { known = x.known; live = λ l i is. let y = x.live l i is in (y.0, kept.places l e.place i y.0 ∙ y.1); given_up = λ g is _. absurd (idle z role live g is) }) v.entries k.0,
+          (λ e x. record {
+            known = x.known;
+            live = λ l i is. let y = x.live l i is in (y.0, kept.places l e.place i y.0 ∙ y.1);
+            given_up =
+                λ g is _. absurd (idle z role live g is);
+          }) v.entries k.0,
       each_map (WordStands z words role) (WordStands z words' role)
-          (λ w x. record { known = x.known; live = λ l i is. let y = x.live l i is in (held_on kept l w.row i y.0, stands_on l w.row i y.0 (w.index, w.word) y.1) }) v.words k.1,
+          (λ w x. record {
+            known = x.known;
+            live = λ l i is. let y = x.live l i is in (
+              held_on kept l w.row i y.0,
+              stands_on l w.row i y.0 (
+                w.index,
+                w.word,
+              ) y.1,
+            );
+          }) v.words k.1,
     )
 
     pub known_on : (v : View) → KnowsWhole z words role v → KnowsWhole z words' role v
     known_on v k all = each_map (IsKnown z words role) (IsKnown z words' role)
-        (λ p x. let i = newest_live role in (x.0, kept.places role.newest p.place i x.0 ∙ x.1, λ row e. each_map (StandsIn z words row) (StandsIn z words' row) (stands_on role.newest row i (p.place, x.0, x.1 ∙ e)) p.words (x.2 row e)))
+        (λ p x. let i = newest_live role in (
+          x.0,
+          kept.places role.newest p.place i x.0 ∙ x.1,
+          λ row e. each_map (StandsIn z words row) (StandsIn z words' row)
+              (stands_on role.newest row i (p.place, x.0, x.1 ∙ e)) p.words (x.2 row e),
+        ))
         v.known (k all)
 
-    pub owned_moves : (o : OwnRow) → IsOwned z words role o → claim z words' o.row ≡ 1 → Same z.width (row_at z words o.row) (row_at z words' o.row) → IsOwned z words' role o
+    pub owned_moves : (o : OwnRow) → IsOwned z words role o → claim z words' o.row ≡ 1 → Same z.width (row_at z words o.row) (row_at z words' o.row)
+        → IsOwned z words' role o
     owned_moves o i c s = record {
       in_range = i.in_range;
       in_use = c;
@@ -121,10 +145,18 @@ module _ (z : Sizes) (words words' : List ℕ) (role : Role) where
     }
 
     -- the claim words stay as well, and all rows
-    pub claims_keep : (views : List View) → ((r : ℕ) → r < z.rows → claim z words' r ≡ claim z words r) → ((r : ℕ) → r < z.rows → Same z.width (row_at z words r) (row_at z words' r)) → Claims z words views role → Claims z words' views role
+    pub claims_keep : (views : List View) → ((r : ℕ) → r < z.rows → claim z words' r ≡ claim z words r)
+        → ((r : ℕ) → r < z.rows → Same z.width (row_at z words r) (row_at z words' r)) → Claims z words views role → Claims z words' views role
     claims_keep views stays same c = record {
       bit = λ r ri. let b = c.bit r ri in let e = stays r ri in omega arith;
-      in_use = λ r ri e. elim (c.in_use r ri (sym (stays r ri) ∙ e)) [ inl y ↦ inl y | inr y ↦ elim y [ inl t ↦ inr (inl (live_on kept r t)) | inr t ↦ absurd (idle z role live t.0 t.1) ] ];
+      in_use = λ r ri e. elim (c.in_use r ri (sym (stays r ri) ∙ e)) [
+        | inl y ↦ inl y
+        | inr y ↦ elim y [
+          | inl t ↦ inr (inl (live_on kept r t))
+          | inr t ↦
+              absurd (idle z role live t.0 t.1)
+        ]
+      ];
       owned = λ i o y. let q = c.owned i o y in owned_moves o q (stays o.row q.in_range ∙ q.in_use) (same o.row q.in_range);
       one_owner = c.one_owner;
       to_free = λ r t. absurd (idle z role live t.0 t.1);

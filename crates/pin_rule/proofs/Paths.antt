@@ -16,7 +16,8 @@ module _ (z : Sizes) (key : List ℕ) (some : 0 < z.places) where
 
   turn : (step : ℕ) → on_path z key (step + 1) ≡ suc (on_path z key step) % z.places
   unfolding on_path
-  turn step = let x : ℕ = hashed 0 key / 2 ^ 32 in ap (λ (n : ℕ). n % z.places) (let r : x + (step + 1) ≡ suc (x + step) = omega arith in r) ∙ suc-mod (x + step) z.places
+  turn step = let x : ℕ = hashed 0 key / 2 ^ 32 in ap (λ (n : ℕ). n % z.places) (let r : x + (step + 1) ≡ suc (x + step) = omega arith in r) ∙ suc-mod
+      (x + step) z.places
 
   -- the path goes on by one, and from the last place to the first
   pub path_on : (step : ℕ) → suc (on_path z key step) < z.places → on_path z key (step + 1) ≡ suc (on_path z key step)
@@ -28,7 +29,8 @@ module _ (z : Sizes) (key : List ℕ) (some : 0 < z.places) where
   up_to_end : (d : ℕ) → on_path z key 0 + d < z.places → on_path z key d ≡ on_path z key 0 + d
   up_to_end zero h = omega arith
   up_to_end (suc d) h = let start : ℕ = on_path z key 0 in let e : on_path z key d ≡ start + d = up_to_end d (omega arith) in
-      ap (on_path z key) (let r : suc d ≡ d + 1 = omega arith in r) ∙ path_on d (omega arith) ∙ (let r : suc (on_path z key d) ≡ start + suc d = omega arith in r)
+      ap (on_path z key) (let r : suc d ≡ d + 1 = omega arith in r) ∙ path_on d (omega arith) ∙ (let r : suc (on_path z key d) ≡ start + suc d =
+      omega arith in r)
 
   from_first : (d e : ℕ) → on_path z key 0 + d ≡ z.places → e < z.places → on_path z key (d + e) ≡ e
   from_first zero e s h = let b = on_page 0 in absurd (omega arith)

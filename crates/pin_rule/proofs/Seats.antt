@@ -24,7 +24,8 @@ same_some p o e = cc
 
 -- a seat owns one row
 pub owner_row : (views : List View) (id : ℕ) (v : View) (o p : OwnRow) → get_elem? views id ≡ maybe.some v → v.own ≡ Some o → OwnsAt views id p → o.row ≡ p.row
-owner_row views id v o p at own y = ap (λ (a : OwnRow). a.row) (same_some o p (sym own ∙ ap (λ (u : View). u.own) (maybe.some-injective v y.0 (sym at ∙ y.1)) ∙ y.2))
+owner_row views id v o p at own y = ap (λ (a : OwnRow). a.row) (same_some o p (sym own ∙ ap (λ (u : View). u.own) (maybe.some-injective v y.0 (sym at ∙ y.1))
+    ∙ y.2))
 
 -- the fields that each step on a word leaves
 pub record IsAlike (v w : View) : Type 0 where
@@ -66,13 +67,19 @@ module _ (views : List View) (id : ℕ) (v w : View) (at : get_elem? views id �
 
     pub owned_after : (i : ℕ) (o : OwnRow) → OwnsAt views i o → OwnsAt (set views id w) i o
     owned_after i o x = dite (ℕ_discrete i id)
-        (λ e. subst (λ (j : ℕ). OwnsAt (set views id w) j o) (sym e) (owns_here o (same_own ∙ sym (ap (λ (u : View). u.own) (maybe.some-injective x.0 v (sym x.1 ∙ ap (get_elem? views) e ∙ at))) ∙ x.2)))
+        (λ e. subst (λ (j : ℕ). OwnsAt (set views id w) j o) (sym e) (owns_here o (same_own ∙ sym (ap (λ (u : View). u.own) (maybe.some-injective x.0 v (sym x.1
+        ∙ ap (get_elem? views) e ∙ at))) ∙ x.2)))
         (λ n. owns_else i o n x)
 
   -- the editor stays the editor
-  module _ (log : List Entry) (role : Role) (same_log : (r : Role) → v.role ≡ Some r → w.log ≡ v.log) (same_role : w.role ≡ v.role) (h : IsEditor views log role) where
+  module _ (log : List Entry) (role : Role) (same_log : (r : Role) → v.role ≡ Some r → w.log ≡ v.log) (same_role : w.role ≡ v.role)
+      (h : IsEditor views log role) where
     one_editor : (i : ℕ) (u : View) (r : Role) → get_elem? (set views id w) i ≡ maybe.some u → u.role ≡ Some r → i ≡ h.seat
-    one_editor i u r e is = elim (at_set views id i w u e) [ inl t ↦ t.0 ∙ h.one id v r at (sym same_role ∙ ap (λ (x : View). x.role) t.1 ∙ is) | inr t ↦ h.one i u r t.1 is ]
+    one_editor i u r e is = elim (at_set views id i w u e) [
+      | inl t ↦ t.0 ∙ h.one id v r at (sym same_role ∙ ap (λ (x : View). x.role) t.1 ∙ is)
+      | inr t ↦
+          h.one i u r t.1 is
+    ]
 
     pub editor_on : IsEditor (set views id w) log role
     editor_on = dite (ℕ_discrete h.seat id)
@@ -87,7 +94,8 @@ module _ (views : List View) (id : ℕ) (v w : View) (at : get_elem? views id �
         (λ n. record { seat = h.seat; view = h.view; at = set_else views id h.seat w n ∙ h.at; has = h.has; log_is = h.log_is; one = one_editor })
 
 -- seats that own the same rows keep the part on claims
-pub claims_by : (z : Sizes) (words : List ℕ) (role : Role) (views views' : List View) → ((i : ℕ) (o : OwnRow) → OwnsAt views' i o → OwnsAt views i o) → ((i : ℕ) (o : OwnRow) → OwnsAt views i o → OwnsAt views' i o)
+pub claims_by : (z : Sizes) (words : List ℕ) (role : Role) (views views' : List View) → ((i : ℕ) (o : OwnRow) → OwnsAt views' i o → OwnsAt views i o)
+    → ((i : ℕ) (o : OwnRow) → OwnsAt views i o → OwnsAt views' i o)
     → Claims z words views role → Claims z words views' role
 claims_by z words role views views' back on h = record {
   bit = h.bit;

@@ -24,12 +24,15 @@ use Rattle.pin_rule.proofs.Versions.{taken_live}
 use Rattle.pin_rule.proofs.Parts.{Quiet, Kept, current_moves, pages_move, carried_moves, knows_on, known_on}
 
 pub knows_log : (log : List Entry) (v w : View) → w.log ≡ v.log → w.log_words ≡ v.log_words → KnowsLog log v → KnowsLog log w
-knows_log log v w a b h = subst (λ (l : List Entry × List ℕ). KnowsLog log (record w { log = l.0; log_words = l.1 })) (λ i. (sym a i, sym b i)) (record { prefix = h.prefix; few = h.few; words = h.words })
+knows_log log v w a b h = subst (λ (l : List Entry × List ℕ). KnowsLog log (record w { log = l.0; log_words = l.1 })) (λ i. (sym a i, sym b i))
+    (record { prefix = h.prefix; few = h.few; words = h.words })
 
-module _ (L : List Entry → Type 0) (F : List Entry → List ℕ → Type 0) (z : Sizes) (words words' : List ℕ) (views : List View) (id : ℕ) (v w : View) (at : get_elem? views id ≡ maybe.some v)
+module _ (L : List Entry → Type 0) (F : List Entry → List ℕ → Type 0) (z : Sizes) (words words' : List ℕ) (views : List View) (id : ℕ) (v w : View)
+    (at : get_elem? views id ≡ maybe.some v)
     (h : Lawful L F z words views) (long : length words' ≡ length words) (alike : IsAlike v w) (right : IsRightful w) where
   -- a seat that keeps its share and its role, from all parts but those
-  pub builds : (taken : ℕ) → ((r : Role) → v.role ≡ Some r → w.log ≡ v.log) → IsCurrent L z words' h.log h.role taken → KnowsLog h.log w → PinsLive h.role w → Pins z words' (set views id w) h.role taken → Budget z words' (set views id w)
+  pub builds : (taken : ℕ) → ((r : Role) → v.role ≡ Some r → w.log ≡ v.log) → IsCurrent L z words' h.log h.role taken → KnowsLog h.log w → PinsLive h.role w
+      → Pins z words' (set views id w) h.role taken → Budget z words' (set views id w)
       → Claims z words' (set views id w) h.role → ArePages F z words' h.log h.role → Carried F z words' h.log h.role
       → EachView (set views id w) (Knows z words' h.role) → EachView (set views id w) (KnowsWhole z words' h.role) → Lawful L F z words' (set views id w)
   builds taken same_log current log pinned pins budget claims pages carried facts known = record {
@@ -66,20 +69,25 @@ module _ (L : List Entry → Type 0) (F : List Entry → List ℕ → Type 0) (z
     }
 
     budget_stays : Budget z words' (set views id w)
-    budget_stays = let b = h.budget in let r = sum_same z.versions (release z words') (release z words) quiet.releases in let n = total_alike pins_of views id v w at (λ i. one_pin (same.pinned i) + same.pins_left i) in omega arith
+    budget_stays = let b = h.budget in let r = sum_same z.versions (release z words') (release z words) quiet.releases in
+        let n = total_alike pins_of views id v w at (λ i. one_pin (same.pinned i) + same.pins_left i) in omega arith
 
     pub settles_with : Claims z words' (set views id w) h.role → ArePages F z words' h.log h.role → Carried F z words' h.log h.role
         → EachView (set views id w) (Knows z words' h.role) → EachView (set views id w) (KnowsWhole z words' h.role) → Lawful L F z words' (set views id w)
-    settles_with claims pages carried facts known = builds h.taken (λ _ _. same.log) (current_moves z words words' h.role L h.log h.taken h.taken quiet.log (quiet.cur ∙ h.current.cur) h.current) (knows_log h.log v w same.log same.log_words (h.logs id v at))
+    settles_with claims pages carried facts known = builds h.taken (λ _ _. same.log) (current_moves z words words' h.role L h.log h.taken h.taken quiet.log
+        (quiet.cur ∙ h.current.cur) h.current) (knows_log h.log v w same.log same.log_words (h.logs id v at))
         (λ p e. h.pinned id v at p (sym same.pinned ∙ e)) pins_stay budget_stays claims pages carried facts known
 
     -- the live pages and their rows are as they were
-    pub settles : Claims z words' (set views id w) h.role → Kept z words words' h.role → Knows z words h.role w → KnowsWhole z words h.role w → Lawful L F z words' (set views id w)
+    pub settles : Claims z words' (set views id w) h.role → Kept z words words' h.role → Knows z words h.role w → KnowsWhole z words h.role w
+        → Lawful L F z words' (set views id w)
     settles claims kept knows whole = settles_with claims
         (pages_move z words words' h.role F h.log h.live h.pages kept)
         (carried_moves z words words' h.role F h.log h.live h.pages kept h.carried)
-        (let on = knows_on z words words' h.role F h.log h.live h.pages kept in each_set views id v w at (Knows z words' h.role) (on w knows) (λ j u e. on u (h.facts j u e)))
-        (let on = known_on z words words' h.role F h.log h.live h.pages kept in each_set views id v w at (KnowsWhole z words' h.role) (on w whole) (λ j u e. on u (h.known j u e)))
+        (let on = knows_on z words words' h.role F h.log h.live h.pages kept in each_set views id v w at (Knows z words' h.role) (on w knows)
+        (λ j u e. on u (h.facts j u e)))
+        (let on = known_on z words words' h.role F h.log h.live h.pages kept in each_set views id v w at (KnowsWhole z words' h.role) (on w whole)
+        (λ j u e. on u (h.known j u e)))
 
 -- who keeps its pin and owns what it owned, or owns something while it has a pin, stays rightful
 pub right_on : (v w : View) → IsAlike v w → w.pinned ≡ v.pinned → w.own ≡ v.own → IsRightful v → IsRightful w

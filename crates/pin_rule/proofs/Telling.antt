@@ -23,11 +23,13 @@ use Rattle.pin_rule.proofs.Versions.{newest_live, my_log, caught_up}
 use Rattle.pin_rule.proofs.Numbers.{version_is, page_is}
 use Rattle.pin_rule.proofs.Counts.{few_taken}
 
-module _ (L : List Entry → Type 0) (F : List Entry → List ℕ → Type 0) (z : Sizes) (words : List ℕ) (views : List View) (id : ℕ) (v : View) (at : get_elem? views id ≡ maybe.some v) (h : Lawful L F z words views) where
+module _ (L : List Entry → Type 0) (F : List Entry → List ℕ → Type 0) (z : Sizes) (words : List ℕ) (views : List View) (id : ℕ) (v : View)
+    (at : get_elem? views id ≡ maybe.some v) (h : Lawful L F z words views) where
   module _ (l : Live) (live : IsLive h.role l) (version_is : l.version ≡ now v) where
     -- a row that the view knows stands in the page
     known : (row : ℕ) → KnowsRow v (now v) row → (place : ℕ) × IsEntry z words (F (take l.version h.log)) l.page place row
-    known row k = let e = (each_in (EntryStands z words h.role) _ v.entries (h.facts id v at).0 k.1).live l live version_is in (k.0, (h.pages l live).entries k.0 row e.0 e.1)
+    known row k = let e = (each_in (EntryStands z words h.role) _ v.entries (h.facts id v at).0 k.1).live l live version_is in
+        (k.0, (h.pages l live).entries k.0 row e.0 e.1)
 
     read : (row index word : ℕ) → KnowsWord v (now v) row index word → row_at z words row index ≡ word
     read row index word k = ((each_in (WordStands z words h.role) _ v.words (h.facts id v at).1 k).live l live version_is).1.1
@@ -57,11 +59,17 @@ module _ (L : List Entry → Type 0) (F : List Entry → List ℕ → Type 0) (z
   page_few = let p = h.live.page_in h.role.newest (newest_live h.role) in let most = z.versions_in in omega arith
 
   pub names_newest : (version_named (slice_index words 0) ≡ h.role.newest.version) × (page_named (slice_index words 0) ≡ h.role.newest.page)
-  names_newest = (ap version_named h.current.cur ∙ version_is h.role.newest.version h.role.newest.page h.taken page_few few, ap page_named h.current.cur ∙ page_is h.role.newest.version h.role.newest.page h.taken page_few few)
+  names_newest = (
+    ap version_named h.current.cur ∙ version_is h.role.newest.version h.role.newest.page h.taken page_few few,
+    ap page_named h.current.cur
+        ∙ page_is h.role.newest.version h.role.newest.page h.taken page_few few,
+  )
 
-module _ (L : List Entry → Type 0) (F : List Entry → List ℕ → Type 0) (v : View) (words : List ℕ) (views : List View) (id : ℕ) (at : get_elem? views id ≡ maybe.some v) (h : Lawful L F v.sizes words views) where
+module _ (L : List Entry → Type 0) (F : List Entry → List ℕ → Type 0) (v : View) (words : List ℕ) (views : List View) (id : ℕ) (at : get_elem? views id
+    ≡ maybe.some v) (h : Lawful L F v.sizes words views) where
   current : IsCurrentFor v (slice_index words 0)
-  current = let n = names_newest L F v.sizes words views h in let version = h.current.version in let long = h.current.log_in in let p = (h.logs id v at).prefix in let e = ap length p.1 ∙ length-append v.log p.0 in
+  current = let n = names_newest L F v.sizes words views h in let version = h.current.version in let long = h.current.log_in in
+      let p = (h.logs id v at).prefix in let e = ap length p.1 ∙ length-append v.log p.0 in
       let page = h.live.page_in h.role.newest (newest_live h.role) in let a = n.0 in let b = n.1 in (omega arith, omega arith, omega arith)
 
   -- the entries of the view's log are those of the log

@@ -30,11 +30,16 @@ module _ (z : Sizes) (role : Role) (h : IsVersions z role) where
 
   -- a version has one page
   pub same_live : (a b : Live) → IsLive role a → IsLive role b → a.version ≡ b.version → a ≡ b
-  same_live a b i j e = let r = in_at a (lives role) i in let s = in_at b (lives role) j in let x = h.consecutive r.0 a r.1 in let y = h.consecutive s.0 b s.1 in let same : r.0 ≡ s.0 = omega arith in
+  same_live a b i j e = let r = in_at a (lives role) i in let s = in_at b (lives role) j in let x = h.consecutive r.0 a r.1 in
+      let y = h.consecutive s.0 b s.1 in let same : r.0 ≡ s.0 = omega arith in
       maybe.some-injective a b (sym r.1 ∙ ap (get_elem? (lives role)) same ∙ s.1)
 
   pub taken_live : (taken : ℕ) (l : Live) (t : ℕ) → HasTaken role taken l t → IsLive role l
-  taken_live taken l t h = elim h [ inl x ↦ inl x.0 | inr x ↦ inr (subst (λ (m : Live). In m (map (λ (o : Older). o.live) role.older)) x.2 (in_mapped (λ (o : Older). o.live) x.0 role.older x.1)) ]
+  taken_live taken l t h = elim h [
+    | inl x ↦ inl x.0
+    | inr x ↦ inr (subst (λ (m : Live). In m (map (λ (o : Older). o.live) role.older)) x.2
+        (in_mapped (λ (o : Older). o.live) x.0 role.older x.1))
+  ]
 
   pub idle : (g : GivingUp) → role.giving_up ≡ Some g → ⊥
   idle g e = none_some g (sym h.idle ∙ e)
@@ -50,8 +55,11 @@ if_at_is page at version else_ m e = dite (ℕ_discrete at page)
 
 module _ (z : Sizes) (role : Role) (h : IsVersions z role) where
   pub names_speaks : (p : Pin) (page m : ℕ) → Names role p → p.page ≡ page → p.version ≡ m → Speaks role page m
-  names_speaks p page m k at is = let l0 = k.0 in let top = live_version z role h l0 k.1 in let e0 = k.2 in
-      ((let r : m ≤ role.newest.version = omega arith in r), λ l i e. ap (λ (x : Live). x.page) (same_live z role h l l0 i k.1 (e ∙ sym is ∙ sym e0)) ∙ k.3 ∙ at)
+  names_speaks p page m k at is = let l0 = k.0 in let top = live_version z role h l0 k.1 in let e0 = k.2 in (
+    (let r : m ≤ role.newest.version = omega arith in r),
+    λ l i e. ap (λ (x : Live). x.page) (same_live z role h l l0 i k.1 (e ∙ sym is ∙ sym e0)) ∙ k.3
+        ∙ at,
+  )
 
   given_speaks : (o : Option GivingUp) (page m : ℕ) → role.giving_up ≡ o → version_given_up o page ≡ Some m → Speaks role page m
   given_speaks None page m is e = absurd (none_some m e)
@@ -69,18 +77,27 @@ module _ (z : Sizes) (role : Role) (h : IsVersions z role) where
         | inr t ↦ given_speaks role.giving_up page m refl t
       ]) e
 
-  pinned_speaks : (o : Option Pin) (r : Option Role) (page m : ℕ) → ((p : Pin) → o ≡ Some p → Names role p) → ((x : Role) → r ≡ Some x → x ≡ role) → version_pinned o (version_of_role r page) page ≡ Some m → Speaks role page m
+  pinned_speaks : (o : Option Pin) (r : Option Role) (page m : ℕ) → ((p : Pin) → o ≡ Some p → Names role p) → ((x : Role) → r ≡ Some x → x ≡ role)
+      → version_pinned o (version_of_role r page) page ≡ Some m → Speaks role page m
   pinned_speaks None r page m names is e = role_speaks r page m is e
-  pinned_speaks (Some p) r page m names is e = elim (if_at_is page p.page p.version (version_of_role r page) m e) [ inl t ↦ names_speaks p page m (names p refl) t.0 t.1 | inr t ↦ role_speaks r page m is t ]
+  pinned_speaks (Some p) r page m names is e = elim (if_at_is page p.page p.version (version_of_role r page) m e) [
+    | inl t ↦
+        names_speaks p page m (names p refl) t.0 t.1
+    | inr t ↦ role_speaks r page m is t
+  ]
 
-module _ (L : List Entry → Type 0) (F : List Entry → List ℕ → Type 0) (z : Sizes) (words : List ℕ) (views : List View) (id : ℕ) (v : View) (at : get_elem? views id ≡ maybe.some v) (h : Lawful L F z words views) where
+module _ (L : List Entry → Type 0) (F : List Entry → List ℕ → Type 0) (z : Sizes) (words : List ℕ) (views : List View) (id : ℕ) (v : View)
+    (at : get_elem? views id ≡ maybe.some v) (h : Lawful L F z words views) where
   pub is_role : (r : Role) → v.role ≡ Some r → r ≡ h.role
-  is_role r e = let k = h.editor in let seat = k.one id v r at e in let same : v ≡ k.view = maybe.some-injective v k.view (sym at ∙ ap (get_elem? views) seat ∙ k.at) in
+  is_role r e = let k = h.editor in let seat = k.one id v r at e in
+      let same : v ≡ k.view = maybe.some-injective v k.view (sym at ∙ ap (get_elem? views) seat ∙ k.at) in
       same_some r h.role (sym e ∙ ap (λ (u : View). u.role) same ∙ k.has)
 
   -- the editor's log is the log
   pub editor_log : (r : Role) → v.role ≡ Some r → now v ≡ length h.log
-  editor_log r e = let k = h.editor in let seat = k.one id v r at e in let same : v ≡ k.view = maybe.some-injective v k.view (sym at ∙ ap (get_elem? views) seat ∙ k.at) in ap (λ (u : View). length u.log) same ∙ ap length k.log_is
+  editor_log r e = let k = h.editor in let seat = k.one id v r at e in
+      let same : v ≡ k.view = maybe.some-injective v k.view (sym at ∙ ap (get_elem? views) seat ∙ k.at) in
+      ap (λ (u : View). length u.log) same ∙ ap length k.log_is
 
   pub speaks : (page m : ℕ) → version_at v page ≡ Some m → Speaks h.role page m
   speaks page m e = pinned_speaks z h.role h.live v.pinned v.role page m (h.pinned id v at) is_role e

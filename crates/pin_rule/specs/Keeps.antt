@@ -20,7 +20,8 @@ law_of lawful fits z s = Lawful lawful fits z s.words s.views
 module _ (lawful : List Entry → Type 0) (fits : List Entry → List ℕ → Type 0) (v : View) where
   -- the word that the operation names becomes what it does to the word met, and the view that which the operation leads to
   abbrev pub Keeps : Op → Type 0
-  Keeps op = (words : List ℕ) (views : List View) (id : ℕ) (met : ℕ) → Lawful lawful fits v.sizes words views → get_elem? views id ≡ maybe.some v → slice_index words (word_of v.sizes op) ≡ met
+  Keeps op = (words : List ℕ) (views : List View) (id : ℕ) (met : ℕ) → Lawful lawful fits v.sizes words views → get_elem? views id ≡ maybe.some v
+      → slice_index words (word_of v.sizes op) ≡ met
       → Lawful lawful fits v.sizes (slice_set words (word_of v.sizes op) (does op met)) (slice_set views id (after v op met))
 
   -- the view is cut in two, and a new seat has the second

@@ -1,4 +1,5 @@
--- Where the parts of the table lie, for every sizes. In this order: CUR, the release word of each page, the claim word of each row, the pages, the log, the rows.
+-- Where the parts of the table lie, for every sizes. In this order: CUR, the release word of each page, the claim word of each row, the pages, the log, the
+-- rows.
 use Rattle.std.specs.Prelude.{ℕ, ◌+◌, ◌*◌, ◌/◌, ◌%◌, ◌^◌, List, slice_index}
 use lib.Dec.{lit≤}
 use Rattle.pin_rule.specs.declared.sizes.Sizes.{Sizes}

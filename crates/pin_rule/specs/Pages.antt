@@ -15,7 +15,8 @@ module _ (z : Sizes) (words : List ℕ) where
 
   -- the place is on the key's path, and no place before it is empty
   abbrev pub StandsOnPath : ℕ → ℕ → List ℕ → Type 0
-  StandsOnPath page place key = (step : ℕ) × (step < z.places) × (on_path z key step ≡ place) × ((before : ℕ) → before < step → entry z words page (on_path z key before) ≢ 0)
+  StandsOnPath page place key = (step : ℕ) × (step < z.places) × (on_path z key step ≡ place) ×
+      ((before : ℕ) → before < step → entry z words page (on_path z key before) ≢ 0)
 
   -- what an entry of a page promises of the row that it names
   pub record IsEntry (fits : List ℕ → Type 0) (page place row : ℕ) : Type 0 where

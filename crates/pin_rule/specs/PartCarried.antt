@@ -23,5 +23,6 @@ pub record Carried (fits : List Entry → List ℕ → Type 0) (z : Sizes) (word
   -- what was carried into a version stands in its page
   pub stands : (l : Live) (row : ℕ) → IsLive role l → In row l.carried → IsHeld z words l.page row
   -- the page in the making has only rows of the newest page that fit the next log
-  pub kept : (m : Making) (next : List Entry) (place row : ℕ) → role.making ≡ Some m → IsNextLog log m.entry next → place < length m.places → slice_index m.places place ≡ suc row
+  pub kept : (m : Making) (next : List Entry) (place row : ℕ) → role.making ≡ Some m → IsNextLog log m.entry next → place < length m.places
+      → slice_index m.places place ≡ suc row
       → IsHeld z words role.newest.page row × fits next (content_of (row_at z words row))

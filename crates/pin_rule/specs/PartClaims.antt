@@ -24,7 +24,8 @@ module _ (z : Sizes) (words : List ℕ) where
   -- a claim word is 1 exactly where one view owns the row, a live page holds it, or it is still to be freed
   pub record Claims (views : List View) (role : Role) : Type 0 where
     pub bit : (row : ℕ) → row < z.rows → claim z words row ≤ 1
-    pub in_use : (row : ℕ) → row < z.rows → claim z words row ≡ 1 → ((seat : ℕ) × (o : OwnRow) × OwnsAt views seat o × (o.row ≡ row)) ⊎ (IsHeldLive z words role row ⊎ IsToFree z words role row)
+    pub in_use : (row : ℕ) → row < z.rows → claim z words row ≡ 1 → ((seat : ℕ) × (o : OwnRow) × OwnsAt views seat o × (o.row ≡ row)) ⊎
+        (IsHeldLive z words role row ⊎ IsToFree z words role row)
     pub owned : (seat : ℕ) (o : OwnRow) → OwnsAt views seat o → IsOwned role o
     pub one_owner : (i j : ℕ) (o p : OwnRow) → OwnsAt views i o → OwnsAt views j p → o.row ≡ p.row → i ≡ j
     pub to_free : (row : ℕ) → IsToFree z words role row → (row < z.rows) × (claim z words row ≡ 1)

@@ -215,7 +215,20 @@ after_join v w = record (noted v was_joined) {
 }
 
 abbrev pub spent_view : View
-spent_view = record { sizes = full_sizes; log = []; share = 0; pins_left = 0; pinned = None; own = None; log_words = []; entries = []; words = []; known = []; role = None; steps = [] }
+spent_view = record {
+  sizes = full_sizes;
+  log = [];
+  share = 0;
+  pins_left = 0;
+  pinned = None;
+  own = None;
+  log_words = [];
+  entries = [];
+  words = [];
+  known = [];
+  role = None;
+  steps = [];
+}
 
 -- the one seat of a new table
 abbrev pub first_role : Role

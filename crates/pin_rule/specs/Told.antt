@@ -25,9 +25,11 @@ pub record IsTold (fits : List ℕ → Type 0) (v : View) (version : ℕ) : Type
   pub range : (row : ℕ) → KnowsRow v version row → row < v.sizes.rows
   -- a row has room for the lengths of its key and its payload
   pub key : (row key : ℕ) → KnowsRow v version row → KnowsWord v version row 0 key → 2 + key ≤ v.sizes.width
-  pub room : (row key payload : ℕ) → KnowsRow v version row → KnowsWord v version row 0 key → KnowsWord v version row 1 payload → 2 + (key + payload) ≤ v.sizes.width
+  pub room : (row key payload : ℕ) → KnowsRow v version row → KnowsWord v version row 0 key → KnowsWord v version row 1 payload
+      → 2 + (key + payload) ≤ v.sizes.width
   -- a row whose words are known fits the log
-  pub fitting : (row : ℕ) (g : ℕ → ℕ) → KnowsRow v version row → ((index : ℕ) → index < 2 + (g 0 + g 1) → KnowsWord v version row index (g index)) → fits (content_of g)
+  pub fitting : (row : ℕ) (g : ℕ → ℕ) → KnowsRow v version row → ((index : ℕ) → index < 2 + (g 0 + g 1) → KnowsWord v version row index (g index))
+      → fits (content_of g)
 
 -- a view that has caught up has a lawful log, and is told of the rows of the version that this log leads to
 abbrev pub Tells : (List Entry → Type 0) → (List Entry → List ℕ → Type 0) → View → Type 0

@@ -1,5 +1,6 @@
 -- A row word by word.
-use Rattle.std.proofs.Common.{◌≡◌, ℕ, zero, suc, ◌+◌, ◌-◌, ◌<◌, List, [], ◌∷◌, ◌++◌, inl, inr, length, slice_index, length-append, sym, refl, ap, ◌∙◌, subst, arith}
+use Rattle.std.proofs.Common.{◌≡◌, ℕ, zero, suc, ◌+◌, ◌-◌, ◌<◌, List, [], ◌∷◌, ◌++◌, inl, inr, length, slice_index, length-append, sym, refl, ap, ◌∙◌, subst}
+use Rattle.std.proofs.Common.{arith}
 use Rattle.std.proofs.lemmas.Bool.{cases_lt}
 use Rattle.std.proofs.Math.ListN.{get_or-append}
 use Rattle.std.proofs.lemmas.List.{get_or-append-add}
@@ -11,14 +12,20 @@ length_row key payload = let e = length-append key payload in omega arith
 
 module _ (key payload : List ℕ) (P : ℕ → ℕ → Type 0) where
   -- what holds of the two lengths, of the key's words and of the payload's
-  pub by_parts : P 0 (length key) → P 1 (length payload) → ((i : ℕ) → i < length key → P (i + 2) (slice_index key i)) → ((j : ℕ) → j < length payload → P (length key + 2 + j) (slice_index payload j))
+  pub by_parts : P 0 (length key) → P 1 (length payload) → ((i : ℕ) → i < length key → P (i + 2) (slice_index key i))
+      → ((j : ℕ) → j < length payload → P (length key + 2 + j) (slice_index payload j))
       → (index : ℕ) → index < length (row_of key payload) → P index (slice_index (row_of key payload) index)
   by_parts a b k p zero lt = a
   by_parts a b k p (suc zero) lt = b
   by_parts a b k p (suc (suc i)) lt = let e = length-append key payload in let n : ℕ = length key in elim (cases_lt i n) [
-    | inl below ↦ subst (λ (t : ℕ × ℕ). P t.0 t.1) (λ d. ((let r : i + 2 ≡ suc (suc i) = omega arith in r) d, sym (get_or-append key payload 0 i below) d)) (k i below)
+    | inl below ↦ subst (λ (t : ℕ × ℕ). P t.0 t.1) (λ d. ((let r : i + 2 ≡ suc (suc i) = omega arith in r) d, sym (get_or-append key payload 0 i below) d))
+        (k i below)
     | inr above ↦ let j : ℕ = i - n in let is : n + j ≡ i = omega arith in
-        subst (λ (t : ℕ × ℕ). P t.0 t.1) (λ d. ((let r : n + 2 + j ≡ suc (suc i) = omega arith in r) d, (sym (get_or-append-add key payload j 0) ∙ ap (slice_index (key ++ payload)) is) d)) (p j (omega arith))
+        subst (λ (t : ℕ × ℕ). P t.0 t.1) (λ d. (
+          (let r : n + 2 + j ≡ suc (suc i) = omega arith in r) d,
+          (sym (get_or-append-add key payload j 0)
+              ∙ ap (slice_index (key ++ payload)) is) d,
+        )) (p j (omega arith))
   ]
 
 -- a word that tells the key is the same in the whole row
@@ -40,7 +47,8 @@ first_words [] m = refl
 first_words (x ∷ xs) m = ap (λ (l : List ℕ). x ∷ l) (shifted (slice_index (x ∷ (xs ++ m))) 0 (length xs) ∙ first_words xs m)
 
 pub key_is : (key payload : List ℕ) → key_of (slice_index (row_of key payload)) ≡ key
-key_is key payload = shifted (slice_index (row_of key payload)) 1 (length key) ∙ shifted (λ i. slice_index (row_of key payload) (suc i)) 0 (length key) ∙ first_words key payload
+key_is key payload = shifted (slice_index (row_of key payload)) 1 (length key) ∙ shifted (λ i. slice_index (row_of key payload) (suc i)) 0 (length key)
+    ∙ first_words key payload
 
 pub content_is : (key payload : List ℕ) → content_of (slice_index (row_of key payload)) ≡ row_of key payload
 content_is key payload = ap (words_of (slice_index (row_of key payload)) 0) (sym (length_row key payload)) ∙ all_words (row_of key payload)

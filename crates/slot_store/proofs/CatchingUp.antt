@@ -1,5 +1,6 @@
 -- Loads of log words by a user: those of the entry after its log make the log grow, the others change nothing.
-use Rattle.std.proofs.Common.{◌≡◌, ◌≢◌, ℕ, ◌+◌, ◌<◌, ◌≤◌, List, [], ◌∷◌, ◌++◌, length, length-append, length-set, slice_index, set, get_or-set_same, get_or-set_other, append_assoc, append-nil, ne_eqb, eq-eqb, sym, refl, ap, ◌∙◌, subst, arith}
+use Rattle.std.proofs.Common.{◌≡◌, ◌≢◌, ℕ, ◌+◌, ◌<◌, ◌≤◌, List, [], ◌∷◌, ◌++◌, length, length-append, length-set, slice_index, set, get_or-set_same}
+use Rattle.std.proofs.Common.{get_or-set_other, append_assoc, append-nil, ne_eqb, eq-eqb, sym, refl, ap, ◌∙◌, subst, arith}
 use Rattle.std.proofs.lemmas.Bool.{lt-ltb}
 use Rattle.std.proofs.lemmas.List.{ext_get_or}
 use mathlib.Core.Option as maybe
@@ -29,7 +30,17 @@ pub prefix_on : (l m n : List Entry) → IsPrefix l m → IsPrefix m n → IsPre
 prefix_on l m n a b = (a.0 ++ b.0, b.1 ∙ ap (λ (x : List Entry). x ++ b.0) a.1 ∙ append_assoc l a.0 b.0)
 
 pub stays : (v : View) → LogMoves v v []
-stays v = record { sizes = refl; share = refl; pinned = refl; pins_left = refl; own = refl; steps = sym (append-nil v.steps); loads = tt; log = prefix_self v.log }
+stays v = record {
+  sizes = refl;
+  share = refl;
+  pinned = refl;
+  pins_left = refl;
+  own = refl;
+  steps = sym (append-nil v.steps);
+  loads = tt;
+  log =
+      prefix_self v.log;
+}
 
 pub moves_on : (u v w : View) (a b : List Step) → LogMoves u v a → LogMoves v w b → LogMoves u w (a ++ b)
 moves_on u v w a b h k = record {
@@ -44,7 +55,8 @@ moves_on u v w a b h k = record {
 }
 
 -- the word that comes next
-module _ (z : Site) (w : View) (entry index n : ℕ) (pinned : w.pinned ≡ Some record { version = z.version; page = z.page }) (below : entry < z.version) (at : entry ≡ now w) (words : length w.log_words ≡ index) where
+module _ (z : Site) (w : View) (entry index n : ℕ) (pinned : w.pinned ≡ Some record { version = z.version; page = z.page }) (below : entry < z.version)
+    (at : entry ≡ now w) (words : length w.log_words ≡ index) where
   next : is_next w entry index ≡ true
   next = ap (λ p. cond (is_below entry p) (cond (eqb entry (now w)) (eqb index (length w.log_words)) false) false) pinned
       ∙ ap (λ b. cond b (cond (eqb entry (now w)) (eqb index (length w.log_words)) false) false) (lt-ltb entry z.version below)
@@ -60,23 +72,48 @@ module _ (z : Site) (w : View) (entry index n : ℕ) (pinned : w.pinned ≡ Some
   s = loaded_log w.sizes entry index n
 
   with_next : (b : Bool) → eqb (length (w.log_words ++ n ∷ [])) 32 ≡ b
-      → after_load_log w entry index n ≡ noted (cond b (record w { log = w.log ++ record { words = w.log_words ++ n ∷ [] } ∷ []; log_words = [] }) (record w { log_words = w.log_words ++ n ∷ [] })) (loaded_log w.sizes entry index n)
+      → after_load_log w entry index n ≡ noted (cond b (record w {
+        log = w.log ++ record { words = w.log_words ++ n ∷ [] } ∷ [];
+        log_words =
+            [];
+      }) (record w { log_words = w.log_words ++ n ∷ [] })) (loaded_log w.sizes entry index n)
   with_next b e = ap (λ c. noted (with_word c w n) (loaded_log w.sizes entry index n)) next
-      ∙ ap (λ c. noted (cond c (record w { log = w.log ++ record { words = w.log_words ++ n ∷ [] } ∷ []; log_words = [] }) (record w { log_words = w.log_words ++ n ∷ [] })) (loaded_log w.sizes entry index n)) e
+      ∙ ap (λ c. noted (cond c (record w { log = w.log ++ record { words = w.log_words ++ n ∷ [] } ∷ []; log_words = [] }) (record w {
+        log_words =
+            w.log_words ++ n ∷ [];
+      })) (loaded_log w.sizes entry index n)) e
 
   pub more_words : (u : View) → u ≡ after_load_log w entry index n → index + 1 < 32 → ReadsNext z w u entry (index + 1)
-  more_words u is few = subst (λ (x : View). ReadsNext z w x entry (index + 1)) (sym (is ∙ with_next false (ne_eqb _ 32 (λ e. let l = long in omega arith)))) (record {
-    added = loaded_log w.sizes entry index n ∷ [];
-    moves = record { sizes = refl; share = refl; pinned = refl; pins_left = refl; own = refl; steps = refl; loads = (refl, tt); log = prefix_self w.log };
-    at = at;
-    words = long;
-  })
+  more_words u is few = subst (λ (x : View). ReadsNext z w x entry (index + 1)) (sym (is ∙ with_next false (ne_eqb _ 32 (λ e. let l = long in omega arith))))
+      (record {
+        added = loaded_log w.sizes entry index n ∷ [];
+        moves = record { sizes = refl; share = refl; pinned = refl; pins_left = refl; own = refl; steps = refl; loads = (refl, tt); log = prefix_self w.log };
+        at = at;
+        words = long;
+      })
 
   pub whole_entry : (u : View) → u ≡ after_load_log w entry index n → index + 1 ≡ 32 → w.sizes ≡ z.sizes → w.share ≢ 0 → CatchesUp z w u (entry + 1)
   whole_entry u is all sizes some = subst (λ (x : View). CatchesUp z w x (entry + 1)) (sym (is ∙ with_next true (eq-eqb _ 32 (long ∙ all)))) (record {
     added = loaded_log w.sizes entry index n ∷ [];
-    moves = record { sizes = refl; share = refl; pinned = refl; pins_left = refl; own = refl; steps = refl; loads = (refl, tt); log = (record { words = w.log_words ++ n ∷ [] } ∷ [], refl) };
-    behind = record { sizes = sizes; share = some; pinned = pinned; at = (let e = length-append w.log (record { words = w.log_words ++ n ∷ [] } ∷ []) in omega arith); words = refl };
+    moves = record {
+      sizes = refl;
+      share = refl;
+      pinned = refl;
+      pins_left = refl;
+      own = refl;
+      steps = refl;
+      loads = (refl, tt);
+      log =
+          (record { words = w.log_words ++ n ∷ [] } ∷ [], refl);
+    };
+    behind = record {
+      sizes = sizes;
+      share = some;
+      pinned = pinned;
+      at =
+          (let e = length-append w.log (record { words = w.log_words ++ n ∷ [] } ∷ []) in omega arith);
+      words = refl;
+    };
   })
 
 -- a word of an entry that the log has
@@ -88,7 +125,8 @@ pub known_entry : (w u : View) (entry index n : ℕ) → entry < now w → u ≡
 known_entry w u entry index n below is = is ∙ ap (λ c. noted (with_word c w n) (loaded_log w.sizes entry index n))
     (cond_false (is_below entry w.pinned) (eqb entry (now w)) (eqb index (length w.log_words)) (ne_eqb entry (now w) (λ e. omega arith)))
 
-pub next_on : (z : Site) (u v w : View) (entry index : ℕ) (a : ReadsNext z u v entry index) (b : ReadsNext z v w entry (index + 1)) → ReadsNext z u w entry (index + 1)
+pub next_on : (z : Site) (u v w : View) (entry index : ℕ) (a : ReadsNext z u v entry index) (b : ReadsNext z v w entry (index + 1))
+    → ReadsNext z u w entry (index + 1)
 next_on z u v w entry index a b = record { added = a.added ++ b.added; moves = moves_on u v w a.added b.added a.moves b.moves; at = b.at; words = b.words }
 
 pub last_on : (z : Site) (u v w : View) (entry index to : ℕ) → ReadsNext z u v entry index → CatchesUp z v w to → CatchesUp z u w to
@@ -106,18 +144,26 @@ pub record HasWords (log : List Entry) (entry : ℕ) (words : List ℕ) (count :
 pub no_words : (log : List Entry) (entry : ℕ) (words : List ℕ) → length words ≡ 32 → HasWords log entry words 0
 no_words log entry words long = record { long = long; are = λ e at i lt. absurd (omega arith); wide = λ n. absurd (n refl) }
 
-pub one_word : (log : List Entry) (entry : ℕ) (words : List ℕ) (index n : ℕ) → index < 32 → HasWords log entry words index → ((e : Entry) → get_elem? log entry ≡ maybe.some e → (n ≡ slice_index e.words index) × (length e.words ≡ 32))
+pub one_word : (log : List Entry) (entry : ℕ) (words : List ℕ) (index n : ℕ) → index < 32 → HasWords log entry words index
+    → ((e : Entry) → get_elem? log entry ≡ maybe.some e → (n ≡ slice_index e.words index) × (length e.words ≡ 32))
     → HasWords log entry (set words index n) (index + 1)
 one_word log entry words index n inside h met = record {
   long = length-set words index n ∙ h.long;
   are = λ e at i lt. dite (ℕ_discrete i index)
-      (λ same. ap (slice_index (set words index n)) same ∙ get_or-set_same words index n 0 (let l = h.long in omega arith) ∙ (met e at).0 ∙ ap (slice_index e.words) (sym same))
+      (λ same. ap (slice_index (set words index n)) same ∙ get_or-set_same words index n 0 (let l = h.long in omega arith) ∙ (met e at).0
+      ∙ ap (slice_index e.words) (sym same))
       (λ other. get_or-set_other words index i n 0 other ∙ h.are e at i (omega arith));
   wide = λ _ e at. (met e at).1;
 }
 
-pub all_words : (log : List Entry) (entry : ℕ) (words : List ℕ) (count : ℕ) → 32 ≤ count → entry < length log → HasWords log entry words count → IsEntryOf log entry words
-all_words log entry words count all inside h = let e = has_at log entry inside in (e.0, e.1, ext_get_or 0 words e.0.words (let a = h.long in let b = h.wide (λ z. omega arith) e.0 e.1 in omega arith) (λ i lt. let a = h.long in h.are e.0 e.1 i (omega arith)))
+pub all_words : (log : List Entry) (entry : ℕ) (words : List ℕ) (count : ℕ) → 32 ≤ count → entry < length log → HasWords log entry words count
+    → IsEntryOf log entry words
+all_words log entry words count all inside h = let e = has_at log entry inside in (
+  e.0,
+  e.1,
+  ext_get_or 0 words e.0.words (let a = h.long in let b = h.wide (λ z. omega arith) e.0 e.1 in omega arith) (λ i lt. let a =
+      h.long in h.are e.0 e.1 i (omega arith)),
+)
 
 pub knows_more : (v w u : View) (entry index n : ℕ) → ReadsKnown v w → entry < now v → u ≡ after_load_log w entry index n → ReadsKnown v u
 knows_more v w u entry index n k below is = let below_w : entry < now w = (let e = ap length k.log in omega arith) in
@@ -130,5 +176,18 @@ knows_more v w u entry index n k below is = let below_w : entry < now w = (let e
     })
 
 pub reads_log : (v w : View) (page : ℕ) (t s : TableId × ℕ) → ReadsKnown v w → s ≡ t → ReadsLog (meaning_of v page t) (meaning_of w page s)
-reads_log v w page t s k same = let m = k.moves in
-    (k.added, (λ i. record { sizes = m.sizes i; page = page; log = k.log i; table = same i; share = m.share i; pins_left = m.pins_left i; own = m.own i; steps = m.steps i }), m.loads)
+reads_log v w page t s k same = let m = k.moves in (
+  k.added,
+  (λ i. record {
+    sizes = m.sizes i;
+    page = page;
+    log = k.log i;
+    table = same i;
+    share = m.share i;
+    pins_left = m.pins_left i;
+    own = m.own i;
+    steps =
+        m.steps i;
+  }),
+  m.loads,
+)

@@ -20,10 +20,12 @@ use Rattle.slot_store.proofs.Growing.{Grows, moves_on, met_on, key_on, passed_on
 use Rattle.slot_store.proofs.Passing.{full}
 use Rattle.slot_store.proofs.Single.{moves_give_back}
 
-pub may_give_back : (L : List Entry → Type 0) (F : List Entry → List ℕ → Type 0) (x y : View) (row : ℕ) → OwnsRow x row → y.own ≡ x.own → Keeps L F y (op.GiveBack row)
+pub may_give_back : (L : List Entry → Type 0) (F : List Entry → List ℕ → Type 0) (x y : View) (row : ℕ) → OwnsRow x row → y.own ≡ x.own
+    → Keeps L F y (op.GiveBack row)
 may_give_back L F x y row o own = subst (λ (r : ℕ). Keeps L F y (op.GiveBack r)) o.2 (keeps_give_back L F y o.0 (own ∙ o.1))
 
-module _ (z : Site) (v w x y : View) (row : ℕ) (key payload : List ℕ) (claim : Claims z v w 0 z.sizes.rows (Some row)) (write : WritesRow z w x row (row_of key payload)) where
+module _ (z : Site) (v w x y : View) (row : ℕ) (key payload : List ℕ) (claim : Claims z v w 0 z.sizes.rows (Some row))
+    (write : WritesRow z w x row (row_of key payload)) where
   -- the steps of the call up to the last of its walk
   abbrev pub walked : List Step → List Step
   walked added = claim.added ++ (write.added ++ added)
@@ -38,7 +40,8 @@ module _ (z : Site) (v w x y : View) (row : ℕ) (key payload : List ℕ) (claim
   last_of added s i = in_right s claim.added (write.added ++ added) (in_right s write.added added i)
 
   regroup : (before : List Step) (s : Step) → walked (before ++ s ∷ []) ≡ walked before ++ s ∷ []
-  regroup before s = ap (λ (l : List Step). claim.added ++ l) (sym (append_assoc write.added before (s ∷ []))) ∙ sym (append_assoc claim.added (write.added ++ before) (s ∷ []))
+  regroup before s = ap (λ (l : List Step). claim.added ++ l) (sym (append_assoc write.added before (s ∷ []))) ∙ sym
+      (append_assoc claim.added (write.added ++ before) (s ∷ []))
 
   pub made : (p : Places z x y row key placed.Here) → PutIs z.sizes z.page (walked p.added) key payload put.Made
   made p = let at = p.is.1 in record {
@@ -57,7 +60,8 @@ module _ (z : Site) (v w x y : View) (row : ℕ) (key payload : List ℕ) (claim
   ended added = walked added ++ gave_back z.sizes row ∷ []
 
   pub ends : (added : List Step) (u : View) → Moves x y added → y.sizes ≡ z.sizes → u ≡ after_give_back y row → Moves v u (ended added)
-  ends added u m same is = subst (λ (t : View). Moves v t (ended added)) (sym is) (moves_on v y (after_give_back y row) (walked added) (gave_back z.sizes row ∷ []) (moves added m) (moves_give_back z y row same))
+  ends added u m same is = subst (λ (t : View). Moves v t (ended added)) (sym is) (moves_on v y (after_give_back y row) (walked added)
+      (gave_back z.sizes row ∷ []) (moves added m) (moves_give_back z y row same))
 
   gives_back : (added : List Step) → GivesBack z.sizes z.page (ended added)
   gives_back added = (row, walked added, claimed_in added, refl)

@@ -14,10 +14,22 @@ use Rattle.slot_store.specs.Walks.{Moves}
 
 module _ (z : Site) (v w : View) (t s : TableId × ℕ) (added : List Step) (moves : Moves v w added) (own : w.own ≡ v.own) (same : s ≡ t) where
   pub extends : meaning_of w z.page s ≡ extended (meaning_of v z.page t) added
-  extends = λ i. record { sizes = moves.sizes i; page = z.page; log = moves.log i; table = same i; share = moves.share i; pins_left = moves.pins_left i; own = own i; steps = moves.steps i }
+  extends = λ i. record {
+    sizes = moves.sizes i;
+    page = z.page;
+    log = moves.log i;
+    table = same i;
+    share = moves.share i;
+    pins_left = moves.pins_left i;
+    own =
+        own i;
+    steps = moves.steps i;
+  }
 
-  pub finds : (F : List Entry → List ℕ → Type 0) (key : List ℕ) (look : Look) → v.sizes ≡ z.sizes → LookIs z.sizes z.page added (F v.log) key look → Finds F (meaning_of v z.page t) (meaning_of w z.page s) key look
+  pub finds : (F : List Entry → List ℕ → Type 0) (key : List ℕ) (look : Look) → v.sizes ≡ z.sizes → LookIs z.sizes z.page added (F v.log) key look
+      → Finds F (meaning_of v z.page t) (meaning_of w z.page s) key look
   finds F key look e is = (added, extends, moves.quiet, subst (λ (y : Sizes). LookIs y z.page added (F v.log) key look) (sym e) is)
 
-  pub publishes : (key payload : List ℕ) (put : Put) → v.sizes ≡ z.sizes → PutIs z.sizes z.page added key payload put → Publishes (meaning_of v z.page t) (meaning_of w z.page s) key payload put
+  pub publishes : (key payload : List ℕ) (put : Put) → v.sizes ≡ z.sizes → PutIs z.sizes z.page added key payload put
+      → Publishes (meaning_of v z.page t) (meaning_of w z.page s) key payload put
   publishes key payload put e is = (added, extends, moves.quiet, subst (λ (y : Sizes). PutIs y z.page added key payload put) (sym e) is)

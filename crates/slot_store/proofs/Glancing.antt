@@ -20,7 +20,8 @@ use Rattle.slot_store.proofs.Reading.{head_at}
 use Rattle.slot_store.proofs.Single.{knows_row}
 
 -- what was passed holds other keys
-pub holds_others : (z : Site) (w : View) (added : List Step) (key : List ℕ) (steps : ℕ) → Passed z w added key steps → (before : ℕ) → before < steps → HoldsOther z.sizes z.page added key (on_path z.sizes key before)
+pub holds_others : (z : Site) (w : View) (added : List Step) (key : List ℕ) (steps : ℕ) → Passed z w added key steps → (before : ℕ) → before < steps
+    → HoldsOther z.sizes z.page added key (on_path z.sizes key before)
 holds_others z w added key steps passed before lt = let p = passed before lt in let o = p.3 in (p.0, o.0, o.1, p.1, o.2.0, o.3, o.4)
 
 module _ (z : Site) (F : List Entry → List ℕ → Type 0) (v w : View) (key buffer : List ℕ) where
@@ -56,7 +57,8 @@ module _ (z : Site) (F : List Entry → List ℕ → Type 0) (v w : View) (key b
         (before 0 (length key) (has 0 (omega arith, λ e. omega arith)))
         (subst (Reads z x (k.added ++ c.added) row 1) count (after 1 n c.size_read))
         (λ i lt. before (i + 2) (slice_index key i) (subst (Reads z w k.added row (i + 2)) (head_at key i) (has (i + 2) (omega arith, λ e. omega arith))))
-        (λ j lt. let few = count in let inside : j < n = omega arith in subst (Reads z x (k.added ++ c.added) row (length key + 2 + j)) (sym (get_or-take n buffer j 0 inside)) (after (length key + 2 + j) (slice_index buffer j) (c.words j inside)))
+        (λ j lt. let few = count in let inside : j < n = omega arith in subst (Reads z x (k.added ++ c.added) row (length key + 2 + j))
+        (sym (get_or-take n buffer j 0 inside)) (after (length key + 2 + j) (slice_index buffer j) (c.words j inside)))
 
     pub found : IsTold (F x.log) x z.version → Glances z (F v.log) v x key buffer (glance.Found n)
     found told = let long = length_row key (take n buffer) in record {
@@ -73,7 +75,8 @@ module _ (z : Site) (F : List Entry → List ℕ → Type 0) (v w : View) (key b
           entry = in_left _ k.added c.added k.is.2.2;
           words = λ index lt. (read index lt).0;
           fitting = subst (λ (log : List Entry). F log (row_of key (take n buffer))) (c.moves.log ∙ k.moves.log)
-              (subst (F x.log) (content_is key (take n buffer)) (told.fitting row (slice_index (row_of key (take n buffer))) (knows_row z x row c.version) (λ index lt. (read index (omega arith)).1)));
+              (subst (F x.log) (content_is key (take n buffer)) (told.fitting row (slice_index (row_of key (take n buffer))) (knows_row z x row c.version)
+              (λ index lt. (read index (omega arith)).1)));
         },
       );
     }

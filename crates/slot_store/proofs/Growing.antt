@@ -14,7 +14,18 @@ use Rattle.slot_store.specs.Answers.{MetRow}
 use Rattle.slot_store.specs.Walks.{IsAtWork, Moves, Reads, ReadsKey, ReadsOther, MeetsOther, Passed}
 
 pub stays : (v : View) → Moves v v []
-stays v = record { sizes = refl; log = refl; share = refl; pins_left = refl; log_words = refl; quiet = tt; pinned = refl; steps = sym (append-nil v.steps); entries = λ _ i. i; words = λ _ i. i }
+stays v = record {
+  sizes = refl;
+  log = refl;
+  share = refl;
+  pins_left = refl;
+  log_words = refl;
+  quiet = tt;
+  pinned = refl;
+  steps = sym (append-nil v.steps);
+  entries = λ _ i. i;
+  words = λ _ i. i;
+}
 
 pub moves_on : (u v w : View) (a b : List Step) → Moves u v a → Moves v w b → Moves u w (a ++ b)
 moves_on u v w a b h k = record {
@@ -31,7 +42,13 @@ moves_on u v w a b h k = record {
 }
 
 pub work_on : (z : Site) (v w : View) (a : List Step) → IsAtWork z v → Moves v w a → IsAtWork z w
-work_on z v w a h k = record { sizes = k.sizes ∙ h.sizes; share = λ e. h.share (sym k.share ∙ e); pinned = k.pinned ∙ h.pinned; caught_up = h.caught_up ∙ ap length (sym k.log) }
+work_on z v w a h k = record {
+  sizes = k.sizes ∙ h.sizes;
+  share = λ e. h.share (sym k.share ∙ e);
+  pinned = k.pinned ∙ h.pinned;
+  caught_up =
+      h.caught_up ∙ ap length (sym k.log);
+}
 
 -- a user at work is told of the rows of its version
 pub told_at : (L : List Entry → Type 0) (F : List Entry → List ℕ → Type 0) (z : Site) (v : View) → IsAtWork z v → Tells L F v → IsTold (F v.log) v z.version

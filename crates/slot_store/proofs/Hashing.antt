@@ -4,7 +4,8 @@ use Rattle.std.proofs.Math.ListN.{drop_of_length-le}
 use lib.Bits.{bit_xor}
 use Rattle.pin_rule.specs.Rows.{hashed}
 
-pub mixes : (h i : ℕ) (key : List ℕ) → i < length key → hashed h (drop i key) ≡ hashed ((bit_xor h (get_or key i 0) * 0x9E3779B97F4A7C15) % 2 ^ 64) (drop (i + 1) key)
+pub mixes : (h i : ℕ) (key : List ℕ) → i < length key → hashed h (drop i key) ≡ hashed ((bit_xor h (get_or key i 0) * 0x9E3779B97F4A7C15) % 2 ^ 64)
+    (drop (i + 1) key)
 mixes h i key lt = ap (hashed h) (drop-cons key i 0 lt ∙ ap (λ (n : ℕ). get_or key i 0 ∷ drop n key) (let r : suc i ≡ i + 1 = omega arith in r))
 
 pub mixed_all : (h i : ℕ) (key : List ℕ) → length key ≤ i → hashed h (drop i key) ≡ h

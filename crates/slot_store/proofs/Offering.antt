@@ -24,13 +24,15 @@ use Rattle.slot_store.proofs.Growing.{moves_on, work_on}
 use Rattle.slot_store.proofs.Passing.{loads, meets, range}
 use Rattle.slot_store.proofs.Single.{moves_publish, knows_at, names_row, knows_row}
 
-pub inside : (F : List ℕ → Type 0) (z : Site) (v : View) (row : ℕ) (key payload : List ℕ) (step place : ℕ) → IsPlaceable F z v row key payload step place → place < z.sizes.places
+pub inside : (F : List ℕ → Type 0) (z : Site) (v : View) (row : ℕ) (key payload : List ℕ) (step place : ℕ) → IsPlaceable F z v row key payload step place
+    → place < z.sizes.places
 inside F z v row key payload step place p = let n = p.inside in subst (λ (q : ℕ). q < z.sizes.places) p.at (on_page z.sizes key (omega arith) step)
 
 knows_other : (z : Site) (v u : View) (b : List Step) (g : ℕ → ℕ) (place : ℕ) → Moves v u b → KnowsOther v z.version g place → KnowsOther u z.version g place
 knows_other z v u b g place m k = (k.0, k.1, k.2, m.entries _ k.3, m.words _ k.4, k.5, k.6, k.7)
 
-module _ (F : List Entry → List ℕ → Type 0) (z : Site) (v u : View) (b : List Step) (row : ℕ) (key payload : List ℕ) (step place : ℕ) (moves : Moves v u b) (own : u.own ≡ v.own) (p : IsPlaceable (F v.log) z v row key payload step place) where
+module _ (F : List Entry → List ℕ → Type 0) (z : Site) (v u : View) (b : List Step) (row : ℕ) (key payload : List ℕ) (step place : ℕ) (moves : Moves v u b)
+    (own : u.own ≡ v.own) (p : IsPlaceable (F v.log) z v row key payload step place) where
   abbrev g : ℕ → ℕ
   g = slice_index (row_of key payload)
 
@@ -41,17 +43,23 @@ module _ (F : List Entry → List ℕ → Type 0) (z : Site) (v u : View) (b : L
   ready = record {
     owns = own ∙ p.owns.1;
     room = p.room;
-    wrote = λ index lt. let long = length_row key payload in let h = p.wrote index (omega arith) in subst (λ (q : OwnRow). In (index, g index) q.wrote) (same_some h.0 o (sym h.1 ∙ p.owns.1)) h.3;
-    fitting = subst (λ (log : List Entry). F log (content_of (slice_index (row_of key payload)))) (sym moves.log) (subst (F v.log) (sym (content_is key payload)) p.fitting);
+    wrote = λ index lt. let long = length_row key payload in let h = p.wrote index (omega arith) in
+        subst (λ (q : OwnRow). In (index, g index) q.wrote) (same_some h.0 o (sym h.1 ∙ p.owns.1)) h.3;
+    fitting = subst (λ (log : List Entry). F log (content_of (slice_index (row_of key payload)))) (sym moves.log)
+        (subst (F v.log) (sym (content_is key payload)) p.fitting);
     step = step;
     step_in = p.inside;
     at = ap (λ (k : List ℕ). on_path z.sizes k step) (key_is key payload) ∙ p.at;
-    passed = λ before lt. subst (λ (k : List ℕ). KnowsOther u z.version g (on_path z.sizes k before)) (sym (key_is key payload)) (knows_other z v u b g _ moves (p.passed before lt));
+    passed = λ before lt. subst (λ (k : List ℕ). KnowsOther u z.version g (on_path z.sizes k before)) (sym (key_is key payload))
+        (knows_other z v u b g _ moves (p.passed before lt));
   }
 
   pub may_publish : (L : List Entry → Type 0) → IsAtWork z u → Keeps L F u (op.Publish z.page place row)
   may_publish L work = subst (λ (r : ℕ). Keeps L F u (op.Publish z.page place r)) p.owns.2
-      (keeps_publish L F u o g place (subst (λ (t : Sizes × ℕ). IsReady (F u.log) t.0 u t.1 o g place) (λ i. (sym work.sizes i, work.caught_up i)) ready) work.share _ work.pinned work.caught_up)
+      (keeps_publish L F u o g place (subst (λ (t : Sizes × ℕ). IsReady (F u.log) t.0 u t.1 o g place) (λ i. (
+        sym work.sizes i,
+        work.caught_up i,
+      )) ready) work.share _ work.pinned work.caught_up)
 
 module _ (F : List ℕ → Type 0) (z : Site) (v u : View) (place row n : ℕ) (work : IsAtWork z v) (is : u ≡ after_load_place v z.page place n) where
   -- a row stands there
@@ -84,12 +92,16 @@ module _ (F : List ℕ → Type 0) (z : Site) (v u : View) (place row n : ℕ) (
     offered told = record {
       added = a ++ b;
       moves = moves_on v u x a b (loads z v u work place n is) on;
-      won = λ e. (ap (λ (y : View). y.own) (to ∙ ap (after_publish u z.page place row) e), (a, ap (λ (k : ℕ). a ++ published z.sizes z.page place row k ∷ []) e));
-      lost = λ other e. let t = to ∙ ap (after_publish u z.page place row) e in let entries = ap (λ (y : View). y.entries) t in let version = names_row z u at_work x place other entries in (
-        ap (λ (y : View). y.own) t ∙ ap (λ (y : View). y.own) is,
-        subst (λ (y : Sizes). other < y.rows) (on.sizes ∙ at_work.sizes) (told.range other (knows_row z x other version)),
-        inr (row, in_right _ a b (inl (ap (published z.sizes z.page place row) (sym e)))),
-        knows_at z u at_work x place other entries,
-        version,
+      won = λ e. (
+        ap (λ (y : View). y.own) (to ∙ ap (after_publish u z.page place row) e),
+        (a, ap (λ (k : ℕ). a ++ published z.sizes z.page place row k ∷ []) e),
       );
+      lost = λ other e. let t = to ∙ ap (after_publish u z.page place row) e in let entries = ap (λ (y : View). y.entries) t in
+          let version = names_row z u at_work x place other entries in (
+            ap (λ (y : View). y.own) t ∙ ap (λ (y : View). y.own) is,
+            subst (λ (y : Sizes). other < y.rows) (on.sizes ∙ at_work.sizes) (told.range other (knows_row z x other version)),
+            inr (row, in_right _ a b (inl (ap (published z.sizes z.page place row) (sym e)))),
+            knows_at z u at_work x place other entries,
+            version,
+          );
     }

@@ -63,12 +63,23 @@ pub range : (F : List ℕ → Type 0) (z : Site) (w u : View) (place row : ℕ) 
 range F z w u place row work m told = subst (λ (y : Sizes). row < y.rows) (m.moves.sizes ∙ work.sizes) (told.range row (knows_row z u row m.version))
 
 module _ (z : Site) (v w : View) (key : List ℕ) (steps place : ℕ) (walk : Walking z v w key steps place) where
-  pub empty : (work : IsAtWork z w) (u : View) (n : ℕ) → u ≡ after_load_place w z.page place n → n ≡ 0 → steps < z.sizes.places → Walks z v u key (seen.Empty place)
+  pub empty : (work : IsAtWork z w) (u : View) (n : ℕ) → u ≡ after_load_place w z.page place n → n ≡ 0 → steps < z.sizes.places
+      → Walks z v u key (seen.Empty place)
   empty work u n is e lt = let b : List Step = loaded_place z.sizes z.page place n ∷ [] in let m = loads z w u work place n is in record {
     added = walk.added ++ b;
     moves = moves_on v w u walk.added b walk.moves m;
     own = ap (λ (x : View). x.own) is ∙ walk.own;
-    is = (steps, lt, sym walk.at, (walk.added, ap (λ (k : ℕ). walk.added ++ loaded_place z.sizes z.page place k ∷ []) e, passed_on z w u walk.added walk.added (record { steps = λ _ i. i; entries = m.entries; words = m.words }) key steps walk.passed));
+    is = (
+      steps,
+      lt,
+      sym walk.at,
+      (
+        walk.added,
+        ap (λ (k : ℕ). walk.added ++ loaded_place z.sizes z.page place k ∷ []) e,
+        passed_on z w u walk.added walk.added
+            (record { steps = λ _ i. i; entries = m.entries; words = m.words }) key steps walk.passed,
+      ),
+    );
   }
 
   module _ (u x : View) (row : ℕ) (m : Meets z w u place row) (same : Type 0) (c : Compares z u x row key same) where
@@ -97,7 +108,17 @@ module _ (z : Site) (v w : View) (key : List ℕ) (steps place : ℕ) (walk : Wa
       added = walk.added ++ (m.added ++ c.added);
       moves = moves_all;
       own = own_all;
-      is = (inside, c.version, (place, on_the_page z v w key steps place walk lt, in_right _ walk.added (m.added ++ c.added) (in_left _ m.added c.added loaded)), key_all yes_it_is);
+      is = (
+        inside,
+        c.version,
+        (
+          place,
+          on_the_page z v w key steps place walk lt,
+          in_right _ walk.added (m.added ++ c.added)
+              (in_left _ m.added c.added loaded),
+        ),
+        key_all yes_it_is,
+      );
     }
 
     pub goes_on : ¬ same → (next : ℕ) → next ≡ on_path z.sizes key (steps + 1) → Walking z v x key (steps + 1) next

@@ -31,14 +31,16 @@ pub starts : (z : Site) (v : View) (row : ℕ) (key : List ℕ) → version_of v
 starts z v row key is = record { added = []; moves = stays v; own = refl; version = is; words = λ index _ lt. absurd (omega arith) }
 
 -- a further word was loaded
-module _ (z : Site) (v w u : View) (row : ℕ) (key : List ℕ) (work : IsAtWork z v) (bound index n : ℕ) (is : u ≡ after_load_row w row index n) (r : Reading z v w row key bound) where
+module _ (z : Site) (v w u : View) (row : ℕ) (key : List ℕ) (work : IsAtWork z v) (bound index n : ℕ) (is : u ≡ after_load_row w row index n)
+    (r : Reading z v w row key bound) where
   Loaded : View → Type 0
   Loaded x = (added : List Step) × Moves v x added × (x.own ≡ v.own) × (version_of x.entries row ≡ Some z.version) × Reads z x added row index n
       × ((at : ℕ) → TellsKey key at → at < bound → Reads z x added row at (slice_index (head_of key) at))
 
   loaded : Loaded u
   unfolding Loaded
-  loaded = let b : List Step = loaded_row z.sizes row index n ∷ [] in let at_work = work_on z v w r.added work r.moves in let t = after_load_row w row index n in let m = moves_row z w at_work row index n in
+  loaded = let b : List Step = loaded_row z.sizes row index n ∷ [] in let at_work = work_on z v w r.added work r.moves in
+      let t = after_load_row w row index n in let m = moves_row z w at_work row index n in
       subst Loaded (sym is) (
         r.added ++ b,
         moves_on v w t r.added b r.moves m,
@@ -50,7 +52,15 @@ module _ (z : Site) (v w u : View) (row : ℕ) (key : List ℕ) (work : IsAtWork
 
   pub differs : TellsKey key index → n ≢ slice_index (head_of key) index → Compares z v u row key (IsTrue false)
   unfolding Loaded
-  differs tells ne = let l = loaded in record { added = l.0; moves = l.1; own = l.2; version = l.3; yes = λ t. absurd (untrue t); no = λ _. (index, n, l.4, tells, ne) }
+  differs tells ne = let l = loaded in record {
+    added = l.0;
+    moves = l.1;
+    own = l.2;
+    version = l.3;
+    yes = λ t. absurd (untrue t);
+    no =
+        λ _. (index, n, l.4, tells, ne);
+  }
 
   pub agrees : n ≡ slice_index (head_of key) index → bound ≡ index → Reading z v u row key (index + 1)
   unfolding Loaded
@@ -78,7 +88,23 @@ module _ (z : Site) (v w u : View) (row : ℕ) (key : List ℕ) (work : IsAtWork
 
 -- the word at index 1 tells nothing of the key
 pub past_one : (z : Site) (v w : View) (row : ℕ) (key : List ℕ) → Reading z v w row key 1 → Reading z v w row key 2
-past_one z v w row key r = record { added = r.added; moves = r.moves; own = r.own; version = r.version; words = λ index tells lt. let n = tells.1 in r.words index tells (dite (ℕ_discrete index 1) (λ e. absurd (n e)) (λ _. omega arith)) }
+past_one z v w row key r = record {
+  added = r.added;
+  moves = r.moves;
+  own = r.own;
+  version = r.version;
+  words = λ index tells lt. let n =
+      tells.1 in r.words index tells (dite (ℕ_discrete index 1) (λ e. absurd (n e)) (λ _. omega arith));
+}
 
-pub ends : (z : Site) (v w : View) (row : ℕ) (key : List ℕ) (bound : ℕ) → 2 + length key ≤ bound → Reading z v w row key bound → Compares z v w row key (IsTrue true)
-ends z v w row key bound all r = record { added = r.added; moves = r.moves; own = r.own; version = r.version; yes = λ _ index tells. let lt = tells.0 in r.words index tells (omega arith); no = λ n. absurd (n refl) }
+pub ends : (z : Site) (v w : View) (row : ℕ) (key : List ℕ) (bound : ℕ) → 2 + length key ≤ bound → Reading z v w row key bound
+    → Compares z v w row key (IsTrue true)
+ends z v w row key bound all r = record {
+  added = r.added;
+  moves = r.moves;
+  own = r.own;
+  version = r.version;
+  yes = λ _ index tells. let lt =
+      tells.0 in r.words index tells (omega arith);
+  no = λ n. absurd (n refl);
+}

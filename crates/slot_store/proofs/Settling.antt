@@ -13,7 +13,8 @@ use Rattle.slot_store.proofs.Growing.{moves_on}
 use Rattle.slot_store.proofs.Passing.{Meets, on_the_page, own_all, moves_all, met_all, key_all}
 
 module _ (z : Site) (v w : View) (key payload : List ℕ) (row steps place : ℕ) (walk : Walking z v w key steps place) where
-  pub placeable : (F : List Entry → List ℕ → Type 0) → OwnsRow v row → HasWrittenAll v row (row_of key payload) → 2 + (length key + length payload) ≤ z.sizes.width → F v.log (row_of key payload) → steps < z.sizes.places
+  pub placeable : (F : List Entry → List ℕ → Type 0) → OwnsRow v row → HasWrittenAll v row (row_of key payload)
+      → 2 + (length key + length payload) ≤ z.sizes.width → F v.log (row_of key payload) → steps < z.sizes.places
       → IsPlaceable (F w.log) z w row key payload steps place
   placeable F owns wrote room fits lt = record {
     owns = (owns.0, walk.own ∙ owns.1, owns.2);
@@ -33,19 +34,37 @@ module _ (z : Site) (v w : View) (key payload : List ℕ) (row steps place : ℕ
       moves = moves_on v w u walk.added f.added walk.moves f.moves;
       is = (
         won.0,
-        (place, on_the_page z v w key steps place walk lt, walk.added ++ won.1.0, ap (λ (l : List Step). walk.added ++ l) won.1.1 ∙ sym (append_assoc walk.added won.1.0 (published z.sizes z.page place row 0 ∷ []))),
+        (
+          place,
+          on_the_page z v w key steps place walk lt,
+          walk.added ++ won.1.0,
+          ap (λ (l : List Step). walk.added ++ l) won.1.1
+              ∙ sym (append_assoc walk.added won.1.0 (published z.sizes z.page place row 0 ∷ [])),
+        ),
       );
     }
 
     pub other : (r : ℕ) → n ≡ suc r → Meets z w u place r
     other r e = let l = f.lost r e in record { added = f.added; moves = f.moves; own = l.0; met = l.2; at = l.3; version = l.4 }
 
-    pub already : steps < z.sizes.places → (r : ℕ) (e : n ≡ suc r) (x : View) (same : Type 0) → Compares z u x r key same → same → Places z v x row key placed.Already
+    pub already : steps < z.sizes.places → (r : ℕ) (e : n ≡ suc r) (x : View) (same : Type 0) → Compares z u x r key same → same
+        → Places z v x row key placed.Already
     already lt r e x same c yes_it_is = let m = other r e in record {
       added = walk.added ++ (m.added ++ c.added);
       moves = moves_all z v w key steps place walk u x r m same c;
-      is = (own_all z v w key steps place walk u x r m same c, (place, r, on_the_page z v w key steps place walk lt, (f.lost r e).1, met_all z v w key steps place walk u x r m same c, key_all z v w key steps place walk u x r m same c yes_it_is));
+      is = (
+        own_all z v w key steps place walk u x r m same c,
+        (
+          place,
+          r,
+          on_the_page z v w key steps place walk lt,
+          (f.lost r e).1,
+          met_all z v w key steps place walk u x r m same c,
+          key_all z v w key steps place walk u x r m same c yes_it_is,
+        ),
+      );
     }
 
-pub full : (z : Site) (v w : View) (key : List ℕ) (row steps place : ℕ) → z.sizes.places ≤ steps → Walking z v w key steps place → Places z v w row key placed.Full
+pub full : (z : Site) (v w : View) (key : List ℕ) (row steps place : ℕ) → z.sizes.places ≤ steps → Walking z v w key steps place
+    → Places z v w row key placed.Full
 full z v w key row steps place all walk = record { added = walk.added; moves = walk.moves; is = (walk.own, λ before lt. walk.passed before (omega arith)) }

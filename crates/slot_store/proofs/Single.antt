@@ -10,7 +10,8 @@ use Rattle.pin_rule.specs.declared.view.EntryFact.{EntryFact}
 use Rattle.pin_rule.specs.declared.view.WordFact.{WordFact}
 use Rattle.pin_rule.specs.Lists.{In}
 use Rattle.pin_rule.specs.Views.{version_at, version_pinned, version_of_role}
-use Rattle.pin_rule.specs.Steps.{met_entry, met_word, version_of, own_words, published_words, loaded_place, loaded_row, published, gave_back, after_load_place, after_load_row, after_publish, after_give_back}
+use Rattle.pin_rule.specs.Steps.{met_entry, met_word, version_of, own_words, published_words, loaded_place, loaded_row, published, gave_back, after_load_place}
+use Rattle.pin_rule.specs.Steps.{after_load_row, after_publish, after_give_back}
 use Rattle.pin_rule.specs.Ops.{exchanged}
 use Rattle.pin_rule.specs.Told.{KnowsRow}
 use Rattle.pin_rule.proofs.Lists.{in_right}
@@ -51,10 +52,20 @@ module _ (z : Site) (v : View) (work : IsAtWork z v) where
     }
 
     pub reads_row : version_of v.entries row ≡ Some z.version → Reads z (after_load_row v row index n) (loaded_row z.sizes row index n ∷ []) row index n
-    reads_row is = (inl refl, subst (λ (o : Option ℕ). In (let x : WordFact = record { version = z.version; row = row; index = index; word = n } in x) (met_word o v.words row index n)) (sym is) (inl refl))
+    reads_row is = (
+      inl refl,
+      subst (λ (o : Option ℕ). In (let x : WordFact = record {
+        version = z.version;
+        row = row;
+        index = index;
+        word =
+            n;
+      } in x) (met_word o v.words row index n)) (sym is) (inl refl),
+    )
 
   first : version_at v z.page ≡ Some z.version
-  first = ap (λ p. version_pinned p (version_of_role v.role z.page) z.page) work.pinned ∙ ap (λ b. cond b (Some z.version) (version_of_role v.role z.page)) (eq-eqb z.page z.page refl)
+  first = ap (λ p. version_pinned p (version_of_role v.role z.page) z.page) work.pinned ∙ ap (λ b. cond b (Some z.version) (version_of_role v.role z.page))
+      (eq-eqb z.page z.page refl)
 
   module _ (place n : ℕ) where
     pub moves_place : Moves v (after_load_place v z.page place n) (loaded_place z.sizes z.page place n ∷ [])
@@ -72,12 +83,18 @@ module _ (z : Site) (v : View) (work : IsAtWork z v) where
     }
 
   -- the entries after a row was met at the place
-  pub met_at : (place row : ℕ) → met_entry (version_at v z.page) v.entries place (suc row) ≡ record { version = z.version; place = place; row = row } ∷ v.entries
+  pub met_at : (place row : ℕ) → met_entry (version_at v z.page) v.entries place (suc row) ≡ record {
+    version = z.version;
+    place = place;
+    row =
+        row;
+  } ∷ v.entries
   met_at place row = ap (λ (o : Option ℕ). met_entry o v.entries place (suc row)) first
 
   module _ (w : View) (place row : ℕ) (met : w.entries ≡ met_entry (version_at v z.page) v.entries place (suc row)) where
     pub knows_at : KnowsAt z w place row
-    knows_at = subst (λ (es : List EntryFact). In (let e : EntryFact = record { version = z.version; place = place; row = row } in e) es) (sym (met ∙ met_at place row)) (inl refl)
+    knows_at = subst (λ (es : List EntryFact). In (let e : EntryFact = record { version = z.version; place = place; row = row } in e) es)
+        (sym (met ∙ met_at place row)) (inl refl)
 
     pub names_row : version_of w.entries row ≡ Some z.version
     names_row = ap (λ (es : List EntryFact). version_of es row) (met ∙ met_at place row) ∙ named z v.entries place row
@@ -87,7 +104,8 @@ published_grow None own ws n x i = i
 published_grow (Some version) own ws zero x i = in_right x (own_words version own) ws i
 published_grow (Some version) own ws (suc n) x i = i
 
-pub moves_publish : (z : Site) (v : View) (place row n : ℕ) → v.sizes ≡ z.sizes → Moves v (after_publish v z.page place row n) (published z.sizes z.page place row n ∷ [])
+pub moves_publish : (z : Site) (v : View) (place row n : ℕ) → v.sizes ≡ z.sizes
+    → Moves v (after_publish v z.page place row n) (published z.sizes z.page place row n ∷ [])
 moves_publish z v place row n sizes = record {
   sizes = refl;
   log = refl;

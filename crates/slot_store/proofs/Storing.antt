@@ -21,19 +21,37 @@ use Rattle.slot_store.specs.Walks.{IsAtWork, Moves, OwnsRow, HasWritten, Writes,
 use Rattle.slot_store.proofs.ByWord.{by_parts}
 use Rattle.slot_store.proofs.Growing.{stays, moves_on}
 
-pub may_write : (L : List Entry → Type 0) (F : List Entry → List ℕ → Type 0) (v : View) (row index x : ℕ) → OwnsRow v row → index < v.sizes.width → Keeps L F v (op.WriteRow row index x)
+pub may_write : (L : List Entry → Type 0) (F : List Entry → List ℕ → Type 0) (v : View) (row index x : ℕ) → OwnsRow v row → index < v.sizes.width
+    → Keeps L F v (op.WriteRow row index x)
 may_write L F v row index x o inside = subst (λ (r : ℕ). Keeps L F v (op.WriteRow r index x)) o.2 (keeps_write_row L F v o.0 o.1 index x inside)
 
 in_without : (index : ℕ) (w : ℕ × ℕ) (l : List (ℕ × ℕ)) → w.0 ≢ index → In w l → In w (without index l)
 in_without index w [] n i = absurd i
 in_without index w (x ∷ xs) n i = dite (ℕ_discrete x.0 index)
-    (λ e. subst (λ b. In w (cond b (without index xs) (x ∷ without index xs))) (sym (eq-eqb x.0 index e)) (elim i [ inl same ↦ absurd (n (ap (λ (y : ℕ × ℕ). y.0) same ∙ e)) | inr t ↦ in_without index w xs n t ]))
-    (λ m. subst (λ b. In w (cond b (without index xs) (x ∷ without index xs))) (sym (ne_eqb x.0 index m)) (elim i [ inl same ↦ inl same | inr t ↦ inr (in_without index w xs n t) ]))
+    (λ e. subst (λ b. In w (cond b (without index xs) (x ∷ without index xs))) (sym (eq-eqb x.0 index e)) (elim i [
+      | inl same ↦
+          absurd (n (ap (λ (y : ℕ × ℕ). y.0) same ∙ e))
+      | inr t ↦ in_without index w xs n t
+    ]))
+    (λ m. subst (λ b. In w (cond b (without index xs) (x ∷ without index xs))) (sym (ne_eqb x.0 index m)) (elim i [
+      | inl same ↦ inl same
+      | inr t ↦
+          inr (in_without index w xs n t)
+    ]))
 
 pub starts : (z : Site) (v : View) (row from : ℕ) (words : List ℕ) → OwnsRow v row → Writes z v v row from words 0
-starts z v row from words owns = record { added = []; moves = stays v; owns = owns; earlier = λ _ _ _ h. h; wrote = λ i lt. absurd (omega arith); stores = λ i lt. absurd (omega arith) }
+starts z v row from words owns = record {
+  added = [];
+  moves = stays v;
+  owns = owns;
+  earlier = λ _ _ _ h. h;
+  wrote = λ i lt. absurd (omega arith);
+  stores =
+      λ i lt. absurd (omega arith);
+}
 
-module _ (z : Site) (v w u : View) (work : IsAtWork z v) (row from : ℕ) (words : List ℕ) (i x : ℕ) (is : u ≡ after_write_row w row (from + i) x) (r : Writes z v w row from words i) where
+module _ (z : Site) (v w u : View) (work : IsAtWork z v) (row from : ℕ) (words : List ℕ) (i x : ℕ) (is : u ≡ after_write_row w row (from + i) x)
+    (r : Writes z v w row from words i) where
   index : ℕ
   index = from + i
 
@@ -41,53 +59,67 @@ module _ (z : Site) (v w u : View) (work : IsAtWork z v) (row from : ℕ) (words
   owned o own = ap (λ (y : View). y.own) is ∙ ap (λ (p : Option OwnRow). written p (from + i) x) own
 
   other : (j y : ℕ) → j ≢ from + i → HasWritten w row j y → HasWritten u row j y
-  other j y n h = (record { row = h.0.row; wrote = (from + i, x) ∷ without (from + i) h.0.wrote }, owned h.0 h.1, h.2, inr (in_without (from + i) (j, y) h.0.wrote n h.3))
+  other j y n h = (
+    record { row = h.0.row; wrote = (from + i, x) ∷ without (from + i) h.0.wrote },
+    owned h.0 h.1,
+    h.2,
+    inr (in_without (from + i) (j, y) h.0.wrote n h.3),
+  )
 
   here : HasWritten u row (from + i) x
   here = (record { row = r.owns.0.row; wrote = (from + i, x) ∷ without (from + i) r.owns.0.wrote }, owned r.owns.0 r.owns.1, r.owns.2, inl refl)
 
   pub goes_on : x ≡ slice_index words i → Writes z v u row from words (i + 1)
-  goes_on same = let b : List Step = wrote_row z.sizes row (from + i) x ∷ [] in let sizes : w.sizes ≡ z.sizes = r.moves.sizes ∙ work.sizes in let h = here in record {
-    added = r.added ++ b;
-    moves = subst (λ (y : View). Moves v y (r.added ++ b)) (sym is) (moves_on v w (after_write_row w row (from + i) x) r.added b r.moves (record {
-      sizes = refl;
-      log = refl;
-      share = refl;
-      pins_left = refl;
-      log_words = refl;
-      quiet = (tt, tt);
-      pinned = refl;
-      steps = ap (λ (y : Sizes). w.steps ++ wrote_row y row (from + i) x ∷ []) sizes;
-      entries = λ _ e. e;
-      words = λ _ e. e;
-    }));
-    owns = (h.0, h.1, h.2);
-    earlier = λ j y lt had. other j y (λ e. omega arith) (r.earlier j y lt had);
-    wrote = λ j lt. dite (ℕ_discrete j i)
-        (λ e. subst (λ (k : ℕ). HasWritten u row (from + k) (slice_index words k)) (sym e) (subst (HasWritten u row (from + i)) same h))
-        (λ n. other (from + j) (slice_index words j) (λ e. n (omega arith)) (r.wrote j (omega arith)));
-    stores = λ j lt. dite (ℕ_discrete j i)
-        (λ e. subst (λ (k : ℕ). In (wrote_row z.sizes row (from + k) (slice_index words k)) (r.added ++ b)) (sym e) (subst (λ (y : ℕ). In (wrote_row z.sizes row (from + i) y) (r.added ++ b)) same (in_right (wrote_row z.sizes row (from + i) x) r.added b (inl refl))))
-        (λ n. in_left _ r.added b (r.stores j (omega arith)));
-  }
+  goes_on same = let b : List Step = wrote_row z.sizes row (from + i) x ∷ [] in let sizes : w.sizes ≡ z.sizes = r.moves.sizes ∙ work.sizes in let h = here in
+      record {
+        added = r.added ++ b;
+        moves = subst (λ (y : View). Moves v y (r.added ++ b)) (sym is) (moves_on v w (after_write_row w row (from + i) x) r.added b r.moves (record {
+          sizes = refl;
+          log = refl;
+          share = refl;
+          pins_left = refl;
+          log_words = refl;
+          quiet = (tt, tt);
+          pinned = refl;
+          steps = ap (λ (y : Sizes). w.steps ++ wrote_row y row (from + i) x ∷ []) sizes;
+          entries = λ _ e. e;
+          words = λ _ e. e;
+        }));
+        owns = (h.0, h.1, h.2);
+        earlier = λ j y lt had. other j y (λ e. omega arith) (r.earlier j y lt had);
+        wrote = λ j lt. dite (ℕ_discrete j i)
+            (λ e. subst (λ (k : ℕ). HasWritten u row (from + k) (slice_index words k)) (sym e) (subst (HasWritten u row (from + i)) same h))
+            (λ n. other (from + j) (slice_index words j) (λ e. n (omega arith)) (r.wrote j (omega arith)));
+        stores = λ j lt. dite (ℕ_discrete j i)
+            (λ e. subst (λ (k : ℕ). In (wrote_row z.sizes row (from + k) (slice_index words k)) (r.added ++ b)) (sym e)
+            (subst (λ (y : ℕ). In (wrote_row z.sizes row (from + i) y) (r.added ++ b)) same (in_right (wrote_row z.sizes row (from + i) x) r.added b
+            (inl refl))))
+            (λ n. in_left _ r.added b (r.stores j (omega arith)));
+      }
 
 -- two lengths, a key and a payload make a row
-pub whole_row : (z : Site) (u v w x : View) (row : ℕ) (key payload : List ℕ) → Writes z u v row 0 (length key ∷ length payload ∷ []) 2 → Writes z v w row 2 key (length key) → Writes z w x row (length key + 2) payload (length payload)
+pub whole_row : (z : Site) (u v w x : View) (row : ℕ) (key payload : List ℕ) → Writes z u v row 0 (length key ∷ length payload ∷ []) 2
+    → Writes z v w row 2 key (length key) → Writes z w x row (length key + 2) payload (length payload)
     → WritesRow z u x row (row_of key payload)
 whole_row z u v w x row key payload a b c =
-    let early : (index word : ℕ) → index < 2 → HasWritten v row index word → HasWritten x row index word = λ index word lt h. c.earlier index word (omega arith) (b.earlier index word lt h) in
+    let early : (index word : ℕ) → index < 2 → HasWritten v row index word → HasWritten x row index word = λ index word lt h. c.earlier index word (omega arith)
+    (b.earlier index word lt h) in
     let first : (s : Step) → In s a.added → In s (a.added ++ (b.added ++ c.added)) = λ s i. in_left s a.added (b.added ++ c.added) i in
-    let second : (s : Step) → In s b.added → In s (a.added ++ (b.added ++ c.added)) = λ s i. in_right s a.added (b.added ++ c.added) (in_left s b.added c.added i) in
-    let third : (s : Step) → In s c.added → In s (a.added ++ (b.added ++ c.added)) = λ s i. in_right s a.added (b.added ++ c.added) (in_right s b.added c.added i) in
+    let second : (s : Step) → In s b.added → In s (a.added ++ (b.added ++ c.added)) = λ s i. in_right s a.added (b.added ++ c.added)
+    (in_left s b.added c.added i) in
+    let third : (s : Step) → In s c.added → In s (a.added ++ (b.added ++ c.added)) = λ s i. in_right s a.added (b.added ++ c.added)
+    (in_right s b.added c.added i) in
     let swap : (i : ℕ) → 2 + i ≡ i + 2 = λ i. omega arith in
     record {
       added = a.added ++ (b.added ++ c.added);
       moves = moves_on u v x a.added (b.added ++ c.added) a.moves (moves_on v w x b.added c.added b.moves c.moves);
       owns = c.owns;
-      wrote = by_parts key payload (HasWritten x row) (early 0 (length key) (omega arith) (a.wrote 0 (omega arith))) (early 1 (length payload) (omega arith) (a.wrote 1 (omega arith)))
+      wrote = by_parts key payload (HasWritten x row) (early 0 (length key) (omega arith) (a.wrote 0 (omega arith)))
+          (early 1 (length payload) (omega arith) (a.wrote 1 (omega arith)))
           (λ i lt. c.earlier (i + 2) (slice_index key i) (omega arith) (subst (λ (n : ℕ). HasWritten w row n (slice_index key i)) (swap i) (b.wrote i lt)))
           c.wrote;
-      stores = by_parts key payload (λ index word. In (wrote_row z.sizes row index word) (a.added ++ (b.added ++ c.added))) (first _ (a.stores 0 (omega arith))) (first _ (a.stores 1 (omega arith)))
+      stores = by_parts key payload (λ index word. In (wrote_row z.sizes row index word) (a.added ++ (b.added ++ c.added))) (first _ (a.stores 0 (omega arith)))
+          (first _ (a.stores 1 (omega arith)))
           (λ i lt. second _ (subst (λ (n : ℕ). In (wrote_row z.sizes row n (slice_index key i)) b.added) (swap i) (b.stores i lt)))
           (λ j lt. third _ (c.stores j lt));
     }

@@ -41,7 +41,8 @@ module _ (z : Site) (v w u : View) (work : IsAtWork z v) (from at n : ℕ) (is :
       }))
 
   last : (m : ℕ) → n ≡ m → In (claimed z.sizes at m) (t.added ++ claimed z.sizes at n ∷ [])
-  last m e = subst (λ (k : ℕ). In (claimed z.sizes at k) (t.added ++ claimed z.sizes at n ∷ [])) e (in_right (claimed z.sizes at n) t.added (claimed z.sizes at n ∷ []) (inl refl))
+  last m e = subst (λ (k : ℕ). In (claimed z.sizes at k) (t.added ++ claimed z.sizes at n ∷ [])) e
+      (in_right (claimed z.sizes at n) t.added (claimed z.sizes at n ∷ []) (inl refl))
 
   pub won : n ≡ 0 → at < z.sizes.rows → (to : ℕ) → Claims z v u from to (Some at)
   won e inside to = record {
@@ -55,7 +56,8 @@ module _ (z : Site) (v w u : View) (work : IsAtWork z v) (from at n : ℕ) (is :
     added = t.added ++ claimed z.sizes at n ∷ [];
     moves = moves;
     free = ap (λ (x : View). x.own) (is ∙ ap (after_claim w at) e) ∙ t.free;
-    met = λ row ge lt. dite (ℕ_discrete row at) (λ same. subst (λ (r : ℕ). In (claimed z.sizes r 1) (t.added ++ claimed z.sizes at n ∷ [])) (sym same) (last 1 e))
+    met = λ row ge lt. dite (ℕ_discrete row at) (λ same. subst (λ (r : ℕ). In (claimed z.sizes r 1) (t.added ++ claimed z.sizes at n ∷ [])) (sym same)
+        (last 1 e))
         (λ other. in_left (claimed z.sizes row 1) t.added (claimed z.sizes at n ∷ []) (t.met row ge (omega arith)));
   }
 
@@ -69,7 +71,16 @@ both z u v w next a None b = record {
   moves = moves_on u v w a.added b.added a.moves b.moves;
   is = (
     b.is.0,
-    λ row ge lt. elim (cases_lt row next) [ inl below ↦ in_right (claimed z.sizes row 1) a.added b.added (b.is.1 row ge below) | inr above ↦ in_left (claimed z.sizes row 1) a.added b.added (a.is.1 row above lt) ],
+    λ row ge lt. elim (cases_lt row next) [
+      | inl below ↦ in_right (claimed z.sizes row 1) a.added b.added (b.is.1 row ge below)
+      | inr above ↦
+          in_left (claimed z.sizes row 1) a.added b.added (a.is.1 row above lt)
+    ],
   );
 }
-both z u v w next a (Some row) b = record { added = a.added ++ b.added; moves = moves_on u v w a.added b.added a.moves b.moves; is = (b.is.0, b.is.1, in_right (claimed z.sizes row 0) a.added b.added b.is.2) }
+both z u v w next a (Some row) b = record {
+  added = a.added ++ b.added;
+  moves = moves_on u v w a.added b.added a.moves b.moves;
+  is =
+      (b.is.0, b.is.1, in_right (claimed z.sizes row 0) a.added b.added b.is.2);
+}

@@ -29,7 +29,8 @@ module _ (z : Sizes) (page : ℕ) (added : List Step) where
 
   -- the row met at the place has another key: a word that tells it is another one
   abbrev pub HoldsOther : List ℕ → ℕ → Type 0
-  HoldsOther key place = (row : ℕ) × (index : ℕ) × (word : ℕ) × MetRow place row × ReadWord row index word × TellsKey key index × (word ≢ slice_index (head_of key) index)
+  HoldsOther key place = (row : ℕ) × (index : ℕ) × (word : ℕ) × MetRow place row × ReadWord row index word × TellsKey key index ×
+      (word ≢ slice_index (head_of key) index)
 
   -- the row was loaded from the page, then all its words, and it fits the log
   pub record IsFound (fits : List ℕ → Type 0) (key payload : List ℕ) : Type 0 where

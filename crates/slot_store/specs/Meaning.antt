@@ -23,7 +23,17 @@ abbrev pub extended : Meaning → List Step → Meaning
 extended m added = record m { steps = m.steps ++ added }
 
 abbrev pub meaning_of : View → ℕ → TableId × ℕ → Meaning
-meaning_of v page table = record { sizes = v.sizes; page = page; log = v.log; table = table; share = v.share; pins_left = v.pins_left; own = v.own; steps = v.steps }
+meaning_of v page table = record {
+  sizes = v.sizes;
+  page = page;
+  log = v.log;
+  table = table;
+  share = v.share;
+  pins_left = v.pins_left;
+  own = v.own;
+  steps =
+      v.steps;
+}
 
 -- what a user means that has no pin
 pub record PassMeaning : Type 0 where

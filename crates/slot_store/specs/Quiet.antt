@@ -1,7 +1,8 @@
 -- Steps that neither take or drop a pin, nor split or join a seat, nor change a version.
 use Rattle.pin_rule.specs.declared.view.Step.{Step}
 use Rattle.pin_rule.specs.declared.view.Kind.{Kind}
-use Rattle.pin_rule.specs.declared.view.Kind.TheVariants.{LoadPlace, LoadRow, Claim, WriteRow, Publish, GiveBack, Split, Join, Pin, Unpin, LoadLog, WriteLog, WritePlace, SwapCurrent, LoadRelease, FreeRow}
+use Rattle.pin_rule.specs.declared.view.Kind.TheVariants.{LoadPlace, LoadRow, Claim, WriteRow, Publish, GiveBack, Split, Join, Pin, Unpin, LoadLog, WriteLog}
+use Rattle.pin_rule.specs.declared.view.Kind.TheVariants.{WritePlace, SwapCurrent, LoadRelease, FreeRow}
 
 abbrev pub IsQuietKind : Kind → Type 0
 IsQuietKind LoadPlace = Unit {0}

@@ -81,8 +81,10 @@ pub record Walking (z : Site) (v w : View) (key : List ℕ) (steps place : ℕ) 
   pub at : place ≡ on_path z.sizes key steps
 
 abbrev pub SeenIs : Site → View → List Step → List ℕ → Seen → Type 0
-SeenIs z w added key (seen.Same row) = (row < z.sizes.rows) × (version_of w.entries row ≡ Some z.version) × ((place : ℕ) × (place < z.sizes.places) × In (loaded_place z.sizes z.page place (suc row)) added) × ReadsKey z w added row key
-SeenIs z w added key (seen.Empty place) = (step : ℕ) × (step < z.sizes.places) × (on_path z.sizes key step ≡ place) × ((before : List Step) × (added ≡ before ++ loaded_place z.sizes z.page place 0 ∷ []) × Passed z w before key step)
+SeenIs z w added key (seen.Same row) = (row < z.sizes.rows) × (version_of w.entries row ≡ Some z.version) × ((place : ℕ) × (place < z.sizes.places)
+    × In (loaded_place z.sizes z.page place (suc row)) added) × ReadsKey z w added row key
+SeenIs z w added key (seen.Empty place) = (step : ℕ) × (step < z.sizes.places) × (on_path z.sizes key step ≡ place) × ((before : List Step)
+    × (added ≡ before ++ loaded_place z.sizes z.page place 0 ∷ []) × Passed z w before key step)
 SeenIs z w added key seen.Full = Passed z w added key z.sizes.places
 
 pub record Walks (z : Site) (v w : View) (key : List ℕ) (s : Seen) : Type 0 where
@@ -163,11 +165,14 @@ pub record Offers (z : Site) (v w : View) (place row met : ℕ) : Type 0 where
   pub added : List Step
   pub moves : Moves v w added
   pub won : met ≡ 0 → (w.own ≡ None) × ((before : List Step) × (added ≡ before ++ published z.sizes z.page place row 0 ∷ []))
-  pub lost : (other : ℕ) → met ≡ suc other → (w.own ≡ v.own) × (other < z.sizes.rows) × MetRow z.sizes z.page added place other × KnowsAt z w place other × (version_of w.entries other ≡ Some z.version)
+  pub lost : (other : ℕ) → met ≡ suc other → (w.own ≡ v.own) × (other < z.sizes.rows) × MetRow z.sizes z.page added place other × KnowsAt z w place other ×
+      (version_of w.entries other ≡ Some z.version)
 
 abbrev pub PlacedIs : Site → View → View → List Step → ℕ → List ℕ → Placed → Type 0
-PlacedIs z v w added row key placed.Here = (w.own ≡ None) × ((place : ℕ) × (place < z.sizes.places) × (before : List Step) × (added ≡ before ++ published z.sizes z.page place row 0 ∷ []))
-PlacedIs z v w added row key placed.Already = (w.own ≡ v.own) × ((place : ℕ) × (other : ℕ) × (place < z.sizes.places) × (other < z.sizes.rows) × MetRow z.sizes z.page added place other × ReadsKey z w added other key)
+PlacedIs z v w added row key placed.Here = (w.own ≡ None) × ((place : ℕ) × (place < z.sizes.places) × (before : List Step)
+    × (added ≡ before ++ published z.sizes z.page place row 0 ∷ []))
+PlacedIs z v w added row key placed.Already = (w.own ≡ v.own) × ((place : ℕ) × (other : ℕ) × (place < z.sizes.places) × (other < z.sizes.rows)
+    × MetRow z.sizes z.page added place other × ReadsKey z w added other key)
 PlacedIs z v w added row key placed.Full = (w.own ≡ v.own) × Passed z w added key z.sizes.places
 
 pub record Places (z : Site) (v w : View) (row : ℕ) (key : List ℕ) (p : Placed) : Type 0 where

@@ -59,7 +59,8 @@ pub trait Page<C: Content> {
     fn find(&mut self, key: &[u64]) -> Look<'_>
         requires { 0 < length key.now }
         ensures lent { LendsFitting (C.fits (means self.old).log) key.now result }
-        ensures* found { sem 𝓛 (follows_so Self.row Self.row self.entry.ghost_name none (λ _ _. ⊤) (λ n. Finds C.fits (means self.old) (means n) key.now result)) };
+        ensures* found { sem 𝓛 (follows_so Self.row Self.row self.entry.ghost_name none (λ _ _. ⊤)
+            (λ n. Finds C.fits (means self.old) (means n) key.now result)) };
 
     /// Publishes a row, if the page has none with this key.
     fn publish(&mut self, key: &[u64], payload: &[u64]) -> Put

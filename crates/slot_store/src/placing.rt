@@ -23,7 +23,8 @@ pub(crate) enum Placed {
 /// known to be taken is loaded alone, which is cheaper than an exchange.
 fn offer<C: Content>(hand: &mut Hand<C>, site: Site, place: u32, row: u32) -> u64
     requires work { IsAtWork site (view_of hand.old) }
-    requires place { (key : List ℕ) × (payload : List ℕ) × (step : ℕ) × IsPlaceable (C.fits (view_of hand.old).log) site (view_of hand.old) row key payload step place }
+    requires place { (key : List ℕ) × (payload : List ℕ) × (step : ℕ)
+        × IsPlaceable (C.fits (view_of hand.old).log) site (view_of hand.old) row key payload step place }
     ensures table { table_of hand.new ≡ table_of hand.old }
     ensures offer { Offers site (view_of hand.old) (view_of hand.new) place row result }
 {

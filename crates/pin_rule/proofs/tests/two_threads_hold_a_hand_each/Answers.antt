@@ -15,4 +15,5 @@ pub join-requires-clause-keeps : goal.join-requires-clause-keeps
 join-requires-clause-keeps g c =
     let mine = c.join-mine.ensures.first.1 ∙ c.split-theirs.ensures.left ∙ ap (λ (v : View). after_split v 0) c.in_ok-mine.ensures in
     let theirs = c.join-mine.ensures.second.1 ∙ c.split-theirs.ensures.new ∙ ap (λ (v : View). split_off v 0) c.in_ok-mine.ensures in
-    keeps_join _ _ _ _ (half (view_of c.join-mine.result.0).share (ap (λ (v : View). v.share) mine)) (ap (λ (v : View). v.own) theirs) (ap (λ (v : View). v.pinned) theirs) (ap (λ (v : View). v.role) theirs)
+    keeps_join _ _ _ _ (half (view_of c.join-mine.result.0).share (ap (λ (v : View). v.share) mine)) (ap (λ (v : View). v.own) theirs)
+    (ap (λ (v : View). v.pinned) theirs) (ap (λ (v : View). v.role) theirs)

@@ -10,5 +10,6 @@ returns-then-place-sizes c key step is =
 
 pub returns-else-place-sizes : goal.returns-else-place-sizes
 returns-else-place-sizes c key step is =
-    let place : ℕ = c.args.place in let z = c.args.sizes in let ge : z.places ≤ place + 1 = c.if-place-sizes.false in let lt : place < z.places = c.requires in let at : ℕ = on_path z key step in
+    let place : ℕ = c.args.place in let z = c.args.sizes in let ge : z.places ≤ place + 1 = c.if-place-sizes.false in let lt : place < z.places = c.requires in
+    let at : ℕ = on_path z key step in
     let e : place ≡ at = is in sym (path_round z key (omega arith) step (omega arith))

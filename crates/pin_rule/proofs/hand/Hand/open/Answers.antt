@@ -8,5 +8,6 @@ use Rattle.pin_rule.proofs.hand.Hand.open.Goals as goal
 pub of_words-requires : goal.of_words-requires
 of_words-requires g c =
     let L = g.C.Content.lawful in let F = g.C.Content.fits in let z = c.args.sizes in
-    let zeros : c.as_slice.result.now ≡ replicate (word_count z) 0 = c.as_slice.ensures.value ∙ c.in_ok-words.ensures.items_if_clones_equal (λ y e. e) ∙ ap (λ (n : ℕ). replicate n 0) c.words.ensures in
+    let zeros : c.as_slice.result.now ≡ replicate (word_count z) 0 = c.as_slice.ensures.value ∙ c.in_ok-words.ensures.items_if_clones_equal (λ y e. e) ∙ ap
+    (λ (n : ℕ). replicate n 0) c.words.ensures in
     subst (λ (words : List ℕ). Lawful L F z words (first_view z ∷ [])) (sym zeros) (begins L F z g.C.Content.empty)

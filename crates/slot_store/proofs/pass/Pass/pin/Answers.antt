@@ -8,7 +8,8 @@ positive zero h = absurd (h refl)
 positive (suc n) h = omega arith
 
 pub pin-current-requires-clause-keeps : goal.pin-current-requires-clause-keeps
-pin-current-requires-clause-keeps g c = let p = c.args.self in let some : p.left ≢ 0 = c.if-self-eq0.false in let e = p.counted in let left : 1 ≤ (view_of p.hand).pins_left = positive (view_of p.hand).pins_left (λ z. some (e ∙ z)) in
+pin-current-requires-clause-keeps g c = let p = c.args.self in let some : p.left ≢ 0 = c.if-self-eq0.false in let e = p.counted in
+    let left : 1 ≤ (view_of p.hand).pins_left = positive (view_of p.hand).pins_left (λ z. some (e ∙ z)) in
     keeps_pin g.C.Content.lawful g.C.Content.fits (view_of p.hand) p.shared p.unpinned left
 
 pub returns-clause-lawful : goal.returns-clause-lawful
