@@ -12,7 +12,7 @@ use Rattle.edit_log.specs.declared.definitions.DefId.TheVariants.{Literal as lit
 use Rattle.edit_log.specs.History.{Grammar}
 use Rattle.edit_log.specs.Live.{IsLive}
 use Rattle.edit_log.specs.Lookups.{rule_of, ArePositionsFor}
-use Rattle.edit_log.proofs.LiveFacts.{found_there}
+use Rattle.edit_log.proofs.LiveByUses.{found_there}
 use Rattle.item_sets.specs.declared.item.Item.{Item}
 use Rattle.item_sets.specs.Prefixes.{rule_zero, HasRight, whole, live, IsItem}
 use Rattle.isg_states.specs.declared.mark.Mark.{Mark}
