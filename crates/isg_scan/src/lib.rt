@@ -12,6 +12,6 @@ mod scanning;
 mod states;
 mod walk;
 
-pub use laws::one_scan;
+pub use laws::{limits_of_scans, one_scan};
 pub use scan_error::ScanError;
 pub use scanning::{SCAN_LIMIT, scan};
