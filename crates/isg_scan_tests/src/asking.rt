@@ -1,7 +1,7 @@
 //! The questions of the input.
 
 use crate::histories::take_line;
-use crate::scans;
+use crate::{items, keys, scans, states};
 use edit_log::{Grammar, Refusal};
 use std::alloc::{AllocError, Global};
 
@@ -28,6 +28,23 @@ fn told_edit(alloc: Global, grammar: &mut Grammar, line: &str) -> Result<String,
     }
 }
 
+/// The answer of what is asked of a graph.
+fn answer_of_graph(
+    alloc: Global,
+    grammar: &Grammar,
+    word: &str,
+    rest: &str,
+) -> Result<String, AllocError> {
+    match word {
+        "scan" => scans::told_scan(alloc, grammar, rest.as_bytes()),
+        "times" => scans::told_times(alloc, grammar, rest),
+        "keys" => keys::told_keys(alloc, grammar, rest.as_bytes()),
+        "items" => items::told_items(alloc, grammar),
+        "states" => states::told_states(alloc, grammar, rest.as_bytes()),
+        _ => String::from_str(alloc, " no question"),
+    }
+}
+
 /// The answer to the question.
 pub(crate) fn answer(
     alloc: Global,
@@ -41,8 +58,6 @@ pub(crate) fn answer(
     match word {
         "new" => told_new(alloc, grammar),
         "edit" => told_edit(alloc, grammar, rest),
-        "scan" => scans::told_scan(alloc, grammar, rest.as_bytes()),
-        "times" => scans::told_times(alloc, grammar, rest),
-        _ => String::from_str(alloc, " no question"),
+        _ => answer_of_graph(alloc, grammar, word, rest),
     }
 }

@@ -1,13 +1,19 @@
 //! Scans by hand: asks each question of the input, and writes it again with the answer.
 //!
 //! A line of the input is a word and what stands behind it; `asking` has the words. Each text is scanned twice
-//! over one graph, which then was asked for all states before. The output that is wanted was worked out from the
-//! definitions.
+//! over one graph, which then was asked for all states before. `keys` tells the states that one scan asks for,
+//! and `items` and `states` what a graph answers for a key, asked twice. The output that is wanted was worked out
+//! from the definitions.
 #![tactic(auto)]
 
 mod asking;
 mod histories;
+mod items;
+mod keys;
+mod recorder;
 mod scans;
+mod states;
+mod telling;
 
 use asking::answer;
 use edit_log::Grammar;
