@@ -75,9 +75,8 @@ module _ (z : Site) (v w x y : View) (row : ℕ) (key payload : List ℕ) (claim
       place = at.0;
       row = at.1;
       inside = at.2;
-      row_in = at.3;
-      entry = met_on z y y p.added (ended p.added) g at.0 at.1 at.4;
-      words = λ index t. (key_on z y y p.added (ended p.added) g at.1 key at.5 index t).0;
+      entry = met_on z y y p.added (ended p.added) g at.0 at.1 at.3;
+      words = λ index t. (key_on z y y p.added (ended p.added) g at.1 key at.4 index t).0;
     },
     gives_back p.added,
   )

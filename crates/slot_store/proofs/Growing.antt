@@ -68,7 +68,7 @@ later w a b = record { steps = λ s i. in_right s a b i; entries = λ _ i. i; wo
 
 module _ (z : Site) (v w : View) (a b : List Step) (g : Grows v w a b) where
   pub reads_on : (row index word : ℕ) → Reads z v a row index word → Reads z w b row index word
-  reads_on row index word h = (g.steps _ h.0, g.words _ h.1)
+  reads_on row index word h = ((h.0.0, g.steps _ h.0.1), g.words _ h.1)
 
   pub key_on : (row : ℕ) (key : List ℕ) → ReadsKey z v a row key → ReadsKey z w b row key
   key_on row key h index t = reads_on row index _ (h index t)
@@ -77,7 +77,7 @@ module _ (z : Site) (v w : View) (a b : List Step) (g : Grows v w a b) where
   other_on row key h = (h.0, h.1, reads_on row h.0 h.1 h.2, h.3, h.4)
 
   pub met_on : (place row : ℕ) → MetRow z.sizes z.page a place row → MetRow z.sizes z.page b place row
-  met_on place row h = elim h [ inl i ↦ inl (g.steps _ i) | inr t ↦ inr (t.0, g.steps _ t.1) ]
+  met_on place row h = (h.0, elim h.1 [ inl i ↦ inl (g.steps _ i) | inr t ↦ inr (t.0, g.steps _ t.1) ])
 
   pub meets_on : (key : List ℕ) (place : ℕ) → MeetsOther z v a key place → MeetsOther z w b key place
   meets_on key place h = (h.0, met_on place h.0 h.1, g.entries _ h.2, other_on h.0 key h.3)

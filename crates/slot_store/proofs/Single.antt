@@ -1,5 +1,5 @@
 -- Single steps of a user at work.
-use Rattle.std.proofs.Common.{◌≡◌, ℕ, zero, suc, List, [], ◌∷◌, ◌++◌, inl, inr, eq-eqb, sym, refl, ap, ◌∙◌, subst}
+use Rattle.std.proofs.Common.{◌≡◌, ℕ, zero, suc, ◌<◌, List, [], ◌∷◌, ◌++◌, inl, inr, eq-eqb, sym, refl, ap, ◌∙◌, subst}
 use mathlib.Core.Bool.{cond}
 use Rattle.std.specs.Prelude.{Option, Some, None}
 use Rattle.pin_rule.specs.declared.sizes.Sizes.{Sizes}
@@ -51,9 +51,10 @@ module _ (z : Site) (v : View) (work : IsAtWork z v) where
       words = λ x i. word_grows (version_of v.entries row) v.words row index n x i;
     }
 
-    pub reads_row : version_of v.entries row ≡ Some z.version → Reads z (after_load_row v row index n) (loaded_row z.sizes row index n ∷ []) row index n
-    reads_row is = (
-      inl refl,
+    pub reads_row : index < z.sizes.width → version_of v.entries row ≡ Some z.version
+        → Reads z (after_load_row v row index n) (loaded_row z.sizes row index n ∷ []) row index n
+    reads_row inside is = (
+      (inside, inl refl),
       subst (λ (o : Option ℕ). In (let x : WordFact = record {
         version = z.version;
         row = row;

@@ -16,12 +16,13 @@ use Rattle.slot_store.specs.Logs.{IsLogLoad}
 use Rattle.slot_store.specs.Quiet.{IsQuiet}
 
 module _ (z : Sizes) (page : ℕ) (added : List Step) where
-  -- a load of the place, or an exchange there, met the row
+  -- a load of the place, or an exchange there, met a row of the table
   abbrev pub MetRow : ℕ → ℕ → Type 0
-  MetRow place row = In (loaded_place z page place (suc row)) added ⊎ ((own : ℕ) × In (published z page place own (suc row)) added)
+  MetRow place row = (row < z.rows) × (In (loaded_place z page place (suc row)) added ⊎ ((own : ℕ) × In (published z page place own (suc row)) added))
 
+  -- a load of a word of the row met this word
   abbrev pub ReadWord : ℕ → ℕ → ℕ → Type 0
-  ReadWord row index word = In (loaded_row z row index word) added
+  ReadWord row index word = (index < z.width) × In (loaded_row z row index word) added
 
   -- all words of the row that tell its key were read and are those of this key
   abbrev pub ReadKey : ℕ → List ℕ → Type 0
@@ -60,7 +61,6 @@ module _ (z : Sizes) (page : ℕ) (added : List Step) where
     pub place : ℕ
     pub row : ℕ
     pub inside : place < z.places
-    pub row_in : row < z.rows
     pub entry : MetRow place row
     pub words : ReadKey row key
 

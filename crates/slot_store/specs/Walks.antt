@@ -165,13 +165,13 @@ pub record Offers (z : Site) (v w : View) (place row met : ℕ) : Type 0 where
   pub added : List Step
   pub moves : Moves v w added
   pub won : met ≡ 0 → (w.own ≡ None) × ((before : List Step) × (added ≡ before ++ published z.sizes z.page place row 0 ∷ []))
-  pub lost : (other : ℕ) → met ≡ suc other → (w.own ≡ v.own) × (other < z.sizes.rows) × MetRow z.sizes z.page added place other × KnowsAt z w place other ×
+  pub lost : (other : ℕ) → met ≡ suc other → (w.own ≡ v.own) × MetRow z.sizes z.page added place other × KnowsAt z w place other ×
       (version_of w.entries other ≡ Some z.version)
 
 abbrev pub PlacedIs : Site → View → View → List Step → ℕ → List ℕ → Placed → Type 0
 PlacedIs z v w added row key placed.Here = (w.own ≡ None) × ((place : ℕ) × (place < z.sizes.places) × (before : List Step)
     × (added ≡ before ++ published z.sizes z.page place row 0 ∷ []))
-PlacedIs z v w added row key placed.Already = (w.own ≡ v.own) × ((place : ℕ) × (other : ℕ) × (place < z.sizes.places) × (other < z.sizes.rows)
+PlacedIs z v w added row key placed.Already = (w.own ≡ v.own) × ((place : ℕ) × (other : ℕ) × (place < z.sizes.places)
     × MetRow z.sizes z.page added place other × ReadsKey z w added other key)
 PlacedIs z v w added row key placed.Full = (w.own ≡ v.own) × Passed z w added key z.sizes.places
 
