@@ -10,9 +10,10 @@ use Rattle.slot_store.specs.declared.page.Put.{Put}
 use Rattle.slot_store.specs.Meaning.{extended, meaning_of}
 use Rattle.slot_store.specs.Answers.{LookIs, PutIs, Finds, Publishes}
 use Rattle.slot_store.specs.declared.site.Site.{Site}
-use Rattle.slot_store.specs.Walks.{Moves}
+use Rattle.slot_store.specs.Quiet.{IsQuiet}
+use Rattle.slot_store.specs.Walks.{MovesBy}
 
-module _ (z : Site) (v w : View) (t s : TableId × ℕ) (added : List Step) (moves : Moves v w added) (own : w.own ≡ v.own) (same : s ≡ t) where
+module _ (z : Site) (v w : View) (t s : TableId × ℕ) (added : List Step) (moves : MovesBy IsQuiet v w added) (own : w.own ≡ v.own) (same : s ≡ t) where
   pub extends : meaning_of w z.page s ≡ extended (meaning_of v z.page t) added
   extends = λ i. record {
     sizes = moves.sizes i;
