@@ -6,6 +6,7 @@
 //! holds between any two steps, whatever the other seats do.
 #![tactic(auto)]
 
+pub mod choosers;
 pub mod content;
 pub mod hand;
 pub mod laws;

@@ -61,7 +61,8 @@ wide F z v u row key n work l k told = subst (λ (y : Sizes). 2 + (key + n) ≤ 
 module _ (z : Site) (v w u : View) (row from size i x : ℕ) (buffer : List ℕ) (work : IsAtWork z v) (is : u ≡ after_load_row w row (from + i) x)
     (inside : i < length buffer) (word_in : from + i < z.sizes.width) where
   pub goes_on : Copies z v w row from size i buffer → Copies z v u row from size (i + 1) (set buffer i x)
-  goes_on c = let l = loads z w u row (from + i) x word_in (work_on z v w c.added work c.moves) c.version is in let more = earlier w u c.added l.added l.moves in
+  goes_on c = let l = loads z w u row (from + i) x word_in (work_on z v w c.added work c.moves) c.version is in
+      let more = earlier w u c.added l.added l.moves in
       record {
         added = c.added ++ l.added;
         moves = moves_on v w u c.added l.added c.moves l.moves;

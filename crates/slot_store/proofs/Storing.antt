@@ -73,7 +73,8 @@ module _ (z : Site) (v w u : View) (work : IsAtWork z v) (row from : ℕ) (words
   here = (record { row = r.owns.0.row; wrote = (from + i, x) ∷ without (from + i) r.owns.0.wrote }, owned r.owns.0 r.owns.1, r.owns.2, inl refl)
 
   pub goes_on : i < length words → x ≡ slice_index words i → Writes z v u row from words (i + 1)
-  goes_on inside same = let b : List Step = wrote_row z.sizes row (from + i) x ∷ [] in let sizes : w.sizes ≡ z.sizes = r.moves.sizes ∙ work.sizes in let h = here in
+  goes_on inside same = let b : List Step = wrote_row z.sizes row (from + i) x ∷ [] in
+      let sizes : w.sizes ≡ z.sizes = r.moves.sizes ∙ work.sizes in let h = here in
       record {
         added = r.added ++ b;
         moves = subst (λ (y : View). MovesBy IsQuiet v y (r.added ++ b)) (sym is) (moves_on v w (after_write_row w row (from + i) x) r.added b r.moves (record {

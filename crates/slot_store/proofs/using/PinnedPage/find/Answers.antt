@@ -4,7 +4,6 @@ use Rattle.pin_rule.specs.Hands.{view_of, table_of}
 use Rattle.slot_store.specs.declared.page.Look.TheVariants as look
 use Rattle.slot_store.specs.Answers.{IsFound}
 use Rattle.slot_store.proofs.Extending.{finds}
-use Rattle.slot_store.proofs.Growing.{quietly}
 use Rattle.slot_store.proofs.using.PinnedPage.find.Goals as goal
 
 pub returns-in-PageFull : goal.returns-in-PageFull
@@ -12,7 +11,7 @@ returns-in-PageFull g c = let p = c.args.self.now in let q = c.look-glance.new.h
   (
     refl,
     (λ _. tt),
-    finds p.site (view_of p.hand) (view_of q) (table_of p.hand) (table_of q) k.added (quietly (view_of p.hand) (view_of q) k.added k.moves) k.own c.in-PageFull.ensures.table
+    finds p.site (view_of p.hand) (view_of q) (table_of p.hand) (table_of q) k.added k.moves k.own c.in-PageFull.ensures.table
         g.C.Content.fits c.args.key.now look.PageFull p.measured k.is,
   ),
   record { lent = tt; found = tt },
@@ -24,7 +23,7 @@ returns-in-Initial g c = let p = c.args.self.now in let q = c.look-glance.new.ha
     refl,
     (λ _. tt),
     finds p.site (view_of p.hand) (view_of q) (table_of p.hand)
-        (table_of q) k.added (quietly (view_of p.hand) (view_of q) k.added k.moves) k.own c.in-Initial.ensures.table g.C.Content.fits c.args.key.now (look.Initial c.in-Initial.place) p.measured k.is,
+        (table_of q) k.added k.moves k.own c.in-Initial.ensures.table g.C.Content.fits c.args.key.now (look.Initial c.in-Initial.place) p.measured k.is,
   ),
   record { lent = tt; found = tt },
 )
@@ -38,7 +37,7 @@ returns-in-Found g c =
       (
         refl,
         (λ _. tt),
-        finds p.site (view_of p.hand) (view_of q) (table_of p.hand) (table_of q) k.added (quietly (view_of p.hand) (view_of q) k.added k.moves) k.own c.in-Found.ensures.table F c.args.key.now
+        finds p.site (view_of p.hand) (view_of q) (table_of p.hand) (table_of q) k.added k.moves k.own c.in-Found.ensures.table F c.args.key.now
             (look.Found (record { ref_ptr = c.as_slice.result.ref_ptr; now = take n c.as_slice.result.now })) p.measured found,
       ),
       record { lent = found.fitting; found = tt },
