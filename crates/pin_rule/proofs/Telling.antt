@@ -13,7 +13,7 @@ use Rattle.atomic_table.proofs.Lists.{at_longer}
 use Rattle.pin_rule.specs.Layout.{entry, row_at, version_named, page_named}
 use Rattle.pin_rule.specs.Ops.{word_of, IsIn}
 use Rattle.pin_rule.specs.Lists.{In}
-use Rattle.pin_rule.specs.Rows.{key_of, content_of, on_path}
+use Rattle.pin_rule.specs.Rows.{key_of, content_of}
 use Rattle.pin_rule.specs.Views.{whole, now, IsLive}
 use Rattle.pin_rule.specs.Pages.{IsEntry}
 use Rattle.pin_rule.specs.PartClaims.{StandsIn}

@@ -3,4 +3,4 @@ use Rattle.pin_rule.proofs.tests.is_kept.Goals as goal
 
 -- every log is lawful, and every row fits it
 pub keep-requires : goal.keep-requires
-keep-requires g c = ([], [], tt, tt, c.requires [] [], tt)
+keep-requires g c = ([], [], (tt, tt, c.requires [] [], tt))
