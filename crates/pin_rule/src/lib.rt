@@ -19,6 +19,7 @@ mod plays;
 mod rule;
 mod seating;
 pub mod sizes;
+mod starts;
 mod stepping;
 #[cfg(test)]
 mod tests;
