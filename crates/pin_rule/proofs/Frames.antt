@@ -6,6 +6,7 @@ use Rattle.std.proofs.Math.Nat.{mul-le-mul_right}
 use Rattle.pin_rule.specs.declared.sizes.Sizes.{Sizes}
 use Rattle.pin_rule.specs.Layout.{release_word, claim_word, place_word, log_word, row_word, word_count, release, claim, entry, logged, row_at}
 use Rattle.pin_rule.specs.Rows.{words_of, key_of, content_of}
+use Rattle.pin_rule.specs.Told.{OfKey}
 
 pub set_same : (l : List ℕ) (i : ℕ) → set l i (slice_index l i) ≡ l
 set_same [] i = refl
@@ -22,6 +23,16 @@ words_same f g width from (suc n) h s = let a = s from (omega arith) in let b = 
 
 pub key_same : (f g : ℕ → ℕ) (width : ℕ) → 2 + f 0 ≤ width → Same width f g → key_of f ≡ key_of g
 key_same f g width h s = words_same f g width 2 (f 0) h s ∙ ap (words_of g 2) (s 0 (omega arith))
+
+words_alike : (f g : ℕ → ℕ) (from n : ℕ) → ((i : ℕ) → from ≤ i → i < from + n → f i ≡ g i) → words_of f from n ≡ words_of g from n
+words_alike f g from zero s = refl
+words_alike f g from (suc n) s = let a = s from (omega arith) (omega arith) in
+    let b = words_alike f g (suc from) n (λ i ge lt. s i (omega arith) (omega arith)) in (λ i. a i ∷ b i)
+
+-- rows that agree on the words that tell the key have the same key
+pub key_alike : (f g : ℕ → ℕ) → ((i : ℕ) → OfKey g i → f i ≡ g i) → key_of f ≡ key_of g
+key_alike f g s = ap (words_of f 2) (s 0 (omega arith, λ e. omega arith)) ∙
+    words_alike f g 2 (g 0) (λ i ge lt. s i (omega arith, λ e. omega arith))
 
 pub content_same : (f g : ℕ → ℕ) (width : ℕ) → 2 + (f 0 + f 1) ≤ width → Same width f g → content_of f ≡ content_of g
 content_same f g width h s = let a = s 0 (omega arith) in let b = s 1 (omega arith) in

@@ -1,23 +1,26 @@
 -- What the rule says of one view that has a share, and of the word that an operation met.
-use Rattle.std.proofs.Common.{◌≡◌, ◌≢◌, ℕ, ◌+◌, ◌<◌, ◌≤◌, List, length, length-append, inl, take, slice_index, sym, refl, ap, ◌∙◌, subst, arith}
+use Rattle.std.proofs.Common.{◌≡◌, ◌≢◌, ℕ, suc, ◌+◌, ◌<◌, ◌≤◌, List, length, length-append, inl, take, slice_index, sym, refl, ap, ◌∙◌, subst, arith}
 use mathlib.Core.Option as maybe
 use lib.ListN.{get_elem?}
 use Rattle.pin_rule.specs.declared.sizes.Sizes.{Sizes}
 use Rattle.pin_rule.specs.declared.content.Entry.{Entry}
 use Rattle.pin_rule.specs.declared.view.View.{View}
 use Rattle.pin_rule.specs.declared.view.Live.{Live}
+use Rattle.pin_rule.specs.declared.view.KnownPlace.{KnownPlace}
 use Rattle.pin_rule.specs.declared.ops.Op.{Op}
 use Rattle.pin_rule.specs.declared.ops.Op.TheVariants as op
 use Rattle.atomic_table.proofs.Lists.{at_longer}
-use Rattle.pin_rule.specs.Layout.{row_at, version_named, page_named}
+use Rattle.pin_rule.specs.Layout.{entry, row_at, version_named, page_named}
 use Rattle.pin_rule.specs.Ops.{word_of, IsIn}
-use Rattle.pin_rule.specs.Rows.{content_of}
-use Rattle.pin_rule.specs.Views.{now, IsLive}
+use Rattle.pin_rule.specs.Lists.{In}
+use Rattle.pin_rule.specs.Rows.{key_of, content_of}
+use Rattle.pin_rule.specs.Views.{whole, now, IsLive}
 use Rattle.pin_rule.specs.Pages.{IsEntry}
-use Rattle.pin_rule.specs.PartFacts.{EntryStands, WordStands}
+use Rattle.pin_rule.specs.PartClaims.{StandsIn}
+use Rattle.pin_rule.specs.PartFacts.{HasEntry, EntryStands, WordStands, IsKnown}
 use Rattle.pin_rule.specs.Lawful.{Lawful}
-use Rattle.pin_rule.specs.Told.{KnowsRow, KnowsWord, IsTold, Tells, IsCurrentFor, Meets}
-use Rattle.pin_rule.proofs.Frames.{Same, content_same}
+use Rattle.pin_rule.specs.Told.{KnowsPlace, KnowsRow, KnowsWord, OfKey, KnowsKey, IsReached, IsTold, Tells, IsCurrentFor, Meets}
+use Rattle.pin_rule.proofs.Frames.{Same, key_alike, content_same}
 use Rattle.pin_rule.proofs.Lists.{each_in}
 use Rattle.pin_rule.proofs.Versions.{newest_live, my_log, caught_up}
 use Rattle.pin_rule.proofs.Numbers.{version_is, page_is}
@@ -25,14 +28,34 @@ use Rattle.pin_rule.proofs.Counts.{few_taken}
 
 module _ (L : List Entry → Type 0) (F : List Entry → List ℕ → Type 0) (z : Sizes) (words : List ℕ) (views : List View) (id : ℕ) (v : View)
     (at : get_elem? views id ≡ maybe.some v) (h : Lawful L F z words views) where
+  -- what is known with the whole share stands in the newest page
+  module _ (all : v.share ≡ whole) where
+    stands : (k : KnownPlace) → In k v.known → IsKnown z words h.role k
+    stands k i = each_in (IsKnown z words h.role) k v.known (h.known id v at all) i
+
+    past : (k : KnownPlace) (row : ℕ) → In k v.known → k.met ≡ suc row → IsReached z v.known (key_of (row_at z words row)) k.place
+    past k row i is = let s = stands k i in let p = ((h.pages h.role.newest (newest_live h.role)).entries k.place row s.0 (s.1 ∙ is)).path in
+        (p.0, p.1, p.2, λ before j lt i_j here empty. p.3 before lt (ap (entry z words h.role.newest.page) (sym here) ∙ (stands j i_j).1 ∙ empty))
+
+    reaches : (k : KnownPlace) (row : ℕ) (g : ℕ → ℕ) → In k v.known → k.met ≡ suc row → ((index : ℕ) → OfKey g index → In (index, g index) k.words)
+        → IsReached z v.known (key_of g) k.place
+    reaches k row g i is key = subst (λ (key : List ℕ). IsReached z v.known key k.place)
+        (key_alike (row_at z words row) g (λ index of. (each_in (StandsIn z words row) (index, g index) k.words ((stands k i).2 row is) (key index of)).1))
+        (past k row i is)
+
   module _ (l : Live) (live : IsLive h.role l) (version_is : l.version ≡ now v) where
     -- a row that the view knows stands in the page
+    placed : (place row : ℕ) → KnowsPlace v (now v) place row → HasEntry z words h.role l.page (record { version = now v; place = place; row = row })
+    placed place row k = (each_in (EntryStands z words h.role) _ v.entries (h.facts id v at).0 k).live l live version_is
+
     known : (row : ℕ) → KnowsRow v (now v) row → (place : ℕ) × IsEntry z words (F (take l.version h.log)) l.page place row
-    known row k = let e = (each_in (EntryStands z words h.role) _ v.entries (h.facts id v at).0 k.1).live l live version_is in
-        (k.0, (h.pages l live).entries k.0 row e.0 e.1)
+    known row k = let e = placed k.0 row k.1 in (k.0, (h.pages l live).entries k.0 row e.0 e.1)
 
     read : (row index word : ℕ) → KnowsWord v (now v) row index word → row_at z words row index ≡ word
     read row index word k = ((each_in (WordStands z words h.role) _ v.words (h.facts id v at).1 k).live l live version_is).1.1
+
+    key_is : (row : ℕ) (g : ℕ → ℕ) → KnowsKey v (now v) row g → key_of (row_at z words row) ≡ key_of g
+    key_is row g k = key_alike (row_at z words row) g (λ index of. read row index (g index) (k index of))
 
     told : v.share ≢ 0 → IsTold (F v.log) v (now v)
     told some = let same : v.sizes ≡ z = h.sizes id v at some in record {
@@ -44,6 +67,9 @@ module _ (L : List Entry → Type 0) (F : List Entry → List ℕ → Type 0) (z
           let a : f 0 ≡ g 0 = s 0 (omega arith) in let b : f 1 ≡ g 1 = s 1 (omega arith) in
           subst (λ (log : List Entry). F log (content_of g)) (ap (λ (n : ℕ). take n h.log) version_is ∙ my_log L F z words views id v at h)
           (subst (F (take l.version h.log)) (content_same f g (2 + (g 0 + g 1)) (omega arith) s) (known row k).1.fitting);
+      keys_once = λ p q a b g at_p at_q key_a key_b. let x = placed p a at_p in let y = placed q b at_q in
+          (h.pages l live).keys_once p q a b x.0 y.0 x.1 y.1 (key_is a g key_a ∙ sym (key_is b g key_b));
+      reached = λ all k row g i is key. subst (λ (y : Sizes). IsReached y v.known (key_of g) k.place) (sym same) (reaches all k row g i is key);
     }
 
   pub tells : v.share ≢ 0 → Tells L F v

@@ -16,3 +16,4 @@ pub mod Keeps
 pub mod Told
 pub mod Ready
 pub mod Hands
+pub mod Choosing

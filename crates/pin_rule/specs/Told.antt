@@ -1,24 +1,43 @@
 -- What the rule says of one view that has a share, whatever else stands in the table.
-use Rattle.std.specs.Prelude.{◌≡◌, ℕ, ◌+◌, ◌<◌, ◌≤◌, List, length, slice_index}
+use Rattle.std.specs.Prelude.{◌≡◌, ◌≢◌, ℕ, suc, ◌+◌, ◌<◌, ◌≤◌, List, length, slice_index}
 use mathlib.Core.Option as maybe
 use lib.ListN.{get_elem?}
 use Rattle.pin_rule.specs.declared.content.Entry.{Entry}
 use Rattle.pin_rule.specs.declared.view.View.{View}
 use Rattle.pin_rule.specs.declared.view.EntryFact.{EntryFact}
 use Rattle.pin_rule.specs.declared.view.WordFact.{WordFact}
+use Rattle.pin_rule.specs.declared.view.KnownPlace.{KnownPlace}
+use Rattle.pin_rule.specs.declared.sizes.Sizes.{Sizes}
 use Rattle.pin_rule.specs.declared.ops.Op.{Op}
 use Rattle.pin_rule.specs.declared.ops.Op.TheVariants.{LoadPlace, LoadRow, Claim, WriteRow, Publish, GiveBack, Pin, Unpin, LoadLog}
 use Rattle.pin_rule.specs.Layout.{version_named, page_named}
 use Rattle.pin_rule.specs.Lists.{In}
-use Rattle.pin_rule.specs.Rows.{content_of}
-use Rattle.pin_rule.specs.Views.{now, IsCaughtUp}
+use Rattle.pin_rule.specs.Rows.{key_of, content_of, on_path}
+use Rattle.pin_rule.specs.Views.{whole, now, IsCaughtUp}
+
+-- the view knows that the row stands at the place of the version's page
+abbrev pub KnowsPlace : View → ℕ → ℕ → ℕ → Type 0
+KnowsPlace v version place row = In (let e : EntryFact = record { version = version; place = place; row = row } in e) v.entries
 
 -- the view knows that the row stands in the page of the version
 abbrev pub KnowsRow : View → ℕ → ℕ → Type 0
-KnowsRow v version row = (place : ℕ) × In (let e : EntryFact = record { version = version; place = place; row = row } in e) v.entries
+KnowsRow v version row = (place : ℕ) × KnowsPlace v version place row
 
 abbrev pub KnowsWord : View → ℕ → ℕ → ℕ → ℕ → Type 0
 KnowsWord v version row index word = In (let w : WordFact = record { version = version; row = row; index = index; word = word } in w) v.words
+
+-- the word at index 1 is the payload's length and says nothing of the key
+abbrev pub OfKey : (ℕ → ℕ) → ℕ → Type 0
+OfKey g index = (index < 2 + g 0) × (index ≢ 1)
+
+-- the view knows the row's words that tell its key, which are those of g
+abbrev pub KnowsKey : View → ℕ → ℕ → (ℕ → ℕ) → Type 0
+KnowsKey v version row g = (index : ℕ) → OfKey g index → KnowsWord v version row index (g index)
+
+-- the place is on the path of the key, and of the places before it there none is known to be empty
+abbrev pub IsReached : Sizes → List KnownPlace → List ℕ → ℕ → Type 0
+IsReached z known key place = (step : ℕ) × (step < z.places) × (on_path z key step ≡ place) ×
+    ((before : ℕ) (k : KnownPlace) → before < step → In k known → k.place ≡ on_path z key before → k.met ≢ 0)
 
 -- of the rows of a version
 pub record IsTold (fits : List ℕ → Type 0) (v : View) (version : ℕ) : Type 0 where
@@ -30,6 +49,11 @@ pub record IsTold (fits : List ℕ → Type 0) (v : View) (version : ℕ) : Type
   -- a row whose words are known fits the log
   pub fitting : (row : ℕ) (g : ℕ → ℕ) → KnowsRow v version row → ((index : ℕ) → index < 2 + (g 0 + g 1) → KnowsWord v version row index (g index))
       → fits (content_of g)
+  -- no key stands twice
+  pub keys_once : (p q a b : ℕ) (g : ℕ → ℕ) → KnowsPlace v version p a → KnowsPlace v version q b → KnowsKey v version a g → KnowsKey v version b g → p ≡ q
+  -- what is known with the whole share: a row stands on the path of its key, past places that are not empty
+  pub reached : v.share ≡ whole → (k : KnownPlace) (row : ℕ) (g : ℕ → ℕ) → In k v.known → k.met ≡ suc row
+      → ((index : ℕ) → OfKey g index → In (index, g index) k.words) → IsReached v.sizes v.known (key_of g) k.place
 
 -- a view that has caught up has a lawful log, and is told of the rows of the version that this log leads to
 abbrev pub Tells : (List Entry → Type 0) → (List Entry → List ℕ → Type 0) → View → Type 0

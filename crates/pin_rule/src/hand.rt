@@ -6,6 +6,7 @@ ghost use Rattle.pin_rule.specs.Layout.{word_count};
 use crate::content::Content;
 use crate::rule::Rule;
 use crate::sizes::Sizes;
+use crate::starts::Starts;
 use crate::view::View;
 use atomic_table::{Seat, Table};
 use lend::loan::Loan;
@@ -23,11 +24,11 @@ pub(crate) type Shelf<C> = Table<(), View, Sizes, Rule<C>, Global>;
 pub struct Hand<C: Content> {
     pub(crate) table: Loan<Shelf<C>>,
     pub(crate) seat: Seat<(), View>,
-    pub(crate) sizes: Sizes,
+    pub(crate) starts: Starts,
     ghost alive: { parts_of table ≡ seat.me.0.share },
     ghost seated: { seat.table_id ≡ (value_of table).shared.table_id },
-    ghost keyed: { (value_of table).shared.key ≡ sizes },
-    ghost wide: { (value_of table).shared.table_id.words ≡ word_count sizes },
+    ghost keyed: { (value_of table).shared.key ≡ starts.sizes },
+    ghost wide: { (value_of table).shared.table_id.words ≡ word_count starts.sizes },
     ghost alone: { seat.me.1 ≡ [] },
-    ghost told: { seat.me.0.sizes ≡ sizes },
+    ghost told: { seat.me.0.sizes ≡ starts.sizes },
 }

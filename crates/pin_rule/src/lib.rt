@@ -6,6 +6,7 @@
 //! holds between any two steps, whatever the other seats do.
 #![tactic(auto)]
 
+pub mod choosers;
 pub mod content;
 pub mod hand;
 pub mod laws;
@@ -18,6 +19,7 @@ mod plays;
 mod rule;
 mod seating;
 pub mod sizes;
+mod starts;
 mod stepping;
 #[cfg(test)]
 mod tests;

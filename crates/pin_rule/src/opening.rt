@@ -9,6 +9,7 @@ use crate::NoMemory;
 use crate::content::Content;
 use crate::hand::{Hand, Shelf};
 use crate::sizes::Sizes;
+use crate::starts::Starts;
 use lend::loan::Loan;
 use std::alloc::Global;
 
@@ -21,7 +22,12 @@ impl<C: Content> Hand<C> {
         let words = Vec::from_elem(alloc, 0u64, sizes.words())?;
         let (table, seat) = Shelf::<C>::of_words(alloc, words.as_slice(), &sizes)?;
         let table = Loan::new(alloc, table)?;
-        Ok(Hand { table, seat, sizes })
+        let starts = Starts::of(sizes);
+        Ok(Hand {
+            table,
+            seat,
+            starts,
+        })
     }
 
     /// Gives the memory of the table back.
@@ -31,7 +37,7 @@ impl<C: Content> Hand<C> {
         let Hand {
             table,
             seat: _,
-            sizes: _,
+            starts: _,
         } = self;
         table.close();
     }

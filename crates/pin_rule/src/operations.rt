@@ -25,7 +25,7 @@ impl<C: Content> Hand<C> {
         ensures told { Tells C.lawful C.fits (view_of self.new) }
         ensures meets { Meets (view_of self.old) op result }
     {
-        let word = self.sizes.index_of(op);
+        let word = self.starts.index_of(op);
         let table = self.table.value();
         table.shared.load::<Reads<C, G>>(&mut self.seat, word)
     }
@@ -53,7 +53,7 @@ impl<C: Content> Hand<C> {
         ensures table { table_of self.new ≡ table_of self.old }
         ensures view { view_of self.new ≡ after (view_of self.old) op new }
     {
-        let word = self.sizes.index_of(op);
+        let word = self.starts.index_of(op);
         let table = self.table.value();
         table.shared.store::<Stores<G>>(&mut self.seat, word, new)
     }
@@ -82,7 +82,7 @@ impl<C: Content> Hand<C> {
         ensures told { Tells C.lawful C.fits (view_of self.new) }
         ensures meets { Meets (view_of self.old) op result }
     {
-        let word = self.sizes.index_of(op);
+        let word = self.starts.index_of(op);
         let table = self.table.value();
         table
             .shared
@@ -114,7 +114,7 @@ impl<C: Content> Hand<C> {
         ensures told { Tells C.lawful C.fits (view_of self.new) }
         ensures meets { Meets (view_of self.old) op result }
     {
-        let word = self.sizes.index_of(op);
+        let word = self.starts.index_of(op);
         let table = self.table.value();
         table
             .shared
@@ -149,7 +149,7 @@ impl<C: Content> Hand<C> {
         Hand {
             table,
             seat,
-            sizes: self.sizes,
+            starts: self.starts,
         }
     }
 }

@@ -36,7 +36,7 @@ impl<C: Content> Hand<C> {
         let Hand {
             table: theirs,
             seat,
-            sizes: _,
+            starts: _,
         } = other;
         let table = self.table.value();
         table.shared.join_seat::<Both>(&mut self.seat, seat);

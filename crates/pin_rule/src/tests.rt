@@ -1,8 +1,10 @@
-//! Sizes of the table, and hands over two threads.
+//! Sizes of the table, hands over two threads, and choosers.
 
-ghost use Rattle.std.specs.Prelude.{◌≡◌, None};
+ghost use Rattle.std.specs.Prelude.{◌≡◌, None, List};
+ghost use Rattle.pin_rule.specs.declared.content.Entry.{Entry};
 ghost use Rattle.pin_rule.specs.Hands.{view_of, table_of};
 
+use crate::choosers::{Chooser, KeepAll, KeepNone};
 use crate::content::AnyRow;
 use crate::hand::Hand;
 use crate::sizes::Sizes;
@@ -46,4 +48,17 @@ fn two_threads_hold_a_hand_each(rt: HostRuntime) -> Result<(), Fail> {
     mine.join(theirs);
     mine.close();
     Ok(())
+}
+
+fn is_kept<H: Chooser<AnyRow>>(chooser: &mut H, row: &[u64]) -> bool
+    requires { (first next : List Entry) → H.leads chooser.old first next }
+{
+    chooser.keep(row)
+}
+
+#[test]
+fn one_chooser_keeps_a_row_that_the_other_drops(rt: HostRuntime) {
+    let row = [1, 1, 7, 70];
+    let kept = (is_kept(&mut KeepAll, &row), is_kept(&mut KeepNone, &row));
+    assert_eq!(rt; kept, (true, false));
 }

@@ -34,6 +34,27 @@ head_in_row key payload zero t = refl
 head_in_row key payload (suc zero) t = let n = t.1 in absurd (n refl)
 head_in_row key payload (suc (suc i)) t = let lt = t.0 in get_or-append key payload 0 i (omega arith)
 
+-- Where the lengths, the key and the payload stand in the row
+
+module _ (key payload : List ℕ) where
+  pub lengths_in : (i : ℕ) → i < length (length key ∷ length payload ∷ []) → (0 + i < length (row_of key payload))
+      × (slice_index (length key ∷ length payload ∷ []) i ≡ slice_index (row_of key payload) (0 + i))
+  lengths_in zero lt = let e = length_row key payload in (omega arith, refl)
+  lengths_in (suc zero) lt = let e = length_row key payload in (omega arith, refl)
+  lengths_in (suc (suc i)) lt = let two : length (length key ∷ length payload ∷ []) ≡ 2 = refl in absurd (omega arith)
+
+  pub key_in : (i : ℕ) → i < length key → (2 + i < length (row_of key payload)) × (slice_index key i ≡ slice_index (row_of key payload) (2 + i))
+  key_in i lt = let e = length_row key payload in
+      (omega arith, sym (get_or-append key payload 0 i lt) ∙ ap (slice_index (row_of key payload)) (let r : suc (suc i) ≡ 2 + i = omega arith in r))
+
+  pub payload_in : (j : ℕ) → j < length payload → (length key + 2 + j < length (row_of key payload))
+      × (slice_index payload j ≡ slice_index (row_of key payload) (length key + 2 + j))
+  payload_in j lt = let e = length_row key payload in let n : ℕ = length key in (
+    omega arith,
+    sym (get_or-append-add key payload j 0)
+        ∙ ap (slice_index (row_of key payload)) (let r : suc (suc (n + j)) ≡ n + 2 + j = omega arith in r),
+  )
+
 shifted : (f : ℕ → ℕ) (from n : ℕ) → words_of f (suc from) n ≡ words_of (λ i. f (suc i)) from n
 shifted f from zero = refl
 shifted f from (suc n) = ap (λ (l : List ℕ). f (suc from) ∷ l) (shifted f (suc from) n)

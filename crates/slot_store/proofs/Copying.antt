@@ -22,20 +22,24 @@ pub record Loads (z : Site) (v w : View) (row index n : ℕ) : Type 0 where
   pub version : version_of w.entries row ≡ Some z.version
   pub read : Reads z w added row index n
 
-pub loads : (z : Site) (v u : View) (row index n : ℕ) → IsAtWork z v → version_of v.entries row ≡ Some z.version → u ≡ after_load_row v row index n
-    → Loads z v u row index n
-loads z v u row index n work version is = subst (λ (x : View). Loads z v x row index n) (sym is)
+pub loads : (z : Site) (v u : View) (row index n : ℕ) → index < z.sizes.width → IsAtWork z v → version_of v.entries row ≡ Some z.version
+    → u ≡ after_load_row v row index n → Loads z v u row index n
+loads z v u row index n inside work version is = subst (λ (x : View). Loads z v x row index n) (sym is)
     (record {
       added = loaded_row z.sizes row index n ∷ [];
       moves = moves_row z v work row index n;
       own = refl;
       version = version;
       read =
-          reads_row z v work row index n version;
+          reads_row z v work row index n inside version;
     })
 
+-- a row has a word that tells the length of its payload
+pub second_in : (z : Site) → 1 < z.sizes.width
+second_in z = let w = z.sizes.width_in in omega arith
+
 pub at_work : (z : Site) (v u : View) (row n : ℕ) → IsAtWork z v → version_of v.entries row ≡ Some z.version → u ≡ after_load_row v row 1 n → IsAtWork z u
-at_work z v u row n work version is = let l = loads z v u row 1 n work version is in work_on z v u l.added work l.moves
+at_work z v u row n work version is = let l = loads z v u row 1 n (second_in z) work version is in work_on z v u l.added work l.moves
 
 pub starts : (z : Site) (v u : View) (row from n : ℕ) (buffer : List ℕ) → Loads z v u row 1 n → Copies z v u row from n 0 buffer
 starts z v u row from n buffer l = record {
@@ -55,9 +59,10 @@ wide F z v u row key n work l k told = subst (λ (y : Sizes). 2 + (key + n) ≤ 
     (told.room row key n (knows_row z u row l.version) (l.moves.words _ k) l.read.1)
 
 module _ (z : Site) (v w u : View) (row from size i x : ℕ) (buffer : List ℕ) (work : IsAtWork z v) (is : u ≡ after_load_row w row (from + i) x)
-    (inside : i < length buffer) where
+    (inside : i < length buffer) (word_in : from + i < z.sizes.width) where
   pub goes_on : Copies z v w row from size i buffer → Copies z v u row from size (i + 1) (set buffer i x)
-  goes_on c = let l = loads z w u row (from + i) x (work_on z v w c.added work c.moves) c.version is in let more = earlier w u c.added l.added l.moves in
+  goes_on c = let l = loads z w u row (from + i) x word_in (work_on z v w c.added work c.moves) c.version is in
+      let more = earlier w u c.added l.added l.moves in
       record {
         added = c.added ++ l.added;
         moves = moves_on v w u c.added l.added c.moves l.moves;

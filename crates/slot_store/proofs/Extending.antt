@@ -10,9 +10,11 @@ use Rattle.slot_store.specs.declared.page.Put.{Put}
 use Rattle.slot_store.specs.Meaning.{extended, meaning_of}
 use Rattle.slot_store.specs.Answers.{LookIs, PutIs, Finds, Publishes}
 use Rattle.slot_store.specs.declared.site.Site.{Site}
-use Rattle.slot_store.specs.Walks.{Moves}
+use Rattle.slot_store.specs.Quiet.{IsQuiet}
+use Rattle.slot_store.specs.Walks.{MovesBy, Moves}
+use Rattle.slot_store.proofs.Growing.{quietly}
 
-module _ (z : Site) (v w : View) (t s : TableId × ℕ) (added : List Step) (moves : Moves v w added) (own : w.own ≡ v.own) (same : s ≡ t) where
+module _ (z : Site) (v w : View) (t s : TableId × ℕ) (added : List Step) (moves : MovesBy IsQuiet v w added) (own : w.own ≡ v.own) (same : s ≡ t) where
   pub extends : meaning_of w z.page s ≡ extended (meaning_of v z.page t) added
   extends = λ i. record {
     sizes = moves.sizes i;
@@ -26,10 +28,16 @@ module _ (z : Site) (v w : View) (t s : TableId × ℕ) (added : List Step) (mov
     steps = moves.steps i;
   }
 
-  pub finds : (F : List Entry → List ℕ → Type 0) (key : List ℕ) (look : Look) → v.sizes ≡ z.sizes → LookIs z.sizes z.page added (F v.log) key look
-      → Finds F (meaning_of v z.page t) (meaning_of w z.page s) key look
-  finds F key look e is = (added, extends, moves.quiet, subst (λ (y : Sizes). LookIs y z.page added (F v.log) key look) (sym e) is)
-
   pub publishes : (key payload : List ℕ) (put : Put) → v.sizes ≡ z.sizes → PutIs z.sizes z.page added key payload put
       → Publishes (meaning_of v z.page t) (meaning_of w z.page s) key payload put
   publishes key payload put e is = (added, extends, moves.quiet, subst (λ (y : Sizes). PutIs y z.page added key payload put) (sym e) is)
+
+pub finds : (z : Site) (v w : View) (t s : TableId × ℕ) (added : List Step) → Moves v w added → w.own ≡ v.own → s ≡ t → (F : List Entry → List ℕ → Type 0)
+    (key : List ℕ) (look : Look) → v.sizes ≡ z.sizes → LookIs z.sizes z.page added (F v.log) key look
+    → Finds F (meaning_of v z.page t) (meaning_of w z.page s) key look
+finds z v w t s added moves own same F key look e is = let quiet = quietly v w added moves in (
+  added,
+  extends z v w t s added quiet own same,
+  quiet.quiet,
+  subst (λ (y : Sizes). LookIs y z.page added (F v.log) key look) (sym e) is,
+)

@@ -8,46 +8,62 @@ use Rattle.pin_rule.specs.declared.view.WordFact.{WordFact}
 use Rattle.pin_rule.specs.declared.view.Step.{Step}
 use Rattle.pin_rule.specs.Lists.{In}
 use Rattle.pin_rule.specs.Told.{IsTold, Tells}
-use Rattle.pin_rule.proofs.Lists.{each_append, in_left, in_right}
-use Rattle.slot_store.specs.Quiet.{IsQuiet}
+use Rattle.pin_rule.proofs.Lists.{each_map, each_append, in_left, in_right}
+use Rattle.slot_store.specs.Quiet.{IsQuiet, IsPlain}
 use Rattle.slot_store.specs.Answers.{MetRow}
-use Rattle.slot_store.specs.Walks.{IsAtWork, Moves, Reads, ReadsKey, ReadsOther, MeetsOther, Passed}
+use Rattle.slot_store.specs.Walks.{IsAtWork, MovesBy, Moves, Reads, ReadsKey, ReadsOther, MeetsOther, Passed}
 
-pub stays : (v : View) → Moves v v []
-stays v = record {
-  sizes = refl;
-  log = refl;
-  share = refl;
-  pins_left = refl;
-  log_words = refl;
-  quiet = tt;
-  pinned = refl;
-  steps = sym (append-nil v.steps);
-  entries = λ _ i. i;
-  words = λ _ i. i;
-}
+module _ {P : Step → Type 0} where
+  pub stays : (v : View) → MovesBy P v v []
+  stays v = record {
+    sizes = refl;
+    log = refl;
+    share = refl;
+    pins_left = refl;
+    log_words = refl;
+    quiet = tt;
+    pinned = refl;
+    steps = sym (append-nil v.steps);
+    entries = λ _ i. i;
+    words = λ _ i. i;
+  }
 
-pub moves_on : (u v w : View) (a b : List Step) → Moves u v a → Moves v w b → Moves u w (a ++ b)
-moves_on u v w a b h k = record {
-  sizes = k.sizes ∙ h.sizes;
-  log = k.log ∙ h.log;
-  share = k.share ∙ h.share;
-  pins_left = k.pins_left ∙ h.pins_left;
-  log_words = k.log_words ∙ h.log_words;
-  quiet = each_append IsQuiet a b h.quiet k.quiet;
-  pinned = k.pinned ∙ h.pinned;
-  steps = k.steps ∙ ap (λ (l : List Step). l ++ b) h.steps ∙ append_assoc u.steps a b;
-  entries = λ e i. k.entries e (h.entries e i);
-  words = λ x i. k.words x (h.words x i);
-}
+  pub moves_on : (u v w : View) (a b : List Step) → MovesBy P u v a → MovesBy P v w b → MovesBy P u w (a ++ b)
+  moves_on u v w a b h k = record {
+    sizes = k.sizes ∙ h.sizes;
+    log = k.log ∙ h.log;
+    share = k.share ∙ h.share;
+    pins_left = k.pins_left ∙ h.pins_left;
+    log_words = k.log_words ∙ h.log_words;
+    quiet = each_append P a b h.quiet k.quiet;
+    pinned = k.pinned ∙ h.pinned;
+    steps = k.steps ∙ ap (λ (l : List Step). l ++ b) h.steps ∙ append_assoc u.steps a b;
+    entries = λ e i. k.entries e (h.entries e i);
+    words = λ x i. k.words x (h.words x i);
+  }
 
-pub work_on : (z : Site) (v w : View) (a : List Step) → IsAtWork z v → Moves v w a → IsAtWork z w
-work_on z v w a h k = record {
-  sizes = k.sizes ∙ h.sizes;
-  share = λ e. h.share (sym k.share ∙ e);
-  pinned = k.pinned ∙ h.pinned;
-  caught_up =
-      h.caught_up ∙ ap length (sym k.log);
+  pub work_on : (z : Site) (v w : View) (a : List Step) → IsAtWork z v → MovesBy P v w a → IsAtWork z w
+  work_on z v w a h k = record {
+    sizes = k.sizes ∙ h.sizes;
+    share = λ e. h.share (sym k.share ∙ e);
+    pinned = k.pinned ∙ h.pinned;
+    caught_up =
+        h.caught_up ∙ ap length (sym k.log);
+  }
+
+-- steps that write no row are quiet
+pub quietly : (v w : View) (a : List Step) → Moves v w a → MovesBy IsQuiet v w a
+quietly v w a k = record {
+  sizes = k.sizes;
+  log = k.log;
+  share = k.share;
+  pins_left = k.pins_left;
+  log_words = k.log_words;
+  quiet = each_map IsPlain IsQuiet (λ s p. p.0) a k.quiet;
+  pinned = k.pinned;
+  steps = k.steps;
+  entries = k.entries;
+  words = k.words;
 }
 
 -- a user at work is told of the rows of its version
@@ -68,7 +84,7 @@ later w a b = record { steps = λ s i. in_right s a b i; entries = λ _ i. i; wo
 
 module _ (z : Site) (v w : View) (a b : List Step) (g : Grows v w a b) where
   pub reads_on : (row index word : ℕ) → Reads z v a row index word → Reads z w b row index word
-  reads_on row index word h = (g.steps _ h.0, g.words _ h.1)
+  reads_on row index word h = ((h.0.0, g.steps _ h.0.1), g.words _ h.1)
 
   pub key_on : (row : ℕ) (key : List ℕ) → ReadsKey z v a row key → ReadsKey z w b row key
   key_on row key h index t = reads_on row index _ (h index t)
@@ -77,7 +93,7 @@ module _ (z : Site) (v w : View) (a b : List Step) (g : Grows v w a b) where
   other_on row key h = (h.0, h.1, reads_on row h.0 h.1 h.2, h.3, h.4)
 
   pub met_on : (place row : ℕ) → MetRow z.sizes z.page a place row → MetRow z.sizes z.page b place row
-  met_on place row h = elim h [ inl i ↦ inl (g.steps _ i) | inr t ↦ inr (t.0, g.steps _ t.1) ]
+  met_on place row h = (h.0, elim h.1 [ inl i ↦ inl (g.steps _ i) | inr t ↦ inr (t.0, g.steps _ t.1) ])
 
   pub meets_on : (key : List ℕ) (place : ℕ) → MeetsOther z v a key place → MeetsOther z w b key place
   meets_on key place h = (h.0, met_on place h.0 h.1, g.entries _ h.2, other_on h.0 key h.3)

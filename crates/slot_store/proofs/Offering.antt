@@ -22,7 +22,7 @@ use Rattle.slot_store.specs.Walks.{IsAtWork, Moves, IsPlaceable, Offers}
 use Rattle.slot_store.proofs.ByWord.{length_row, key_is, content_is}
 use Rattle.slot_store.proofs.Growing.{moves_on, work_on}
 use Rattle.slot_store.proofs.Passing.{loads, meets, range}
-use Rattle.slot_store.proofs.Single.{moves_publish, knows_at, names_row, knows_row}
+use Rattle.slot_store.proofs.Single.{moves_publish, knows_at, names_row}
 
 pub inside : (F : List ℕ → Type 0) (z : Site) (v : View) (row : ℕ) (key payload : List ℕ) (step place : ℕ) → IsPlaceable F z v row key payload step place
     → place < z.sizes.places
@@ -68,8 +68,8 @@ module _ (F : List ℕ → Type 0) (z : Site) (v u : View) (place row n : ℕ) (
     added = loaded_place z.sizes z.page place n ∷ [];
     moves = loads z v u work place n is;
     won = λ e. absurd (some e);
-    lost = λ other e. let m = meets z v u work place n is other e in
-        (m.own, range F z v u place other work m told, inl (inl (ap (loaded_place z.sizes z.page place) (sym e))), m.at, m.version);
+    lost = λ other e. let m = meets z v u work place n is F told other e in
+        (m.own, (m.met.0, inl (inl (ap (loaded_place z.sizes z.page place) (sym e)))), m.at, m.version);
   }
 
   module _ (x : View) (m : ℕ) (to : x ≡ after_publish u z.page place row m) where
@@ -99,8 +99,10 @@ module _ (F : List ℕ → Type 0) (z : Site) (v u : View) (place row n : ℕ) (
       lost = λ other e. let t = to ∙ ap (after_publish u z.page place row) e in let entries = ap (λ (y : View). y.entries) t in
           let version = names_row z u at_work x place other entries in (
             ap (λ (y : View). y.own) t ∙ ap (λ (y : View). y.own) is,
-            subst (λ (y : Sizes). other < y.rows) (on.sizes ∙ at_work.sizes) (told.range other (knows_row z x other version)),
-            inr (row, in_right _ a b (inl (ap (published z.sizes z.page place row) (sym e)))),
+            (
+              range F z x other (on.sizes ∙ at_work.sizes) version told,
+              inr (row, in_right _ a b (inl (ap (published z.sizes z.page place row) (sym e)))),
+            ),
             knows_at z u at_work x place other entries,
             version,
           );

@@ -34,6 +34,11 @@ starts z v key place at = record { added = []; moves = stays v; own = refl; pass
 pub on_the_page : (z : Site) (v w : View) (key : List ℕ) (steps place : ℕ) → Walking z v w key steps place → steps < z.sizes.places → place < z.sizes.places
 on_the_page z v w key steps place k lt = subst (λ (p : ℕ). p < z.sizes.places) (sym k.at) (on_page z.sizes key (omega arith) steps)
 
+-- a row that the view names is one of the table
+pub range : (F : List ℕ → Type 0) (z : Site) (u : View) (row : ℕ) → u.sizes ≡ z.sizes → version_of u.entries row ≡ Some z.version → IsTold F u z.version
+    → row < z.sizes.rows
+range F z u row sizes version told = subst (λ (y : Sizes). row < y.rows) sizes (told.range row (knows_row z u row version))
+
 module _ (z : Site) (w u : View) (work : IsAtWork z w) (place n : ℕ) (is : u ≡ after_load_place w z.page place n) where
   pub loads : Moves w u (loaded_place z.sizes z.page place n ∷ [])
   loads = subst (λ (x : View). Moves w x (loaded_place z.sizes z.page place n ∷ [])) (sym is) (moves_place z w work place n)
@@ -41,26 +46,27 @@ module _ (z : Site) (w u : View) (work : IsAtWork z w) (place n : ℕ) (is : u �
   pub loaded_on : IsAtWork z u
   loaded_on = work_on z w u (loaded_place z.sizes z.page place n ∷ []) work loads
 
-  pub meets : (row : ℕ) → n ≡ suc row → Meets z w u place row
-  meets row e = let t = is ∙ ap (after_load_place w z.page place) e in let entries = ap (λ (x : View). x.entries) t in record {
+  pub meets : (F : List ℕ → Type 0) → IsTold F u z.version → (row : ℕ) → n ≡ suc row → Meets z w u place row
+  meets F told row e = let t = is ∙ ap (after_load_place w z.page place) e in let entries = ap (λ (x : View). x.entries) t in record {
     added = loaded_place z.sizes z.page place n ∷ [];
     moves = loads;
     own = ap (λ (x : View). x.own) is;
-    met = inl (inl (ap (loaded_place z.sizes z.page place) (sym e)));
+    met = (
+      range F z u row (loads.sizes ∙ work.sizes) (names_row z w work u place row entries) told,
+      inl (inl (ap (loaded_place z.sizes z.page place) (sym e))),
+    );
     at = knows_at z w work u place row entries;
     version = names_row z w work u place row entries;
   }
 
-  pub loaded_it : (row : ℕ) (e : n ≡ suc row) → In (loaded_place z.sizes z.page place (suc row)) (meets row e).added
+  pub loaded_it : (F : List ℕ → Type 0) (told : IsTold F u z.version) (row : ℕ) (e : n ≡ suc row)
+      → In (loaded_place z.sizes z.page place (suc row)) (meets F told row e).added
   unfolding meets
-  loaded_it row e = inl (ap (loaded_place z.sizes z.page place) (sym e))
+  loaded_it F told row e = inl (ap (loaded_place z.sizes z.page place) (sym e))
 
 -- the number of the row that was met
 pub row_met : (n : ℕ) → n ≢ 0 → n ≡ suc (n - 1)
 row_met n h = dite (ℕ_discrete n 0) (λ e. absurd (h e)) (λ ne. omega arith)
-
-pub range : (F : List ℕ → Type 0) (z : Site) (w u : View) (place row : ℕ) → IsAtWork z w → Meets z w u place row → IsTold F u z.version → row < z.sizes.rows
-range F z w u place row work m told = subst (λ (y : Sizes). row < y.rows) (m.moves.sizes ∙ work.sizes) (told.range row (knows_row z u row m.version))
 
 module _ (z : Site) (v w : View) (key : List ℕ) (steps place : ℕ) (walk : Walking z v w key steps place) where
   pub empty : (work : IsAtWork z w) (u : View) (n : ℕ) → u ≡ after_load_place w z.page place n → n ≡ 0 → steps < z.sizes.places

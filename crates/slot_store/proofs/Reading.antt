@@ -31,8 +31,8 @@ pub starts : (z : Site) (v : View) (row : ℕ) (key : List ℕ) → version_of v
 starts z v row key is = record { added = []; moves = stays v; own = refl; version = is; words = λ index _ lt. absurd (omega arith) }
 
 -- a further word was loaded
-module _ (z : Site) (v w u : View) (row : ℕ) (key : List ℕ) (work : IsAtWork z v) (bound index n : ℕ) (is : u ≡ after_load_row w row index n)
-    (r : Reading z v w row key bound) where
+module _ (z : Site) (v w u : View) (row : ℕ) (key : List ℕ) (work : IsAtWork z v) (bound index n : ℕ) (inside : index < z.sizes.width)
+    (is : u ≡ after_load_row w row index n) (r : Reading z v w row key bound) where
   Loaded : View → Type 0
   Loaded x = (added : List Step) × Moves v x added × (x.own ≡ v.own) × (version_of x.entries row ≡ Some z.version) × Reads z x added row index n
       × ((at : ℕ) → TellsKey key at → at < bound → Reads z x added row at (slice_index (head_of key) at))
@@ -46,7 +46,7 @@ module _ (z : Site) (v w u : View) (row : ℕ) (key : List ℕ) (work : IsAtWork
         moves_on v w t r.added b r.moves m,
         r.own,
         r.version,
-        reads_on z t t b (r.added ++ b) (later t r.added b) row index n (reads_row z w at_work row index n r.version),
+        reads_on z t t b (r.added ++ b) (later t r.added b) row index n (reads_row z w at_work row index n inside r.version),
         λ at tells lt. reads_on z w t r.added (r.added ++ b) (earlier w t r.added b m) row at _ (r.words at tells lt),
       )
 

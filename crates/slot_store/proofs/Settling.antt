@@ -45,7 +45,7 @@ module _ (z : Site) (v w : View) (key payload : List ℕ) (row steps place : ℕ
     }
 
     pub other : (r : ℕ) → n ≡ suc r → Meets z w u place r
-    other r e = let l = f.lost r e in record { added = f.added; moves = f.moves; own = l.0; met = l.2; at = l.3; version = l.4 }
+    other r e = let l = f.lost r e in record { added = f.added; moves = f.moves; own = l.0; met = l.1; at = l.2; version = l.3 }
 
     pub already : steps < z.sizes.places → (r : ℕ) (e : n ≡ suc r) (x : View) (same : Type 0) → Compares z u x r key same → same
         → Places z v x row key placed.Already
@@ -58,7 +58,6 @@ module _ (z : Site) (v w : View) (key payload : List ℕ) (row steps place : ℕ
           place,
           r,
           on_the_page z v w key steps place walk lt,
-          (f.lost r e).1,
           met_all z v w key steps place walk u x r m same c,
           key_all z v w key steps place walk u x r m same c yes_it_is,
         ),

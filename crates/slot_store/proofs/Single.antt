@@ -1,5 +1,5 @@
 -- Single steps of a user at work.
-use Rattle.std.proofs.Common.{◌≡◌, ℕ, zero, suc, List, [], ◌∷◌, ◌++◌, inl, inr, eq-eqb, sym, refl, ap, ◌∙◌, subst}
+use Rattle.std.proofs.Common.{◌≡◌, ◌≢◌, ℕ, zero, suc, ◌<◌, List, [], ◌∷◌, ◌++◌, inl, inr, eq-eqb, sym, refl, ap, ◌∙◌, subst}
 use mathlib.Core.Bool.{cond}
 use Rattle.std.specs.Prelude.{Option, Some, None}
 use Rattle.pin_rule.specs.declared.sizes.Sizes.{Sizes}
@@ -8,6 +8,7 @@ use Rattle.pin_rule.specs.declared.view.View.{View}
 use Rattle.pin_rule.specs.declared.view.OwnRow.{OwnRow}
 use Rattle.pin_rule.specs.declared.view.EntryFact.{EntryFact}
 use Rattle.pin_rule.specs.declared.view.WordFact.{WordFact}
+use Rattle.pin_rule.specs.declared.view.Kind.TheVariants as kind
 use Rattle.pin_rule.specs.Lists.{In}
 use Rattle.pin_rule.specs.Views.{version_at, version_pinned, version_of_role}
 use Rattle.pin_rule.specs.Steps.{met_entry, met_word, version_of, own_words, published_words, loaded_place, loaded_row, published, gave_back, after_load_place}
@@ -27,6 +28,23 @@ entry_grows None es place n e i = i
 entry_grows (Some version) es place zero e i = i
 entry_grows (Some version) es place (suc row) e i = inr i
 
+-- the kinds that write no word of a row
+
+load_row_apart : kind.LoadRow ≢ kind.WriteRow
+load_row_apart e = cc
+
+load_place_apart : kind.LoadPlace ≢ kind.WriteRow
+load_place_apart e = cc
+
+publish_apart : kind.Publish ≢ kind.WriteRow
+publish_apart e = cc
+
+give_back_apart : kind.GiveBack ≢ kind.WriteRow
+give_back_apart e = cc
+
+pub claim_apart : kind.Claim ≢ kind.WriteRow
+claim_apart e = cc
+
 -- a view that names a row knows it
 pub knows_row : (z : Site) (v : View) (row : ℕ) → version_of v.entries row ≡ Some z.version → KnowsRow v z.version row
 knows_row z v row is = let r = names v.entries row z.version is in
@@ -44,16 +62,17 @@ module _ (z : Site) (v : View) (work : IsAtWork z v) where
       share = refl;
       pins_left = refl;
       log_words = refl;
-      quiet = (tt, tt);
+      quiet = ((tt, load_row_apart), tt);
       pinned = refl;
       steps = ap (λ (y : Sizes). v.steps ++ loaded_row y row index n ∷ []) work.sizes;
       entries = λ _ i. i;
       words = λ x i. word_grows (version_of v.entries row) v.words row index n x i;
     }
 
-    pub reads_row : version_of v.entries row ≡ Some z.version → Reads z (after_load_row v row index n) (loaded_row z.sizes row index n ∷ []) row index n
-    reads_row is = (
-      inl refl,
+    pub reads_row : index < z.sizes.width → version_of v.entries row ≡ Some z.version
+        → Reads z (after_load_row v row index n) (loaded_row z.sizes row index n ∷ []) row index n
+    reads_row inside is = (
+      (inside, inl refl),
       subst (λ (o : Option ℕ). In (let x : WordFact = record {
         version = z.version;
         row = row;
@@ -75,7 +94,7 @@ module _ (z : Site) (v : View) (work : IsAtWork z v) where
       share = refl;
       pins_left = refl;
       log_words = refl;
-      quiet = (tt, tt);
+      quiet = ((tt, load_place_apart), tt);
       pinned = refl;
       steps = ap (λ (y : Sizes). v.steps ++ loaded_place y z.page place n ∷ []) work.sizes;
       entries = λ e i. entry_grows (version_at v z.page) v.entries place n e i;
@@ -112,7 +131,7 @@ moves_publish z v place row n sizes = record {
   share = refl;
   pins_left = refl;
   log_words = refl;
-  quiet = (tt, tt);
+  quiet = ((tt, publish_apart), tt);
   pinned = refl;
   steps = ap (λ (y : Sizes). v.steps ++ published y z.page place row n ∷ []) sizes;
   entries = λ e i. entry_grows (version_at v z.page) v.entries place (exchanged (suc row) n) e i;
@@ -126,7 +145,7 @@ moves_give_back z v row sizes = record {
   share = refl;
   pins_left = refl;
   log_words = refl;
-  quiet = (tt, tt);
+  quiet = ((tt, give_back_apart), tt);
   pinned = refl;
   steps = ap (λ (y : Sizes). v.steps ++ gave_back y row ∷ []) sizes;
   entries = λ _ i. i;

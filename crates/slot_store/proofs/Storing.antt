@@ -14,11 +14,14 @@ use Rattle.pin_rule.specs.declared.ops.Op.TheVariants as op
 use Rattle.pin_rule.specs.Lists.{In}
 use Rattle.pin_rule.specs.Steps.{without, written, wrote_row, after_write_row}
 use Rattle.pin_rule.specs.Keeps.{Keeps}
-use Rattle.pin_rule.proofs.Lists.{in_left, in_right}
+use Rattle.pin_rule.specs.Lists.{Each}
+use Rattle.pin_rule.proofs.Lists.{each_map, each_append, in_left, in_right}
 use Rattle.pin_rule.proofs.KindWriteRow.{keeps_write_row}
 use Rattle.slot_store.specs.Keys.{row_of}
-use Rattle.slot_store.specs.Walks.{IsAtWork, Moves, OwnsRow, HasWritten, Writes, WritesRow}
-use Rattle.slot_store.proofs.ByWord.{by_parts}
+use Rattle.slot_store.specs.Quiet.{IsQuiet}
+use Rattle.slot_store.specs.Answers.{IsWordOf}
+use Rattle.slot_store.specs.Walks.{IsAtWork, MovesBy, OwnsRow, HasWritten, IsPartOf, Writes, WritesRow}
+use Rattle.slot_store.proofs.ByWord.{by_parts, lengths_in, key_in, payload_in}
 use Rattle.slot_store.proofs.Growing.{stays, moves_on}
 
 pub may_write : (L : List Entry → Type 0) (F : List Entry → List ℕ → Type 0) (v : View) (row index x : ℕ) → OwnsRow v row → index < v.sizes.width
@@ -46,8 +49,8 @@ starts z v row from words owns = record {
   owns = owns;
   earlier = λ _ _ _ h. h;
   wrote = λ i lt. absurd (omega arith);
-  stores =
-      λ i lt. absurd (omega arith);
+  stores = λ i lt. absurd (omega arith);
+  only = tt;
 }
 
 module _ (z : Site) (v w u : View) (work : IsAtWork z v) (row from : ℕ) (words : List ℕ) (i x : ℕ) (is : u ≡ after_write_row w row (from + i) x)
@@ -69,11 +72,12 @@ module _ (z : Site) (v w u : View) (work : IsAtWork z v) (row from : ℕ) (words
   here : HasWritten u row (from + i) x
   here = (record { row = r.owns.0.row; wrote = (from + i, x) ∷ without (from + i) r.owns.0.wrote }, owned r.owns.0 r.owns.1, r.owns.2, inl refl)
 
-  pub goes_on : x ≡ slice_index words i → Writes z v u row from words (i + 1)
-  goes_on same = let b : List Step = wrote_row z.sizes row (from + i) x ∷ [] in let sizes : w.sizes ≡ z.sizes = r.moves.sizes ∙ work.sizes in let h = here in
+  pub goes_on : i < length words → x ≡ slice_index words i → Writes z v u row from words (i + 1)
+  goes_on inside same = let b : List Step = wrote_row z.sizes row (from + i) x ∷ [] in
+      let sizes : w.sizes ≡ z.sizes = r.moves.sizes ∙ work.sizes in let h = here in
       record {
         added = r.added ++ b;
-        moves = subst (λ (y : View). Moves v y (r.added ++ b)) (sym is) (moves_on v w (after_write_row w row (from + i) x) r.added b r.moves (record {
+        moves = subst (λ (y : View). MovesBy IsQuiet v y (r.added ++ b)) (sym is) (moves_on v w (after_write_row w row (from + i) x) r.added b r.moves (record {
           sizes = refl;
           log = refl;
           share = refl;
@@ -95,7 +99,15 @@ module _ (z : Site) (v w u : View) (work : IsAtWork z v) (row from : ℕ) (words
             (subst (λ (y : ℕ). In (wrote_row z.sizes row (from + i) y) (r.added ++ b)) same (in_right (wrote_row z.sizes row (from + i) x) r.added b
             (inl refl))))
             (λ n. in_left _ r.added b (r.stores j (omega arith)));
+        only = each_append (IsPartOf z.sizes row from words) r.added b r.only ((λ _. (i, inside, ap (wrote_row z.sizes row (from + i)) same)), tt);
       }
+
+-- words that stand in a row from an index on are words of the row
+part_of_row : (z : Sizes) (row from : ℕ) (part words : List ℕ)
+    → ((i : ℕ) → i < length part → (from + i < length words) × (slice_index part i ≡ slice_index words (from + i)))
+    → (steps : List Step) → Each (IsPartOf z row from part) steps → Each (IsWordOf z row words) steps
+part_of_row z row from part words h steps = each_map (IsPartOf z row from part) (IsWordOf z row words)
+    (λ s p e. let t = p e in let w = h t.0 t.1 in (from + t.0, w.0, t.2 ∙ ap (wrote_row z row (from + t.0)) w.1)) steps
 
 -- two lengths, a key and a payload make a row
 pub whole_row : (z : Site) (u v w x : View) (row : ℕ) (key payload : List ℕ) → Writes z u v row 0 (length key ∷ length payload ∷ []) 2
@@ -122,4 +134,9 @@ whole_row z u v w x row key payload a b c =
           (first _ (a.stores 1 (omega arith)))
           (λ i lt. second _ (subst (λ (n : ℕ). In (wrote_row z.sizes row n (slice_index key i)) b.added) (swap i) (b.stores i lt)))
           (λ j lt. third _ (c.stores j lt));
+      only = each_append (IsWordOf z.sizes row (row_of key payload)) a.added (b.added ++ c.added)
+          (part_of_row z.sizes row 0 (length key ∷ length payload ∷ []) (row_of key payload) (lengths_in key payload) a.added a.only)
+          (each_append (IsWordOf z.sizes row (row_of key payload)) b.added c.added
+          (part_of_row z.sizes row 2 key (row_of key payload) (key_in key payload) b.added b.only)
+          (part_of_row z.sizes row (length key + 2) payload (row_of key payload) (payload_in key payload) c.added c.only));
     }

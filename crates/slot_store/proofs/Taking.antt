@@ -13,6 +13,7 @@ use Rattle.pin_rule.specs.Steps.{claimed, after_claim}
 use Rattle.pin_rule.proofs.Lists.{in_left, in_right}
 use Rattle.slot_store.specs.Walks.{IsAtWork, Moves, Claims}
 use Rattle.slot_store.proofs.Growing.{stays, moves_on}
+use Rattle.slot_store.proofs.Single.{claim_apart}
 
 -- each row of the range below this one was in use
 pub record Taking (z : Site) (v w : View) (from at : ℕ) : Type 0 where
@@ -33,7 +34,7 @@ module _ (z : Site) (v w u : View) (work : IsAtWork z v) (from at n : ℕ) (is :
         share = refl;
         pins_left = refl;
         log_words = refl;
-        quiet = (tt, tt);
+        quiet = ((tt, claim_apart), tt);
         pinned = refl;
         steps = ap (λ (y : Sizes). w.steps ++ claimed y at n ∷ []) same;
         entries = λ _ i. i;

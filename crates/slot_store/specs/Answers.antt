@@ -3,6 +3,7 @@ use Rattle.std.specs.Prelude.{◌≡◌, ◌≢◌, ◌⊎◌, ℕ, suc, ◌<◌
 use Rattle.pin_rule.specs.declared.sizes.Sizes.{Sizes}
 use Rattle.pin_rule.specs.declared.content.Entry.{Entry}
 use Rattle.pin_rule.specs.declared.view.Step.{Step}
+use Rattle.pin_rule.specs.declared.view.Kind.TheVariants as kind
 use Rattle.pin_rule.specs.Lists.{Each, In}
 use Rattle.pin_rule.specs.Rows.{on_path}
 use Rattle.pin_rule.specs.Steps.{loaded_place, loaded_row, claimed, wrote_row, published, gave_back}
@@ -15,13 +16,18 @@ use Rattle.slot_store.specs.Keys.{row_of, head_of, TellsKey}
 use Rattle.slot_store.specs.Logs.{IsLogLoad}
 use Rattle.slot_store.specs.Quiet.{IsQuiet}
 
-module _ (z : Sizes) (page : ℕ) (added : List Step) where
-  -- a load of the place, or an exchange there, met the row
-  abbrev pub MetRow : ℕ → ℕ → Type 0
-  MetRow place row = In (loaded_place z page place (suc row)) added ⊎ ((own : ℕ) × In (published z page place own (suc row)) added)
+-- if the step writes a row, it writes one of these words to its place in this row
+abbrev pub IsWordOf : Sizes → ℕ → List ℕ → Step → Type 0
+IsWordOf z row words s = s.kind ≡ kind.WriteRow → (index : ℕ) × (index < length words) × (s ≡ wrote_row z row index (slice_index words index))
 
+module _ (z : Sizes) (page : ℕ) (added : List Step) where
+  -- a load of the place, or an exchange there, met a row of the table
+  abbrev pub MetRow : ℕ → ℕ → Type 0
+  MetRow place row = (row < z.rows) × (In (loaded_place z page place (suc row)) added ⊎ ((own : ℕ) × In (published z page place own (suc row)) added))
+
+  -- a load of a word of the row met this word
   abbrev pub ReadWord : ℕ → ℕ → ℕ → Type 0
-  ReadWord row index word = In (loaded_row z row index word) added
+  ReadWord row index word = (index < z.width) × In (loaded_row z row index word) added
 
   -- all words of the row that tell its key were read and are those of this key
   abbrev pub ReadKey : ℕ → List ℕ → Type 0
@@ -45,7 +51,7 @@ module _ (z : Sizes) (page : ℕ) (added : List Step) where
   abbrev pub IsPageFull : List ℕ → Type 0
   IsPageFull key = (place : ℕ) → place < z.places → HoldsOther key place
 
-  -- the call wrote the whole row, and then its exchange put the entry into the page
+  -- the call wrote the whole row and no other word, and then its exchange put the entry into the page
   pub record IsMade (key payload : List ℕ) : Type 0 where
     pub place : ℕ
     pub row : ℕ
@@ -54,13 +60,13 @@ module _ (z : Sizes) (page : ℕ) (added : List Step) where
     pub before : List Step
     pub claim : In (claimed z row 0) before
     pub words : (index : ℕ) → index < length (row_of key payload) → In (wrote_row z row index (slice_index (row_of key payload) index)) before
+    pub only : Each (IsWordOf z row (row_of key payload)) before
     pub entry : added ≡ before ++ published z page place row 0 ∷ []
 
   pub record IsAlready (key : List ℕ) : Type 0 where
     pub place : ℕ
     pub row : ℕ
     pub inside : place < z.places
-    pub row_in : row < z.rows
     pub entry : MetRow place row
     pub words : ReadKey row key
 

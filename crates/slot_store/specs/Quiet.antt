@@ -1,4 +1,5 @@
 -- Steps that neither take or drop a pin, nor split or join a seat, nor change a version.
+use Rattle.std.specs.Prelude.{◌≢◌}
 use Rattle.pin_rule.specs.declared.view.Step.{Step}
 use Rattle.pin_rule.specs.declared.view.Kind.{Kind}
 use Rattle.pin_rule.specs.declared.view.Kind.TheVariants.{LoadPlace, LoadRow, Claim, WriteRow, Publish, GiveBack, Split, Join, Pin, Unpin, LoadLog, WriteLog}
@@ -24,3 +25,7 @@ IsQuietKind FreeRow = ⊥
 
 abbrev pub IsQuiet : Step → Type 0
 IsQuiet s = IsQuietKind s.kind
+
+-- nor do these write a word of a row
+abbrev pub IsPlain : Step → Type 0
+IsPlain s = IsQuiet s × (s.kind ≢ WriteRow)

@@ -6,8 +6,10 @@ use Rattle.pin_rule.specs.declared.view.OwnRow.{OwnRow}
 use Rattle.pin_rule.specs.declared.view.EntryFact.{EntryFact}
 use Rattle.pin_rule.specs.declared.view.WordFact.{WordFact}
 use Rattle.pin_rule.specs.declared.view.Step.{Step}
+use Rattle.pin_rule.specs.declared.view.Kind.TheVariants as kind
+use Rattle.pin_rule.specs.declared.sizes.Sizes.{Sizes}
 use Rattle.pin_rule.specs.Lists.{Each, In}
-use Rattle.slot_store.specs.Quiet.{IsQuiet}
+use Rattle.slot_store.specs.Quiet.{IsQuiet, IsPlain}
 use Rattle.pin_rule.specs.Rows.{on_path}
 use Rattle.pin_rule.specs.Views.{now}
 use Rattle.pin_rule.specs.Steps.{loaded_place, wrote_row, published, claimed, version_of}
@@ -20,7 +22,7 @@ use Rattle.slot_store.specs.declared.finding.Glance.TheVariants as glance
 use Rattle.slot_store.specs.declared.placing.Placed.{Placed}
 use Rattle.slot_store.specs.declared.placing.Placed.TheVariants as placed
 use Rattle.slot_store.specs.Keys.{row_of, head_of, TellsKey}
-use Rattle.slot_store.specs.Answers.{MetRow, ReadWord, IsFound, IsInitial, IsPageFull}
+use Rattle.slot_store.specs.Answers.{IsWordOf, MetRow, ReadWord, IsFound, IsInitial, IsPageFull}
 
 -- a user of the table that makes steps, with the page pinned and the log of its version
 pub record IsAtWork (z : Site) (v : View) : Type 0 where
@@ -29,8 +31,8 @@ pub record IsAtWork (z : Site) (v : View) : Type 0 where
   pub pinned : v.pinned ≡ Some record { version = z.version; page = z.page }
   pub caught_up : z.version ≡ now v
 
--- w is v after some steps; only its own row may be another
-pub record Moves (v w : View) (added : List Step) : Type 0 where
+-- w is v after some steps, each of which is such; only its own row may be another
+pub record MovesBy (P : Step → Type 0) (v w : View) (added : List Step) : Type 0 where
   pub sizes : w.sizes ≡ v.sizes
   pub log : w.log ≡ v.log
   pub share : w.share ≡ v.share
@@ -38,9 +40,13 @@ pub record Moves (v w : View) (added : List Step) : Type 0 where
   pub log_words : w.log_words ≡ v.log_words
   pub pinned : w.pinned ≡ v.pinned
   pub steps : w.steps ≡ v.steps ++ added
-  pub quiet : Each IsQuiet added
+  pub quiet : Each P added
   pub entries : (e : EntryFact) → In e v.entries → In e w.entries
   pub words : (x : WordFact) → In x v.words → In x w.words
+
+-- no word of a row was written
+abbrev pub Moves : View → View → List Step → Type 0
+Moves v w added = MovesBy IsPlain v w added
 
 abbrev pub KnowsAt : Site → View → ℕ → ℕ → Type 0
 KnowsAt z w place row = In (let e : EntryFact = record { version = z.version; place = place; row = row } in e) w.entries
@@ -134,21 +140,27 @@ pub record Claims (z : Site) (v w : View) (from to : ℕ) (r : Option ℕ) : Typ
   pub moves : Moves v w added
   pub is : ClaimIs z w added from to r
 
+-- if the step writes a row, it writes one of these words to this row, from an index on
+abbrev pub IsPartOf : Sizes → ℕ → ℕ → List ℕ → Step → Type 0
+IsPartOf z row from words s = s.kind ≡ kind.WriteRow → (i : ℕ) × (i < length words) × (s ≡ wrote_row z row (from + i) (slice_index words i))
+
 -- words are written to an own row, so many of them so far
 pub record Writes (z : Site) (v w : View) (row from : ℕ) (words : List ℕ) (count : ℕ) : Type 0 where
   pub added : List Step
-  pub moves : Moves v w added
+  pub moves : MovesBy IsQuiet v w added
   pub owns : OwnsRow w row
   pub earlier : (index word : ℕ) → index < from → HasWritten v row index word → HasWritten w row index word
   pub wrote : (i : ℕ) → i < count → HasWritten w row (from + i) (slice_index words i)
   pub stores : (i : ℕ) → i < count → In (wrote_row z.sizes row (from + i) (slice_index words i)) added
+  pub only : Each (IsPartOf z.sizes row from words) added
 
 pub record WritesRow (z : Site) (v w : View) (row : ℕ) (words : List ℕ) : Type 0 where
   pub added : List Step
-  pub moves : Moves v w added
+  pub moves : MovesBy IsQuiet v w added
   pub owns : OwnsRow w row
   pub wrote : HasWrittenAll w row words
   pub stores : (index : ℕ) → index < length words → In (wrote_row z.sizes row index (slice_index words index)) added
+  pub only : Each (IsWordOf z.sizes row words) added
 
 -- the own row may be published at this place
 pub record IsPlaceable (fits : List ℕ → Type 0) (z : Site) (v : View) (row : ℕ) (key payload : List ℕ) (step place : ℕ) : Type 0 where
@@ -165,13 +177,13 @@ pub record Offers (z : Site) (v w : View) (place row met : ℕ) : Type 0 where
   pub added : List Step
   pub moves : Moves v w added
   pub won : met ≡ 0 → (w.own ≡ None) × ((before : List Step) × (added ≡ before ++ published z.sizes z.page place row 0 ∷ []))
-  pub lost : (other : ℕ) → met ≡ suc other → (w.own ≡ v.own) × (other < z.sizes.rows) × MetRow z.sizes z.page added place other × KnowsAt z w place other ×
+  pub lost : (other : ℕ) → met ≡ suc other → (w.own ≡ v.own) × MetRow z.sizes z.page added place other × KnowsAt z w place other ×
       (version_of w.entries other ≡ Some z.version)
 
 abbrev pub PlacedIs : Site → View → View → List Step → ℕ → List ℕ → Placed → Type 0
 PlacedIs z v w added row key placed.Here = (w.own ≡ None) × ((place : ℕ) × (place < z.sizes.places) × (before : List Step)
     × (added ≡ before ++ published z.sizes z.page place row 0 ∷ []))
-PlacedIs z v w added row key placed.Already = (w.own ≡ v.own) × ((place : ℕ) × (other : ℕ) × (place < z.sizes.places) × (other < z.sizes.rows)
+PlacedIs z v w added row key placed.Already = (w.own ≡ v.own) × ((place : ℕ) × (other : ℕ) × (place < z.sizes.places)
     × MetRow z.sizes z.page added place other × ReadsKey z w added other key)
 PlacedIs z v w added row key placed.Full = (w.own ≡ v.own) × Passed z w added key z.sizes.places
 

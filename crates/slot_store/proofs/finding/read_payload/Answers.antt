@@ -3,7 +3,7 @@ use Rattle.pin_rule.specs.declared.sizes.Sizes.{Sizes}
 use Rattle.pin_rule.specs.Hands.{view_of, sizes_of}
 use Rattle.pin_rule.proofs.KindLoads.{keeps_load_row}
 use Rattle.slot_store.proofs.Growing.{work_on, told_at}
-use Rattle.slot_store.proofs.Copying.{at_work, loads, starts, wide, goes_on}
+use Rattle.slot_store.proofs.Copying.{second_in, at_work, loads, starts, wide, goes_on}
 use Rattle.slot_store.proofs.finding.read_payload.Goals as goal
 
 pub load_row-count-requires-clause-keeps : goal.load_row-count-requires-clause-keeps
@@ -16,7 +16,7 @@ overflow_cast-from g c =
     let z = c.args.site in let v = view_of c.args.hand.now in let u = view_of c.load_row-count.new.self in let row = c.args.row in
     let n : ℕ = c.load_row-count.result in let key : ℕ = length c.args.key.now in
     let w = z.sizes.width_in in let room : 2 + (key + n) ≤ z.sizes.width = wide _ z v u row key n c.requires.work
-    (loads z v u row 1 n c.requires.work c.requires.known c.load_row-count.ensures.view) c.requires.key
+    (loads z v u row 1 n (second_in z) c.requires.work c.requires.known c.load_row-count.ensures.view) c.requires.key
     (told_at g.C.Content.lawful g.C.Content.fits z u (at_work z v u row n c.requires.work c.requires.known c.load_row-count.ensures.view)
     c.load_row-count.ensures.told) in record { fits = omega arith }
 
@@ -25,7 +25,7 @@ overflow_add-from g c =
     let z = c.args.site in let v = view_of c.args.hand.now in let u = view_of c.load_row-count.new.self in let row = c.args.row in
     let n : ℕ = c.load_row-count.result in let key : ℕ = length c.args.key.now in
     let w = z.sizes.width_in in let room : 2 + (key + n) ≤ z.sizes.width = wide _ z v u row key n c.requires.work
-    (loads z v u row 1 n c.requires.work c.requires.known c.load_row-count.ensures.view) c.requires.key
+    (loads z v u row 1 n (second_in z) c.requires.work c.requires.known c.load_row-count.ensures.view) c.requires.key
     (told_at g.C.Content.lawful g.C.Content.fits z u (at_work z v u row n c.requires.work c.requires.known c.load_row-count.ensures.view)
     c.load_row-count.ensures.told) in record { fits = omega arith }
 
@@ -33,7 +33,7 @@ pub loop-i-init : goal.loop-i-init
 loop-i-init g c =
     let z = c.args.site in let v = view_of c.args.hand.now in let u = view_of c.load_row-count.new.self in let row = c.args.row in
     let n : ℕ = c.load_row-count.result in let key : ℕ = length c.args.key.now in
-    let l = loads z v u row 1 n c.requires.work c.requires.known c.load_row-count.ensures.view in
+    let l = loads z v u row 1 n (second_in z) c.requires.work c.requires.known c.load_row-count.ensures.view in
     let room : 2 + (key + n) ≤ z.sizes.width = wide _ z v u row key n c.requires.work l c.requires.key
     (told_at g.C.Content.lawful g.C.Content.fits z u (at_work z v u row n c.requires.work c.requires.known c.load_row-count.ensures.view)
     c.load_row-count.ensures.told) in record {
@@ -58,11 +58,11 @@ loop-i-preserved g c =
     let k = c.loop-i.invariant in let asked = c.requires.room in record {
       table = c.load_row.ensures.table ∙ k.table;
       told = (let next = goes_on z v w u c.args.row (length c.args.key.now + 2) c.load_row-count.result i c.load_row.result c.loop-i.buffer c.requires.work
-          c.load_row.ensures.view (let wide = k.wide in let long = k.long in omega arith) k.copies in
+          c.load_row.ensures.view (let wide = k.wide in let long = k.long in omega arith) (let wide = k.wide in omega arith) k.copies in
           told_at g.C.Content.lawful g.C.Content.fits z u (work_on z v u next.added c.requires.work next.moves) c.load_row.ensures.told);
       from = refl;
       wide = k.wide;
       long = length-set c.loop-i.buffer i c.load_row.result ∙ k.long;
       copies = goes_on z v w u c.args.row (length c.args.key.now + 2) c.load_row-count.result i c.load_row.result c.loop-i.buffer c.requires.work
-          c.load_row.ensures.view (let wide = k.wide in let long = k.long in omega arith) k.copies;
+          c.load_row.ensures.view (let wide = k.wide in let long = k.long in omega arith) (let wide = k.wide in omega arith) k.copies;
     }

@@ -4,7 +4,7 @@ use Rattle.pin_rule.specs.Hands.{view_of, sizes_of}
 use Rattle.pin_rule.proofs.KindLoads.{keeps_load_place}
 use Rattle.std.specs.Prelude.{IsTrue, Bool, true, false}
 use Rattle.slot_store.proofs.Growing.{work_on, told_at}
-use Rattle.slot_store.proofs.Passing.{starts, on_the_page, row_met, meets, loaded_it, range, empty, found, goes_on}
+use Rattle.slot_store.proofs.Passing.{starts, on_the_page, row_met, loaded_on, meets, loaded_it, empty, found, goes_on}
 use Rattle.slot_store.proofs.finding.walk.Goals as goal
 
 not_both : (b : Bool) → b ≡ true → b ≡ false → ⊥
@@ -46,9 +46,9 @@ overflow_cast-row g c =
     let z = c.args.site in let v = view_of c.args.hand.now in let w = view_of c.loop-step.hand in let u = view_of c.load_place-met.new.self in
     let n : ℕ = c.load_place-met.result in let place : ℕ = c.loop-step.place in
     let k = c.loop-step.invariant.walking in let work = work_on z v w k.added c.requires k.moves in
-    let m = meets z w u work place n c.load_place-met.ensures.view (n - 1) (row_met n c.if-met-eq0.false) in
-    let inside : n - 1 < z.sizes.rows = range _ z w u place (n - 1) work m
-    (told_at g.C.Content.lawful g.C.Content.fits z u (work_on z w u m.added work m.moves) c.load_place-met.ensures.told) in let few = z.sizes.rows_in in
+    let told = told_at g.C.Content.lawful g.C.Content.fits z u (loaded_on z w u work place n c.load_place-met.ensures.view) c.load_place-met.ensures.told in
+    let m = meets z w u work place n c.load_place-met.ensures.view _ told (n - 1) (row_met n c.if-met-eq0.false) in
+    let inside : n - 1 < z.sizes.rows = m.met.0 in let few = z.sizes.rows_in in
     record { fits = omega arith }
 
 pub has_key-requires-clause-row : goal.has_key-requires-clause-row
@@ -56,9 +56,9 @@ has_key-requires-clause-row g c =
     let z = c.args.site in let v = view_of c.args.hand.now in let w = view_of c.loop-step.hand in let u = view_of c.load_place-met.new.self in
     let n : ℕ = c.load_place-met.result in let place : ℕ = c.loop-step.place in
     let k = c.loop-step.invariant.walking in let work = work_on z v w k.added c.requires k.moves in
-    let m = meets z w u work place n c.load_place-met.ensures.view (n - 1) (row_met n c.if-met-eq0.false) in
-    let inside : n - 1 < z.sizes.rows = range _ z w u place (n - 1) work m
-    (told_at g.C.Content.lawful g.C.Content.fits z u (work_on z w u m.added work m.moves) c.load_place-met.ensures.told) in
+    let told = told_at g.C.Content.lawful g.C.Content.fits z u (loaded_on z w u work place n c.load_place-met.ensures.view) c.load_place-met.ensures.told in
+    let m = meets z w u work place n c.load_place-met.ensures.view _ told (n - 1) (row_met n c.if-met-eq0.false) in
+    let inside : n - 1 < z.sizes.rows = m.met.0 in
     inside
 
 pub returns-then-has_key-clause-walked : goal.returns-then-has_key-clause-walked
@@ -66,12 +66,12 @@ returns-then-has_key-clause-walked g c =
     let z = c.args.site in let v = view_of c.args.hand.now in let w = view_of c.loop-step.hand in let u = view_of c.load_place-met.new.self in
     let n : ℕ = c.load_place-met.result in let place : ℕ = c.loop-step.place in
     let k = c.loop-step.invariant.walking in let work = work_on z v w k.added c.requires k.moves in
-    let m = meets z w u work place n c.load_place-met.ensures.view (n - 1) (row_met n c.if-met-eq0.false) in
-    let inside : n - 1 < z.sizes.rows = range _ z w u place (n - 1) work m
-    (told_at g.C.Content.lawful g.C.Content.fits z u (work_on z w u m.added work m.moves) c.load_place-met.ensures.told) in
+    let told = told_at g.C.Content.lawful g.C.Content.fits z u (loaded_on z w u work place n c.load_place-met.ensures.view) c.load_place-met.ensures.told in
+    let m = meets z w u work place n c.load_place-met.ensures.view _ told (n - 1) (row_met n c.if-met-eq0.false) in
+    let inside : n - 1 < z.sizes.rows = m.met.0 in
     found z v w c.args.key.now c.loop-step._step place k u (view_of c.has_key.new.hand) (n - 1) m
     (IsTrue c.has_key.result) c.has_key.ensures.compared c.loop-step-test.true c.if-has_key.true inside
-    (loaded_it z w u work place n c.load_place-met.ensures.view (n - 1) (row_met n c.if-met-eq0.false))
+    (loaded_it z w u work place n c.load_place-met.ensures.view _ told (n - 1) (row_met n c.if-met-eq0.false))
 
 pub next_place-place-requires : goal.next_place-place-requires
 next_place-place-requires g c = on_the_page c.args.site (view_of c.args.hand.now)
@@ -82,9 +82,9 @@ loop-step-preserved g c =
     let z = c.args.site in let v = view_of c.args.hand.now in let w = view_of c.loop-step.hand in let u = view_of c.load_place-met.new.self in
     let n : ℕ = c.load_place-met.result in let place : ℕ = c.loop-step.place in
     let k = c.loop-step.invariant.walking in let work = work_on z v w k.added c.requires k.moves in
-    let m = meets z w u work place n c.load_place-met.ensures.view (n - 1) (row_met n c.if-met-eq0.false) in
-    let inside : n - 1 < z.sizes.rows = range _ z w u place (n - 1) work m
-    (told_at g.C.Content.lawful g.C.Content.fits z u (work_on z w u m.added work m.moves) c.load_place-met.ensures.told) in record {
+    let told = told_at g.C.Content.lawful g.C.Content.fits z u (loaded_on z w u work place n c.load_place-met.ensures.view) c.load_place-met.ensures.told in
+    let m = meets z w u work place n c.load_place-met.ensures.view _ told (n - 1) (row_met n c.if-met-eq0.false) in
+    let inside : n - 1 < z.sizes.rows = m.met.0 in record {
       table = c.has_key.ensures.table ∙ c.load_place-met.ensures.table ∙ c.loop-step.invariant.table;
       walking = goes_on z v w c.args.key.now c.loop-step._step place k u (view_of c.has_key.new.hand) (n - 1) m
           (IsTrue c.has_key.result) c.has_key.ensures.compared (λ t. not_both c.has_key.result t c.if-has_key.false) c.next_place-place.result

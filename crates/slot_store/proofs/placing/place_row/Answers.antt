@@ -41,10 +41,10 @@ returns-clause-placed g c = full c.args.site (view_of c.args.hand.now)
 
 pub overflow_cast-met : goal.overflow_cast-met
 overflow_cast-met g c = let few = c.args.site.sizes.rows_in in let n : ℕ = c.offer-met.result in
-    let inside : n - 1 < c.args.site.sizes.rows = (c.offer-met.ensures.offer.lost (n - 1) (row_met n c.if-met-eq0.false)).1 in record { fits = omega arith }
+    let inside : n - 1 < c.args.site.sizes.rows = (c.offer-met.ensures.offer.lost (n - 1) (row_met n c.if-met-eq0.false)).1.0 in record { fits = omega arith }
 
 pub has_key-requires-clause-row : goal.has_key-requires-clause-row
-has_key-requires-clause-row g c = let n : ℕ = c.offer-met.result in (c.offer-met.ensures.offer.lost (n - 1) (row_met n c.if-met-eq0.false)).1
+has_key-requires-clause-row g c = let n : ℕ = c.offer-met.result in (c.offer-met.ensures.offer.lost (n - 1) (row_met n c.if-met-eq0.false)).1.0
 
 pub returns-then-has_key-clause-placed : goal.returns-then-has_key-clause-placed
 returns-then-has_key-clause-placed g c = let n : ℕ = c.offer-met.result in

@@ -29,5 +29,5 @@ loop-i-preserved g c = record {
   table = c.write_row.ensures.table ∙ c.loop-i.invariant.table;
   writes = goes_on c.args.site (view_of c.args.hand.now) (view_of c.loop-i.hand)
       (view_of c.write_row.new.self) c.requires.work c.args.row c.args.from c.args.words.now c.loop-i.i
-      (slice_index c.args.words.now c.loop-i.i) c.write_row.ensures.view c.loop-i.invariant.writes refl;
+      (slice_index c.args.words.now c.loop-i.i) c.write_row.ensures.view c.loop-i.invariant.writes (omega arith) refl;
 }

@@ -12,8 +12,8 @@ load-requires g c =
     let same : h.seat.table_id ≡ t.table_id = h.seated ∙ sym (ap (λ x. x.shared.table_id) e) in
     let key : t.key ≡ h.seat.me.0.sizes = ap (λ x. x.shared.key) e ∙ h.keyed ∙ sym h.told in
     let at : i ≡ word_of h.seat.me.0.sizes c.args.op = c.index_of-word.ensures.index ∙ ap (λ z. word_of z c.args.op) (sym h.told) in
-    let many : t.table_id.words ≡ word_count h.sizes = ap (λ x. x.shared.table_id.words) e ∙ h.wide in
-    let inside : i < word_count h.sizes = c.index_of-word.ensures.inside in (
+    let many : t.table_id.words ≡ word_count h.starts.sizes = ap (λ x. x.shared.table_id.words) e ∙ h.wide in
+    let inside : i < word_count h.starts.sizes = c.index_of-word.ensures.inside in (
       same,
       (let b : i < t.table_id.words = omega arith in b),
       reads g.C.Content.lawful g.C.Content.fits t.key t.table_id.slots h.seat.id h.seat.me i (λ n. n) g.G.Doing.op key

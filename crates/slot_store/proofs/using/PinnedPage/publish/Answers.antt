@@ -4,12 +4,13 @@ use Rattle.pin_rule.specs.Hands.{view_of, table_of}
 use Rattle.slot_store.specs.declared.page.Put.TheVariants as put
 use Rattle.slot_store.proofs.Concluding as concludes
 use Rattle.slot_store.proofs.Extending.{publishes}
+use Rattle.slot_store.proofs.Growing.{quietly}
 use Rattle.slot_store.proofs.using.PinnedPage.publish.Goals as goal
 
 pub returns-in_default-clause-put : goal.returns-in_default-clause-put
 returns-in_default-clause-put g c =
     let p = c.args.self.now in let q = c.claim_row.new.hand in let k = c.in_default.ensures.claim in
-    publishes p.site (view_of p.hand) (view_of q) (table_of p.hand) (table_of q) k.added k.moves
+    publishes p.site (view_of p.hand) (view_of q) (table_of p.hand) (table_of q) k.added (quietly (view_of p.hand) (view_of q) k.added k.moves)
     (k.is.0 ∙ sym p.free) c.in_default.ensures.table c.args.key.now c.args.payload.now put.PoolFull p.measured (λ row lt. k.is.1 row (omega arith) lt)
 
 pub give_back-requires-clause-keeps : goal.give_back-requires-clause-keeps
