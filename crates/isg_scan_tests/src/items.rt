@@ -1,6 +1,6 @@
 //! What the start kernel expands to, asked of a graph.
 
-ghost use Rattle.std.specs.Prelude.{◌≡◌, ◌<◌, List, OnOk};
+ghost use Rattle.std.specs.Prelude.{◌≡◌, ◌<◌, List};
 ghost use Rattle.forest.specs.declared.rules.Rule.{Rule};
 ghost use Rattle.item_sets.specs.Prefixes.{AreItems};
 
