@@ -2,7 +2,7 @@
 use Rattle.std.specs.Prelude.{◌≡◌, ℕ, List, IfSome, Option}
 use Rattle.std.specs.Io.KnownBytes.{prepend_known, append_known}
 
--- The source gave these bytes from the front of what it had left. Where that was not known, it still is not.
+-- The source gave these bytes, a prefix of what it had left. Where that was not known, it still is not.
 abbrev pub Gives : Option (List ℕ) → Option (List ℕ) → List ℕ → Type 0
 Gives old new bytes = old ≡ prepend_known bytes new
 

@@ -58,7 +58,7 @@ impl Sink for MemSink {
 
     ghost faults = { λ s. s.turns.faults };
 
-    /// Takes as many bytes as a call takes. A call that is not to fail is refused only for want of memory.
+    /// Takes as many bytes as a call takes. A call that is not to fail is refused only where memory ran out.
     fn write(&mut self, from: &[u8]) -> Result<usize, Fault>
         requires { 0 < length from.now }
         ensures fails { IsErrOf result Fault.Failed ↔ Fails self.old.turns }

@@ -4,7 +4,7 @@ ghost use Rattle.std.specs.Prelude.{◌≡◌, ◌≢◌, ◌↔◌, ◌<◌, �
 ghost use Rattle.bench_io.specs.Supply.{Supply};
 ghost use Rattle.bench_io.specs.Turns.{Fails, new_turns, after_call, after_failure};
 
-use crate::plan::{Plan, copy_front};
+use crate::plan::{Plan, copy_prefix};
 use crate::{Fault, Source};
 use std::marker::Model;
 
@@ -75,7 +75,7 @@ impl Source for MemSource {
         if self.plan.begin() {
             return Err(Fault::Failed);
         }
-        let n = copy_front(&self.bytes[self.start..], self.plan.most(), into);
+        let n = copy_prefix(&self.bytes[self.start..], self.plan.most(), into);
         self.start += n;
         Ok(n)
     }

@@ -2,7 +2,7 @@
 
 ghost use Rattle.std.specs.Prelude.{◌≡◌, ◌≢◌, ◌<◌, ◌++◌, [], length, min, take, drop, IfOk, OnOk, OnErr};
 
-use crate::plan::copy_front;
+use crate::plan::copy_prefix;
 use crate::{Fault, NoMemory, Sink, Source};
 use std::alloc::Global;
 use std::marker::Model;
@@ -51,7 +51,7 @@ impl Source for PlainSource {
         ensures copied { IfOk result (λ n. into.new ≡ take n self.old ++ drop n into.old) }
         ensures rest { IfOk result (λ n. self.new ≡ drop n self.old) }
     {
-        let n = copy_front(&self.bytes[self.start..], into.len(), into);
+        let n = copy_prefix(&self.bytes[self.start..], into.len(), into);
         self.start += n;
         Ok(n)
     }
@@ -96,7 +96,7 @@ impl Sink for PlainSink {
 
     ghost faults = { λ _. 0 };
 
-    /// Takes all the bytes, and is refused only for want of memory.
+    /// Takes all the bytes, and is refused only where memory ran out.
     fn write(&mut self, from: &[u8]) -> Result<usize, Fault>
         requires { 0 < length from.now }
         ensures amount { IfOk result (λ n. n ≡ length from.now) }

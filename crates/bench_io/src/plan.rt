@@ -1,5 +1,5 @@
 //! What the sources and sinks in memory have in common: which calls fail, how much one moves, and a copy of
-//! the front of some bytes.
+//! a prefix of some bytes.
 
 ghost use Rattle.std.specs.Prelude.{◌≡◌, ◌↔◌, ◌≤◌, ◌++◌, length, min, take, drop, IsTrue, Contains};
 ghost use Rattle.std.specs.Bool.{OnTrue, OnFalse};
@@ -76,8 +76,8 @@ fn is_listed(numbers: &[u64], call: u128) -> bool
     false
 }
 
-/// Copies the front of `from` over the front of `into`, at most `most` bytes, and returns how many.
-pub(crate) fn copy_front(from: &[u8], most: usize, into: &mut [u8]) -> usize
+/// Copies a prefix of `from` over one of `into`, at most `most` bytes, and returns how many.
+pub(crate) fn copy_prefix(from: &[u8], most: usize, into: &mut [u8]) -> usize
     ensures amount { result ≡ min most (min (length into.old) (length from.now)) }
     ensures copied { into.new ≡ take result from.now ++ drop result into.old }
 {

@@ -14,7 +14,7 @@ pub trait Sink {
     /// How often the sink has failed: a number that never falls, and stands still at the last `u64`.
     ghost faults: { Self → ℕ };
 
-    /// Takes some of the bytes at the front of `from`, at least one, and returns how many. A write that
+    /// Takes a prefix of `from`, of at least one byte, and returns how many bytes. A write that
     /// is refused takes none.
     fn write(&mut self, from: &[u8]) -> Result<usize, Fault>
         requires { 0 < length from.now }

@@ -14,7 +14,7 @@ pub trait Source {
     /// How often the source has failed: a number that never falls, and stands still at the last `u64`.
     ghost faults: { Self → ℕ };
 
-    /// Reads some of the bytes that are left into the front of `into`, and returns how many: 0 where
+    /// Reads some of the bytes that are left into a prefix of `into`, and returns how many: 0 where
     /// none is left. A read that is refused takes none. What stands in `into` behind the bytes that were
     /// read, or after a refusal, is not told.
     fn read(&mut self, into: &mut [u8]) -> Result<usize, Fault>

@@ -41,7 +41,7 @@ IsRefusedFor words (Text why) = ¬ IsLengthTooLong words × IsNoEdit (text_in wo
 IsRefusedFor words NotCanonical = ¬ IsLengthTooLong words × ((why : BadEdit) → ¬ IsNoEdit (text_in words) why) × ¬ IsCanonical words
 IsRefusedFor words NoMemory = ⊥
 
--- an error comes for its cause, and want of memory for none
+-- an error comes for its cause; only that memory ran out has none
 abbrev pub HasCause : List ℕ → BadEntry → Type 0
 HasCause words e = (e ≡ NoMemory) ⊎ IsRefusedFor words e
 

@@ -12,7 +12,7 @@ ghost use Rattle.edit_entry.specs.BadEntries.{IsRefusedFor, IsDecoded, HasCause}
 use crate::NoMemory;
 use crate::bad_entry::BadEntry;
 use crate::encoding::encode;
-use crate::entry::{ENTRY_WORDS, TEXT_LIMIT};
+use crate::limits::{ENTRY_WORDS, TEXT_LIMIT};
 use grammar_text::{Edit, read_edit};
 use std::alloc::{AllocError, Global};
 

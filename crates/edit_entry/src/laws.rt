@@ -8,7 +8,7 @@ ghost use Rattle.edit_entry.specs.declared.bad_entry.BadEntry.{BadEntry};
 ghost use Rattle.edit_entry.specs.Entries.{entry_of};
 ghost use Rattle.edit_entry.specs.BadEntries.{IsRefusedFor};
 
-use crate::entry::ENTRY_WORDS;
+use crate::limits::ENTRY_WORDS;
 
 /// Sound edits with one entry are one edit.
 pub fn one_entry()

@@ -4,7 +4,7 @@ ghost use Rattle.std.specs.Prelude.{◌≡◌, ◌<◌, ◌++◌, ◌∷◌, [],
 ghost use Rattle.grammar_text.specs.declared.limits.TheConstants.{EDIT_LIMIT};
 ghost use Rattle.edit_entry.specs.Entries.{words_for};
 
-use crate::entry::TEXT_LIMIT;
+use crate::limits::TEXT_LIMIT;
 use grammar_text::Output;
 use std::convert::Infallible;
 use std::marker::Model;

@@ -1,9 +1,7 @@
 //! What matches the pieces of a text.
 
-ghost use Rattle.std.specs.Prelude.{◌≡◌};
-
 use forest::{RuleId, SymbolId};
-use std::marker::Model;
+use lists::ListOf;
 
 /// A definition: a literal by the number of its symbol, or a token or a skip by its own number.
 #[derive(Clone, Copy, Debug, PartialEq, Eq)]
@@ -21,32 +19,5 @@ pub enum DefKind {
     Skip,
 }
 
-/// Definitions, literals first. A contract sees the list of them.
-#[derive(Debug, Drop)]
-pub struct DefIds {
-    items: Vec<DefId>,
-}
-
-impl Model for DefIds {
-    ghost use Rattle.std.specs.Prelude.{List};
-    ghost use Rattle.edit_log.specs.declared.definitions.DefId.{DefId};
-
-    ghost Value = { List DefId };
-
-    ghost view = { λ definitions. definitions.items.items };
-}
-
-impl DefIds {
-    /// The list of these definitions.
-    pub fn from_vec(items: Vec<DefId>) -> DefIds
-        ensures { result ≡ items.items }
-    {
-        DefIds { items }
-    }
-
-    pub fn as_slice(&self) -> &[DefId]
-        ensures { result.now ≡ self.now }
-    {
-        &self.items
-    }
-}
+/// Definitions, literals first.
+pub type DefIds = ListOf<DefId>;

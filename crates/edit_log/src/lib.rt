@@ -23,7 +23,9 @@ mod uses;
 mod verdict;
 
 pub use definitions::{DefId, DefIds, DefKind};
-pub use edit_entry::{BadEntry, ENTRY_WORDS, Entry, decode, encode, entry_or_cause, one_entry};
+pub use edit_entry::{
+    BadEntry, ENTRY_WORDS, Entry, decode, encode, entry_or_cause, limits_of_entries, one_entry,
+};
 pub use grammar::Grammar;
 pub use laws::{numbers_are_new, well_formed_always};
 pub use limits::{LOG_LIMIT, NEW_LIMIT, TOKEN_LIMIT, limits_of_log};

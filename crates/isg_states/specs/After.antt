@@ -5,7 +5,7 @@ use Rattle.edit_log.specs.History.{Grammar}
 use Rattle.isg_states.specs.declared.mark.Mark.{Mark}
 use Rattle.isg_states.specs.Patterns.{Pattern, HasPattern, MarkedWord, classes_in}
 
--- a front of a marked word of the definition ends with the mark, and the classes of that front have the bytes of the piece, one after the other
+-- a prefix of a marked word of the definition ends with the mark, and the classes of that prefix have the bytes of the piece, one after the other
 pub record IsAfter (grammar : Grammar) (piece : List ℕ) (mark : Mark) : Type 0 where
   pub pattern : Pattern
   pub has_pattern : HasPattern grammar mark.def pattern

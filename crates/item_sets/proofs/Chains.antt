@@ -16,7 +16,7 @@ use Rattle.item_sets.specs.Expansions.{InClosure, own, added, InMove, past, HasM
 pub record HasOneRight (rules : List Rule) : Type 0 where
   pub one : (k : RuleId) (a b : List SymbolId) → HasRight rules k a → HasRight rules k b → a ≡ b
 
--- one symbol more of a front
+-- one symbol more of a prefix
 pub take_next : {X : Type 0} (xs : List X) (d : ℕ) (x : X) → slice_get xs d ≡ Some x → take (suc d) xs ≡ take d xs ++ x ∷ []
 take_next [] d x e = cc
 take_next (y ∷ ys) zero x e = let same : y ≡ x = cc in ap (λ z. z ∷ []) same

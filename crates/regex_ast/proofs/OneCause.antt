@@ -8,7 +8,7 @@ use Rattle.regex_ast.specs.Refusals.{HasContinuation, IsBrokenAt, IsEmptyClass, 
 use Rattle.regex_ast.specs.Nests.{State, reading, nest_end, after_byte, after_bytes, first_state, judged, judged_if_whole, answer_of, Stops}
 use Rattle.regex_ast.specs.declared.bad_regex.BadRegex.{BadRegex}
 use Rattle.regex_ast.specs.declared.bad_regex.BadRegex.TheVariants.{Shape, EmptyClass, TooDeep, TooManyPositions, NoMemory}
-use Rattle.regex_ast.specs.declared.findings.Findings.{Findings}
+use Rattle.regex_ast.specs.declared.breaches.Breaches.{Breaches}
 use Rattle.regex_ast.specs.declared.lexer.Mode.TheVariants.{Between, Escaped, Opened, Inside}
 use Rattle.regex_ast.proofs.ReadLemmas.{FoundAt, spelled_read, some_same, none_some, ok_err, err_same, mode_nest, no_place_found, only_answer, found_answer}
 use Rattle.regex_ast.proofs.ReadLemmas.{refused_answer, stop_is_cause, stops_here, goes_on, take_whole}
@@ -105,7 +105,7 @@ same_answer text a b of_a of_b = err_same (sym of_a.answer ∙ ap (λ s. answer_
 
 -- ---- one shape
 
--- the longer front of a text begins with the shorter
+-- the longer prefix of a text begins with the shorter
 take_longer : (n m : ℕ) (text : List ℕ) → n ≤ m → (rest : List ℕ) × (take m text ≡ take n text ++ rest)
 take_longer zero m text le = (take m text, refl)
 take_longer (suc n) zero text le = absurd (omega arith)
@@ -191,7 +191,7 @@ judged_tells None (Some at) many e = tt
 judged_tells None None (Some at) e = tt
 judged_tells None None None e = tt
 
-whole_tells : (read : Option Expression) (f : Findings) (end : ℕ) → Tells (judged_if_whole read f end)
+whole_tells : (read : Option Expression) (f : Breaches) (end : ℕ) → Tells (judged_if_whole read f end)
 whole_tells None f end = tt
 whole_tells (Some e) f end = judged_tells f.empty f.deep f.many e
 

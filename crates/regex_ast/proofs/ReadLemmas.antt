@@ -13,10 +13,10 @@ use Rattle.regex_ast.specs.Refusals.{HasContinuation, IsBrokenAt, is_class, is_o
 use Rattle.regex_ast.specs.Refusals.{IsFirstPlace, IsWithinLimits, SpellsWithinLimits, IsCause}
 use Rattle.regex_ast.specs.Lexing.{lexed}
 use Rattle.regex_ast.specs.Nests.{Nest, levels, put, signed, nest_end, depth_of, first_offset, is_nil, noted_piece, State, reading, accepted, stepped}
-use Rattle.regex_ast.specs.Nests.{after_byte, after_bytes, nothing_found, first_state, judged, judged_if_whole, answer_of, Stops, StopsAt}
+use Rattle.regex_ast.specs.Nests.{after_byte, after_bytes, no_breaches, first_state, judged, judged_if_whole, answer_of, Stops, StopsAt}
 use Rattle.regex_ast.specs.declared.bad_regex.BadRegex.{BadRegex}
 use Rattle.regex_ast.specs.declared.bad_regex.BadRegex.TheVariants.{Shape, EmptyClass, TooDeep, TooManyPositions, NoMemory}
-use Rattle.regex_ast.specs.declared.findings.Findings.{Findings}
+use Rattle.regex_ast.specs.declared.breaches.Breaches.{Breaches}
 use Rattle.regex_ast.specs.declared.lexer.Piece.{Piece}
 use Rattle.regex_ast.specs.declared.lexer.Piece.TheVariants.{OneOf, Open, Close, Bar, StarSign, PlusSign, MaybeSign}
 use Rattle.regex_ast.specs.declared.lexer.Mode.{Mode}
@@ -116,7 +116,7 @@ found_same Bad cuts cut (Some at) h fine = (h.0, h.1, h.2 ++ cut ∷ [], ap (λ 
 found_same Bad cuts cut None h fine = no_more_place Bad cuts cut h fine
 
 -- what was found in the cuts
-pub record FoundIn (cuts : List Cut) (f : Findings) : Type 0 where
+pub record FoundIn (cuts : List Cut) (f : Breaches) : Type 0 where
   pub counted : f.classes ≡ count_by is_class cuts
   pub empties : FoundAt IsEmptyClass cuts f.empty
   pub deeps : FoundAt IsTooDeep cuts f.deep
@@ -134,7 +134,7 @@ true_nil : (set : List ℕ) → OneOf set ≡ OneOf [] → is_nil set ≡ true
 true_nil [] e = refl
 true_nil (x ∷ set) e = let k : x ∷ set ≡ [] = cc in absurd (cons_nil k)
 
-same_found : (cuts : List Cut) (t : List ℕ) (p : Piece) (f : Findings) → FoundIn cuts f → is_class (t, p) ≡ false → (p ≡ OneOf [] → ⊥) → (p ≡ Open → ⊥)
+same_found : (cuts : List Cut) (t : List ℕ) (p : Piece) (f : Breaches) → FoundIn cuts f → is_class (t, p) ≡ false → (p ≡ OneOf [] → ⊥) → (p ≡ Open → ⊥)
     → FoundIn (cuts ++ (t, p) ∷ []) f
 same_found cuts t p f h other full level = record {
   counted = h.counted ∙ sym (count-snoc is_class cuts (t, p) ∙ ap (λ x. count_by is_class cuts + (if x then 1 else 0)) other
@@ -144,7 +144,7 @@ same_found cuts t p f h other full level = record {
   manies = found_same IsOneTooMany cuts (t, p) f.many h.manies (λ b. false≢true (sym other ∙ b.0));
 }
 
-noted_found : (cuts : List Cut) (t : List ℕ) (p : Piece) (s : Nest) (f : Findings) → FoundIn cuts f → AsDeep cuts s
+noted_found : (cuts : List Cut) (t : List ℕ) (p : Piece) (s : Nest) (f : Breaches) → FoundIn cuts f → AsDeep cuts s
     → FoundIn (cuts ++ (t, p) ∷ []) (noted_piece p (depth_of s) (length (cuts_text cuts)) f)
 unfolding AsDeep
 noted_found cuts t (OneOf set) s f h d = record {
@@ -237,7 +237,7 @@ first_reads = (
 )
 
 -- a piece is read to its end
-piece_reads : (text : List ℕ) (s : Nest) (f : Findings) (start : ℕ) (cuts : List Cut) (t : List ℕ) (p : Piece) (o : Option Nest) (u : State)
+piece_reads : (text : List ℕ) (s : Nest) (f : Breaches) (start : ℕ) (cuts : List Cut) (t : List ℕ) (p : Piece) (o : Option Nest) (u : State)
     → AreCutTexts cuts → puts bottom (pieces_of cuts) ≡ Some s → IsPiece t p → text ≡ cuts_text cuts ++ t → FoundIn cuts f → AsDeep cuts s
     → start ≡ length (cuts_text cuts)
     → put p s ≡ o → option_map (λ x. reading Between x (noted_piece p (depth_of s) start f) (length text)) o ≡ Some u → Reads text u
@@ -257,7 +257,7 @@ piece_reads text s f start cuts t p (Some x) u are is piece at found deep begins
     )
 
 -- one more byte
-step_reads : (text : List ℕ) (b : ℕ) (s : Nest) (f : Findings) (start : ℕ) (cuts : List Cut) (rest : List ℕ) (step : Step) (u : State)
+step_reads : (text : List ℕ) (b : ℕ) (s : Nest) (f : Breaches) (start : ℕ) (cuts : List Cut) (rest : List ℕ) (step : Step) (u : State)
     → AreCutTexts cuts → puts bottom (pieces_of cuts) ≡ Some s → text ≡ cuts_text cuts ++ rest → FoundIn cuts f → AsDeep cuts s
     → start ≡ length (cuts_text cuts)
     → Becomes (rest ++ b ∷ []) step → stepped step s f start (suc (length text)) ≡ Some u → Reads (text ++ b ∷ []) u
@@ -305,7 +305,7 @@ all_read text s e = bytes_read text [] first_state s first_reads e
 
 -- ---- what is spelled is read
 -- the bytes that lead from one mode to another change nothing else
-moves_run : (t u : List ℕ) (m n : Mode) (s : Nest) (f : Findings) (start at : ℕ) → Moves m t n
+moves_run : (t u : List ℕ) (m n : Mode) (s : Nest) (f : Breaches) (start at : ℕ) → Moves m t n
     → after_bytes (reading m s f start) at (t ++ u) ≡ after_bytes (reading n s f start) (at + length t) u
 moves_run [] u m n s f start at h = ap (λ k. after_bytes (reading k s f start) at u) h ∙ ap (λ k. after_bytes (reading n s f start) k u) (sym (plus_none at))
 moves_run (b ∷ t) u m n s f start at h =
@@ -313,7 +313,7 @@ moves_run (b ∷ t) u m n s f start at h =
     ap (λ k. option_and_then (λ x. after_bytes x (suc at) (t ++ u)) (stepped k s f start (suc at))) h.1
     ∙ moves_run t u h.0 n s f start (suc at) h.2 ∙ ap (λ k. after_bytes (reading n s f start) k u) e
 
-cut_run : (t u : List ℕ) (p : Piece) (s : Nest) (f : Findings) (at : ℕ) → IsPiece t p
+cut_run : (t u : List ℕ) (p : Piece) (s : Nest) (f : Breaches) (at : ℕ) → IsPiece t p
     → after_bytes (reading Between s f at) at (t ++ u) ≡ option_and_then (λ x. after_bytes x (at + length t) u) (accepted p s f at (at + length t))
 cut_run t u p s f at h =
     let k = piece_completes h in
@@ -324,14 +324,14 @@ cut_run t u p s f at h =
     ∙ ap (λ n. option_and_then (λ y. after_bytes y n u) (accepted p s f at n)) e
 
 -- the state after these cuts, and what was found in all of them
-After : List Cut → List Cut → Nest → Findings → Nest → Type 0
+After : List Cut → List Cut → Nest → Breaches → Nest → Type 0
 After done cuts s f t =
-    (g : Findings) × (after_bytes (reading Between s f (length (cuts_text done))) (length (cuts_text done)) (cuts_text cuts)
+    (g : Breaches) × (after_bytes (reading Between s f (length (cuts_text done))) (length (cuts_text done)) (cuts_text cuts)
     ≡ Some (reading Between t g (length (cuts_text done) + length (cuts_text cuts)))) × FoundIn (done ++ cuts) g
 
-cut_put : (done cuts : List Cut) (c : Cut) (s t : Nest) (f : Findings) (o : Option Nest) → IsPiece c.0 c.1 → put c.1 s ≡ o → FoundIn done f → AsDeep done s
+cut_put : (done cuts : List Cut) (c : Cut) (s t : Nest) (f : Breaches) (o : Option Nest) → IsPiece c.0 c.1 → put c.1 s ≡ o → FoundIn done f → AsDeep done s
     → option_and_then (λ x. puts x (pieces_of cuts)) o ≡ Some t
-    → ((u : Nest) (g : Findings) → FoundIn (done ++ c ∷ []) g → AsDeep (done ++ c ∷ []) u → puts u (pieces_of cuts) ≡ Some t → After (done
+    → ((u : Nest) (g : Breaches) → FoundIn (done ++ c ∷ []) g → AsDeep (done ++ c ∷ []) u → puts u (pieces_of cuts) ≡ Some t → After (done
     ++ c ∷ []) cuts u g t)
     → After done (c ∷ cuts) s f t
 unfolding After
@@ -350,7 +350,7 @@ cut_put done cuts c s t f (Some u) is e found deep h rest =
       subst (λ x. FoundIn x r.0) (append_assoc done (c ∷ []) cuts) r.2,
     )
 
-cuts_run : (cuts done : List Cut) (s t : Nest) (f : Findings) → AreCutTexts cuts → FoundIn done f → AsDeep done s → puts s (pieces_of cuts) ≡ Some t
+cuts_run : (cuts done : List Cut) (s t : Nest) (f : Breaches) → AreCutTexts cuts → FoundIn done f → AsDeep done s → puts s (pieces_of cuts) ≡ Some t
     → After done cuts s f t
 unfolding After
 cuts_run [] done s t f are found deep h = (
@@ -364,11 +364,11 @@ cuts_run (c ∷ cuts) done s t f are found deep h =
 
 -- a text that is spelled in cuts is read to its end
 pub spelled_read : (text : List ℕ) (cuts : List Cut) (e : Expression) → SpellsInCuts text cuts e
-    → (t : Nest) × (f : Findings) × (start : ℕ) × (after_bytes first_state 0 text ≡ Some (reading Between t f start)) × (nest_end t ≡ Some e) × FoundIn cuts f
+    → (t : Nest) × (f : Breaches) × (start : ℕ) × (after_bytes first_state 0 text ≡ Some (reading Between t f start)) × (nest_end t ≡ Some e) × FoundIn cuts f
 unfolding After AsDeep FoundAt
 spelled_read text cuts e h =
     let k = spelled_put h.2 in
-    let r = cuts_run cuts [] bottom k.0 nothing_found h.1 (record {
+    let r = cuts_run cuts [] bottom k.0 no_breaches h.1 (record {
       counted = refl;
       empties = none_in IsEmptyClass;
       deeps = none_in IsTooDeep;
@@ -377,7 +377,7 @@ spelled_read text cuts e h =
     }) refl k.1 in
     (k.0, r.0, _, ap (after_bytes first_state 0) h.0 ∙ r.1, k.2, r.2)
 
--- ---- fronts of texts
+-- ---- prefixes of texts
 bind_bytes : (t u : List ℕ) (at : ℕ) (o : Option State) → ((x : State) → after_bytes x (suc at) (t ++ u)
     ≡ option_and_then (λ y. after_bytes y (suc at + length t) u) (after_bytes x (suc at) t))
     → option_and_then (λ x. after_bytes x (suc at) (t ++ u)) o ≡ option_and_then (λ x. after_bytes x (at + suc (length t)) u)
@@ -391,13 +391,13 @@ after_append : (t u : List ℕ) (s : State) (at : ℕ) → after_bytes s at (t +
 after_append [] u s at = ap (λ n. after_bytes s n u) (sym (plus_none at))
 after_append (b ∷ t) u s at = bind_bytes t u at (after_byte s at b) (λ x. after_append t u x (suc at))
 
--- a front that cannot be read is the front of no expression
+-- a prefix that cannot be read is the prefix of no expression
 pub stopped : (front : List ℕ) → after_bytes first_state 0 front ≡ None → HasContinuation front → ⊥
 stopped front e h =
     let r = spelled_read (front ++ h.0) h.2.0 h.1 h.2.1 in
     none_some (sym (after_append front h.0 first_state 0 ∙ ap (λ o. option_and_then (λ x. after_bytes x (0 + length front) h.0) o) e) ∙ r.3)
 
--- a front that is read is the front of an expression
+-- a prefix that is read is the prefix of an expression
 continued : (front : List ℕ) (s : State) → Reads front s → HasContinuation front
 unfolding Reads
 continued front (reading m s f start) h =
@@ -426,7 +426,7 @@ unfolding FoundAt
 no_place_found Bad cuts None h none = refl
 no_place_found Bad cuts (Some at) h none = absurd (none h.0 h.1 h.2 h.3 h.4)
 
-within_judged : (cuts : List Cut) (f : Findings) (e : Expression) → FoundIn cuts f → IsWithinLimits cuts → judged f.empty f.deep f.many e ≡ Ok e
+within_judged : (cuts : List Cut) (f : Breaches) (e : Expression) → FoundIn cuts f → IsWithinLimits cuts → judged f.empty f.deep f.many e ≡ Ok e
 within_judged cuts f e h w =
     ap (λ o. judged o f.deep f.many e) (no_place_found IsEmptyClass cuts f.empty h.empties w.no_empty_class)
     ∙ ap (λ o. judged None o f.many e) (no_place_found IsTooDeep cuts f.deep h.deeps w.not_too_deep)
@@ -462,16 +462,16 @@ stop_is_cause text (TooDeep at) k = absurd k
 stop_is_cause text (TooManyPositions at) k = absurd k
 stop_is_cause text NoMemory k = tt
 
-pub mode_nest : {t u : Nest} {f g : Findings} {i j : ℕ} → reading Between t f i ≡ reading Between u g j → t ≡ u
+pub mode_nest : {t u : Nest} {f g : Breaches} {i j : ℕ} → reading Between t f i ≡ reading Between u g j → t ≡ u
 mode_nest e = cc
 
-pub other_mode : {t u : Nest} {f g : Findings} {i j : ℕ} → reading Escaped t f i ≡ reading Between u g j → ⊥
+pub other_mode : {t u : Nest} {f g : Breaches} {i j : ℕ} → reading Escaped t f i ≡ reading Between u g j → ⊥
 other_mode e = let k : Escaped ≡ Between = cc in cc
 
-opened_mode : {t u : Nest} {f g : Findings} {i j : ℕ} → reading Opened t f i ≡ reading Between u g j → ⊥
+opened_mode : {t u : Nest} {f g : Breaches} {i j : ℕ} → reading Opened t f i ≡ reading Between u g j → ⊥
 opened_mode e = let k : Opened ≡ Between = cc in cc
 
-inside_mode : {t u : Nest} {f g : Findings} {i j : ℕ} {negated : Bool} {set : List ℕ} {place : Place}
+inside_mode : {t u : Nest} {f g : Breaches} {i j : ℕ} {negated : Bool} {set : List ℕ} {place : Place}
     → reading (Inside negated set place) t f i ≡ reading Between u g j → ⊥
 inside_mode {negated} {set} {place} e = let k : Inside negated set place ≡ Between = cc in cc
 
@@ -501,7 +501,7 @@ stops_here text i s (TooManyPositions at) h e k = absurd k
 stops_here text i s NoMemory h e k = tt
 
 -- ---- the end of the text
-spelled_so : (text : List ℕ) (t : Nest) (f : Findings) (start : ℕ) (e : Expression) → Reads text (reading Between t f start) → nest_end t ≡ Some e
+spelled_so : (text : List ℕ) (t : Nest) (f : Breaches) (start : ℕ) (e : Expression) → Reads text (reading Between t f start) → nest_end t ≡ Some e
     → (cuts : List Cut) × SpellsInCuts text cuts e × FoundIn cuts f
 unfolding Reads
 spelled_so text t f start e h k =
@@ -509,7 +509,7 @@ spelled_so text t f start e h k =
 
 -- the state is not that of an expression's end
 abbrev NotWhole : State → Type 0
-NotWhole s = (t : Nest) (f : Findings) (start : ℕ) (e : Expression) → s ≡ reading Between t f start → nest_end t ≡ Some e → ⊥
+NotWhole s = (t : Nest) (f : Breaches) (start : ℕ) (e : Expression) → s ≡ reading Between t f start → nest_end t ≡ Some e → ⊥
 
 pub take_whole : (xs : List ℕ) → take (length xs) xs ≡ xs
 take_whole [] = refl
@@ -532,7 +532,7 @@ ok_same e = cc
 pub err_same : {A B : Type 0} {x y : B} → ◌≡◌ {A = Result A B} (Err x) (Err y) → x ≡ y
 err_same e = cc
 
-limits_found : (cuts : List Cut) (f : Findings) (e x : Expression) (empty deep many : Option ℕ) → FoundAt IsEmptyClass cuts empty → FoundAt IsTooDeep cuts deep
+limits_found : (cuts : List Cut) (f : Breaches) (e x : Expression) (empty deep many : Option ℕ) → FoundAt IsEmptyClass cuts empty → FoundAt IsTooDeep cuts deep
     → FoundAt IsOneTooMany cuts many
     → judged empty deep many e ≡ Ok x → IsWithinLimits cuts × (e ≡ x)
 unfolding FoundAt
@@ -550,7 +550,7 @@ limit_broken text cuts e refusal None (Some at) many s a b c h = subst (IsCause 
 limit_broken text cuts e refusal None None (Some at) s a b c h = subst (IsCause text) (err_same h) (cuts, e, s, (a, b, c))
 limit_broken text cuts e refusal None None None s a b c h = absurd (ok_err h)
 
-judged_found : (text : List ℕ) (t : Nest) (f : Findings) (start end : ℕ) (x : Expression) (o : Option Expression) → Reads text (reading Between t f start)
+judged_found : (text : List ℕ) (t : Nest) (f : Breaches) (start end : ℕ) (x : Expression) (o : Option Expression) → Reads text (reading Between t f start)
     → nest_end t ≡ o → judged_if_whole o f end ≡ Ok x → SpellsWithinLimits text x
 judged_found text t f start end x None h e k = absurd (ok_err (sym k))
 judged_found text t f start end x (Some y) h e k =
@@ -566,7 +566,7 @@ found_answer text (reading Escaped t f start) end e h k = absurd (ok_err (sym k)
 found_answer text (reading Opened t f start) end e h k = absurd (ok_err (sym k))
 found_answer text (reading (Inside negated set place) t f start) end e h k = absurd (ok_err (sym k))
 
-judged_refused : (text : List ℕ) (t : Nest) (f : Findings) (start : ℕ) (refusal : BadRegex) (o : Option Expression)
+judged_refused : (text : List ℕ) (t : Nest) (f : Breaches) (start : ℕ) (refusal : BadRegex) (o : Option Expression)
     → after_bytes first_state 0 text ≡ Some (reading Between t f start) → nest_end t ≡ o
     → judged_if_whole o f (length text) ≡ Err refusal → IsCause text refusal
 judged_refused text t f start refusal None h e k =

@@ -27,4 +27,4 @@ abbrev pub nest_of : Stack → Nest
 nest_of s = levels (reverse (map layer_of s.outer.items)) (trees_of s.choice) (trees_of s.branch) (trees_of s.factor)
 
 abbrev pub state_of : Reader → State
-state_of r = reading r.mode (nest_of r.stack) r.findings r.start
+state_of r = reading r.mode (nest_of r.stack) r.breaches r.start

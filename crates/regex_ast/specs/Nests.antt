@@ -6,7 +6,7 @@ use Rattle.regex_ast.specs.Expressions.{Expression, class, sequence, choice, sta
 use Rattle.regex_ast.specs.Lexing.{lexed}
 use Rattle.regex_ast.specs.declared.bad_regex.BadRegex.{BadRegex}
 use Rattle.regex_ast.specs.declared.bad_regex.BadRegex.TheVariants.{Shape, EmptyClass, TooDeep, TooManyPositions, NoMemory}
-use Rattle.regex_ast.specs.declared.findings.Findings.{Findings}
+use Rattle.regex_ast.specs.declared.breaches.Breaches.{Breaches}
 use Rattle.regex_ast.specs.declared.lexer.Piece.{Piece}
 use Rattle.regex_ast.specs.declared.lexer.Piece.TheVariants.{OneOf, Open, Close, Bar, StarSign, PlusSign, MaybeSign}
 use Rattle.regex_ast.specs.declared.lexer.Mode.{Mode}
@@ -82,8 +82,8 @@ abbrev pub is_nil : List ℕ → Bool
 is_nil [] = true
 is_nil (x ∷ xs) = false
 
--- the findings after a piece that begins at this offset, inside so many parentheses
-abbrev pub noted_piece : Piece → (depth at : ℕ) → Findings → Findings
+-- the breaches after a piece that begins at this offset, inside so many parentheses
+abbrev pub noted_piece : Piece → (depth at : ℕ) → Breaches → Breaches
 noted_piece (OneOf set) depth at f = record {
   classes = f.classes + 1;
   empty = first_offset f.empty (is_nil set) at;
@@ -98,15 +98,15 @@ noted_piece StarSign depth at f = f
 noted_piece PlusSign depth at f = f
 noted_piece MaybeSign depth at f = f
 
--- the mode, the stack, the findings, and where the piece that is read begins
+-- the mode, the stack, the breaches, and where the piece that is read begins
 pub data State : Type 0 where
-  reading : Mode → Nest → Findings → ℕ → State
+  reading : Mode → Nest → Breaches → ℕ → State
 
 -- the state after a piece, which ends before the offset next
-abbrev pub accepted : Piece → Nest → Findings → (start next : ℕ) → Option State
+abbrev pub accepted : Piece → Nest → Breaches → (start next : ℕ) → Option State
 accepted p s f start next = option_map (λ t. reading Between t (noted_piece p (depth_of s) start f) next) (put p s)
 
-abbrev pub stepped : Step → Nest → Findings → (start next : ℕ) → Option State
+abbrev pub stepped : Step → Nest → Breaches → (start next : ℕ) → Option State
 stepped Refuse s f start next = None
 stepped (Go m) s f start next = Some (reading m s f start)
 stepped (Done p) s f start next = accepted p s f start next
@@ -121,11 +121,11 @@ after_bytes s at [] = Some s
 after_bytes s at (b ∷ bs) = option_and_then (λ t. after_bytes t (suc at) bs) (after_byte s at b)
 
 -- before the first byte
-abbrev pub nothing_found : Findings
-nothing_found = record { classes = 0; empty = None; deep = None; many = None }
+abbrev pub no_breaches : Breaches
+no_breaches = record { classes = 0; empty = None; deep = None; many = None }
 
 abbrev pub first_state : State
-first_state = reading Between (levels [] None None None) nothing_found 0
+first_state = reading Between (levels [] None None None) no_breaches 0
 
 -- the expression, or the first limit that it breaks
 abbrev pub judged : Option ℕ → Option ℕ → Option ℕ → Expression → Result Expression BadRegex
@@ -134,7 +134,7 @@ judged None (Some at) many e = Err (TooDeep at)
 judged None None (Some at) e = Err (TooManyPositions at)
 judged None None None e = Ok e
 
-abbrev pub judged_if_whole : Option Expression → Findings → ℕ → Result Expression BadRegex
+abbrev pub judged_if_whole : Option Expression → Breaches → ℕ → Result Expression BadRegex
 judged_if_whole None f end = Err (Shape end)
 judged_if_whole (Some e) f end = judged f.empty f.deep f.many e
 

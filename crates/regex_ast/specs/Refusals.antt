@@ -9,9 +9,9 @@ use Rattle.regex_ast.specs.declared.limits.TheConstants.{DEPTH_LIMIT, POSITION_L
 
 -- some text after this one makes it an expression
 abbrev pub HasContinuation : List ℕ → Type 0
-HasContinuation front = (rest : List ℕ) × (e : Expression) × SpellsExpression (front ++ rest) e
+HasContinuation prefix = (rest : List ℕ) × (e : Expression) × SpellsExpression (prefix ++ rest) e
 
--- the text is no expression: no expression goes on with the byte at this offset, or the text is the front of one and ends there
+-- the text is no expression: no expression goes on with the byte at this offset, or the text is a prefix of one and ends there
 abbrev pub IsBrokenAt : List ℕ → ℕ → Type 0
 IsBrokenAt text at =
     (at ≤ length text) × HasContinuation (take at text)

@@ -3,7 +3,7 @@
 
 mod bad_regex;
 mod byte_set;
-mod findings;
+mod breaches;
 mod laws;
 mod lexer;
 mod limits;

@@ -8,7 +8,7 @@ ghost use Rattle.regex_ast.specs.Held.{state_of};
 ghost use Rattle.regex_ast.specs.Refusals.{SpellsWithinLimits, IsCause};
 
 use crate::bad_regex::BadRegex;
-use crate::findings::Findings;
+use crate::breaches::Breaches;
 use crate::lexer::{Mode, Step, lex};
 use crate::regex::Regex;
 use crate::stack::Stack;
@@ -19,7 +19,7 @@ use std::alloc::Global;
 pub(crate) struct Reader {
     pub(crate) mode: Mode,
     pub(crate) stack: Stack,
-    pub(crate) findings: Findings,
+    pub(crate) breaches: Breaches,
     /// The offset at which the piece that is read begins.
     pub(crate) start: u32,
 }
@@ -27,28 +27,28 @@ pub(crate) struct Reader {
 impl Reader {
     fn new(alloc: Global) -> Self
         ensures state { state_of result ≡ first_state }
-        ensures few { result.findings.classes ≡ 0 }
+        ensures few { result.breaches.classes ≡ 0 }
     {
         Reader {
             mode: Mode::Between,
             stack: Stack::new(alloc),
-            findings: Findings::new(),
+            breaches: Breaches::new(),
             start: 0,
         }
     }
 
     /// Reads the byte at the offset `at`.
     fn read(self, alloc: Global, at: u32, byte: u8) -> Result<Reader, BadRegex>
-        requires few { self.findings.classes + 1 < 2 ^ 32 }
+        requires few { self.breaches.classes + 1 < 2 ^ 32 }
         requires before { at + 1 < 2 ^ 32 }
         ensures stands { IfOk result (λ next. after_byte (state_of self) at byte ≡ Some (state_of next)) }
-        ensures few { IfOk result (λ next. next.findings.classes ≤ self.findings.classes + 1) }
+        ensures few { IfOk result (λ next. next.breaches.classes ≤ self.breaches.classes + 1) }
         ensures stops { IfErr result (λ refusal. StopsAt (after_byte (state_of self) at byte) at refusal) }
     {
         let Reader {
             mode,
             stack,
-            mut findings,
+            mut breaches,
             start,
         } = self;
         match lex(mode, byte) {
@@ -56,18 +56,18 @@ impl Reader {
             Step::Go(mode) => Ok(Reader {
                 mode,
                 stack,
-                findings,
+                breaches,
                 start,
             }),
             Step::Done(piece) => {
-                findings.note(&piece, stack.depth(), start);
+                breaches.note(&piece, stack.depth(), start);
                 let next = stack.put(alloc, piece).map_err(|_| BadRegex::NoMemory)?;
                 match next {
                     None => Err(BadRegex::Shape { offset: at }),
                     Some(stack) => Ok(Reader {
                         mode: Mode::Between,
                         stack,
-                        findings,
+                        breaches,
                         start: at + 1,
                     }),
                 }
@@ -83,7 +83,7 @@ impl Reader {
         let Reader {
             mode,
             stack,
-            findings,
+            breaches,
             start: _,
         } = self;
         let Mode::Between = mode else {
@@ -92,22 +92,22 @@ impl Reader {
         let regex = stack.finish(alloc).map_err(|_| BadRegex::NoMemory)?;
         match regex {
             None => Err(BadRegex::Shape { offset: end }),
-            Some(regex) => within_limits(regex, findings),
+            Some(regex) => within_limits(regex, breaches),
         }
     }
 }
 
-fn within_limits(regex: Regex, findings: Findings) -> Result<Regex, BadRegex>
-    ensures read { IfOk result (λ kept. judged findings.empty findings.deep findings.many (tree_of regex) ≡ Ok (tree_of kept)) }
-    ensures refused { IfErr result (λ refusal. judged findings.empty findings.deep findings.many (tree_of regex) ≡ Err refusal) }
+fn within_limits(regex: Regex, breaches: Breaches) -> Result<Regex, BadRegex>
+    ensures read { IfOk result (λ kept. judged breaches.empty breaches.deep breaches.many (tree_of regex) ≡ Ok (tree_of kept)) }
+    ensures refused { IfErr result (λ refusal. judged breaches.empty breaches.deep breaches.many (tree_of regex) ≡ Err refusal) }
 {
-    if let Some(offset) = findings.empty {
+    if let Some(offset) = breaches.empty {
         return Err(BadRegex::EmptyClass { offset });
     }
-    if let Some(offset) = findings.deep {
+    if let Some(offset) = breaches.deep {
         return Err(BadRegex::TooDeep { offset });
     }
-    if let Some(offset) = findings.many {
+    if let Some(offset) = breaches.many {
         return Err(BadRegex::TooManyPositions { offset });
     }
     Ok(regex)

@@ -27,7 +27,7 @@ use Rattle.replies.specs.Lines.{reply_text}
 
 -- ---- texts
 
--- the scan of the text is refused for this; never for want of memory
+-- the scan of the text is refused for this; never since memory ran out
 abbrev pub IsRefusedFor : Grammar → List ℕ → ScanError → Type 0
 IsRefusedFor grammar text (NoToken offset) = Tokenizes grammar text (no_token offset)
 IsRefusedFor grammar text (TooManyTokens offset) = Tokenizes grammar text (too_many offset)

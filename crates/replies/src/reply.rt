@@ -1,41 +1,12 @@
 //! Replies to commands, as data.
 
-ghost use Rattle.std.specs.Prelude.{◌≡◌};
-
 use edit_log::Refusal;
 use forest::{Forest, Token};
 use isg_scan::ScanError;
-use std::marker::Model;
+use lists::ListOf;
 
-/// Tokens in the order of their text. A contract sees the list of them.
-#[derive(Drop)]
-pub struct TokenList {
-    items: Vec<Token>,
-}
-
-impl Model for TokenList {
-    ghost use Rattle.std.specs.Prelude.{List};
-    ghost use Rattle.forest.specs.declared.symbols.Token.{Token};
-
-    ghost Value = { List Token };
-
-    ghost view = { λ tokens. tokens.items.items };
-}
-
-impl TokenList {
-    /// The list of these tokens.
-    pub fn from_vec(items: Vec<Token>) -> TokenList
-        ensures { result ≡ items.items }
-    {
-        TokenList { items }
-    }
-
-    pub fn as_slice(&self) -> &[Token]
-        ensures { result.now ≡ self.now }
-    {
-        &self.items
-    }
-}
+/// Tokens in the order of their text.
+pub type TokenList = ListOf<Token>;
 
 /// What the tokens of a text are.
 #[derive(Drop)]

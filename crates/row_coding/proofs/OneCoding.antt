@@ -26,9 +26,9 @@ use Rattle.row_coding.proofs.Inverses.{items_back, HasSmallDot, rules_back, mark
 pub at_each_place : {X : Type 0} (P : X → Type 0) (xs : List X) → ((x : X) → Contains xs x → P x) → All P xs
 at_each_place P xs holds = λ k d below. holds (get_or xs k d) (k, below, get_or_default xs k (get_or xs k d) d below)
 
--- two fronts of one length
-one_front : (xs ys t u : List ℕ) → length xs ≡ length ys → xs ++ t ≡ ys ++ u → (xs ≡ ys) × (t ≡ u)
-one_front xs ys t u len e = (
+-- two prefixes of one length
+one_prefix : (xs ys t u : List ℕ) → length xs ≡ length ys → xs ++ t ≡ ys ++ u → (xs ≡ ys) × (t ≡ u)
+one_prefix xs ys t u len e = (
   sym (take_at xs t (length xs) refl) ∙ ap (take (length xs)) e ∙ take_at ys u (length xs) (sym len),
   sym (drop_at xs t (length xs) refl) ∙ ap (drop (length xs)) e ∙ drop_at ys u (length xs) (sym len),
 )
@@ -62,7 +62,7 @@ one_move a b t u fa fb e =
     let symbol : a.0.0 ≡ b.0.0 = cc in
     let len : length a.1 ≡ length b.1 = cc in
     let tails : map item_word a.1 ++ t ≡ map item_word b.1 ++ u = cc in
-    let parts = one_front (map item_word a.1) (map item_word b.1) t u (length-map a.1 item_word ∙ len ∙ sym (length-map b.1 item_word)) tails in
+    let parts = one_prefix (map item_word a.1) (map item_word b.1) t u (length-map a.1 item_word ∙ len ∙ sym (length-map b.1 item_word)) tails in
     let f : ℕ → Move = λ n. (symbol_of n, a.1) in
     let g : List Item → Move = λ items. (b.0, items) in
     (ap f symbol ∙ ap g (one_items a.1 b.1 fa fb parts.0), parts.1)
@@ -118,7 +118,7 @@ one_range a b t u fa fb e =
     let ends : a.0 * 256 + a.1 ≡ b.0 * 256 + b.1 = cc in
     let len : length (marks_in a.2) ≡ length (marks_in b.2) = cc in
     let tails : map mark_number (marks_in a.2) ++ t ≡ map mark_number (marks_in b.2) ++ u = cc in
-    let parts = one_front (map mark_number (marks_in a.2)) (map mark_number (marks_in b.2)) t u
+    let parts = one_prefix (map mark_number (marks_in a.2)) (map mark_number (marks_in b.2)) t u
     (length-map (marks_in a.2) mark_number ∙ len ∙ sym (length-map (marks_in b.2) mark_number)) tails in
     let both = one_byte_pair a.0 a.1 b.0 b.1 fa.high fb.high ends in
     let in_a = ap marks_in fa.is in

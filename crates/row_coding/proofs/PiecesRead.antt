@@ -1,4 +1,4 @@
--- A piece at the front of a list of words: its first word, its own words, and what follows.
+-- A piece that a list of words begins with: its first word, its own words, and what follows.
 use Rattle.std.proofs.Common.{◌≡◌, ℕ, ◌+◌, List, ◌∷◌, ◌++◌, length, get_or, take, drop, refl, ap, ◌∙◌, arith, length-append}
 use Rattle.std.proofs.lemmas.List.{take_at, drop_at}
 use Rattle.row_coding.specs.Reading.{IsCounted, counted_words, rest_of}

@@ -1,4 +1,4 @@
--- Reading a text from its front.
+-- Reading a text from its start.
 use Rattle.std.proofs.Common.{◌≡◌, ℕ, List, [], ◌∷◌, ◌++◌, length, Option, Some, None, option_map, refl, ap, append_assoc, append-nil, sym, arith}
 use Rattle.script_text.specs.Texts.{after_byte, text_written}
 

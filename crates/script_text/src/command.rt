@@ -1,9 +1,7 @@
 //! What a script asks for.
 
-ghost use Rattle.std.specs.Prelude.{◌≡◌};
-
 use grammar_text::{Edit, Text};
-use std::marker::Model;
+use lists::ListOf;
 
 /// What one line of a script asks for.
 #[derive(Debug, Drop)]
@@ -18,35 +16,8 @@ pub enum Command {
     Stats,
 }
 
-/// Commands in their order. A contract sees the list of them.
-#[derive(Debug, Drop)]
-pub struct Commands {
-    items: Vec<Command>,
-}
-
-impl Model for Commands {
-    ghost use Rattle.std.specs.Prelude.{List};
-    ghost use Rattle.script_text.specs.declared.command.Command.{Command};
-
-    ghost Value = { List Command };
-
-    ghost view = { λ commands. commands.items.items };
-}
-
-impl Commands {
-    /// The list of these commands.
-    pub fn from_vec(items: Vec<Command>) -> Commands
-        ensures { result ≡ items.items }
-    {
-        Commands { items }
-    }
-
-    pub fn as_slice(&self) -> &[Command]
-        ensures { result.now ≡ self.now }
-    {
-        &self.items
-    }
-}
+/// Commands in their order.
+pub type Commands = ListOf<Command>;
 
 /// A part of a script.
 #[derive(Debug, Drop)]
@@ -57,35 +28,8 @@ pub enum Block {
     Par(Commands),
 }
 
-/// Blocks in their order. A contract sees the list of them.
-#[derive(Debug, Drop)]
-pub struct Blocks {
-    items: Vec<Block>,
-}
-
-impl Model for Blocks {
-    ghost use Rattle.std.specs.Prelude.{List};
-    ghost use Rattle.script_text.specs.declared.command.Block.{Block};
-
-    ghost Value = { List Block };
-
-    ghost view = { λ blocks. blocks.items.items };
-}
-
-impl Blocks {
-    /// The list of these blocks.
-    pub fn from_vec(items: Vec<Block>) -> Blocks
-        ensures { result ≡ items.items }
-    {
-        Blocks { items }
-    }
-
-    pub fn as_slice(&self) -> &[Block]
-        ensures { result.now ≡ self.now }
-    {
-        &self.items
-    }
-}
+/// Blocks in their order.
+pub type Blocks = ListOf<Block>;
 
 /// A script that was read: its blocks in the order of its lines.
 #[derive(Debug, Drop)]

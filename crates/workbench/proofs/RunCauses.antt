@@ -52,7 +52,7 @@ silent_not_bad left left_new taken told runs =
     let amount = one_amount taken taken (bad_line runs.bad) [] told runs.taken (Takes-none taken) in
     omega (arith, line_has_bytes runs.bad, amount)
 
--- a sink that took a front of the output, where the line is not whole, did not take the line
+-- a sink that took a prefix of the output, where the line is not whole, did not take the line
 stopped_not_bad : (taken taken_new : Option (List ℕ)) (script : List ℕ) (line : ABadScript) → TellsBytes taken → StopsInOutput taken taken_new script
     → IsFirstBad script line → Takes taken taken_new (bad_line line) → ⊥
 stopped_not_bad taken taken_new script line told (of_replies read spelled first) is takes = not_both script read line spelled is

@@ -13,7 +13,7 @@ returns-in_err-reader-clause-stops c =
 
 pub loop-at-preserved : goal.loop-at-preserved
 loop-at-preserved c =
-    let few : c.in_ok-reader.reader.findings.classes ≤ c.loop-at.at + 1 = omega (arith, c.in_ok-reader.ensures.few, c.loop-at.invariant.1) in (
+    let few : c.in_ok-reader.reader.breaches.classes ≤ c.loop-at.at + 1 = omega (arith, c.in_ok-reader.ensures.few, c.loop-at.invariant.1) in (
       goes_on c.args.text.now c.loop-at.at (state_of c.loop-at.reader) (state_of c.in_ok-reader.reader) c.loop-at-test.true c.loop-at.invariant.0
           c.in_ok-reader.ensures.stands,
       few,

@@ -1,4 +1,4 @@
-//! Where a text leaves the limits.
+//! Where a text breaks the limits.
 
 ghost use Rattle.std.specs.Prelude.{◌≡◌, ◌<◌, ◌+◌, ◌^◌, ◌≤◌, None};
 ghost use Rattle.regex_ast.specs.Nests.{noted_piece};
@@ -6,9 +6,9 @@ ghost use Rattle.regex_ast.specs.Nests.{noted_piece};
 use crate::lexer::Piece;
 use crate::limits::{DEPTH_LIMIT, POSITION_LIMIT};
 
-/// Where a text leaves the limits, while its shape is read to the end.
+/// Where a text breaks the limits, while its shape is read to the end.
 #[derive(Clone, Copy)]
-pub(crate) struct Findings {
+pub(crate) struct Breaches {
     /// How many classes there are so far.
     pub(crate) classes: u32,
     /// The first class with no byte.
@@ -19,11 +19,11 @@ pub(crate) struct Findings {
     pub(crate) many: Option<u32>,
 }
 
-impl Findings {
+impl Breaches {
     pub(crate) fn new() -> Self
         ensures { result ≡ record { classes = 0; empty = None; deep = None; many = None } }
     {
-        Findings {
+        Breaches {
             classes: 0,
             empty: None,
             deep: None,
