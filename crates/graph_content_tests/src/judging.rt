@@ -3,9 +3,9 @@
 ghost use Rattle.edit_log.specs.Verdict.{IsProper};
 
 use crate::answers::{dropped_of, touch_of};
-use crate::histories::{prepared, proper, take};
 use crate::rows::Told;
 use crate::{item_rows, scan_rows};
+use edit_lines::{prepared, proper, take};
 use edit_log::{Grammar, Refusal, Touch};
 use grammar_text::Edit;
 use graph_content::Modify;

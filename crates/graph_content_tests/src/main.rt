@@ -7,7 +7,6 @@
 #![tactic(auto)]
 
 mod answers;
-mod histories;
 mod item_rows;
 mod judging;
 mod rows;

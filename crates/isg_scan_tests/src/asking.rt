@@ -1,7 +1,7 @@
 //! The questions of the input.
 
-use crate::histories::take_line;
 use crate::{items, keys, scans, states};
+use edit_lines::take_line;
 use edit_log::{Grammar, Refusal};
 use std::alloc::{AllocError, Global};
 

@@ -7,7 +7,6 @@
 #![tactic(auto)]
 
 mod asking;
-mod histories;
 mod items;
 mod keys;
 mod recorder;

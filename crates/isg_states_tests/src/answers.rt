@@ -5,7 +5,6 @@
 
 use edit_log::{DefId, Grammar};
 use isg_states::Mark;
-use regex_ast::Positions;
 
 pub(crate) fn version_of(grammar: &Grammar) -> u32 {
     grammar.version()
@@ -13,10 +12,6 @@ pub(crate) fn version_of(grammar: &Grammar) -> u32 {
 
 pub(crate) fn live_of(grammar: &Grammar) -> &[DefId] {
     grammar.live_defs()
-}
-
-pub(crate) fn positions_of(grammar: &Grammar, definition: DefId) -> Option<&Positions> {
-    grammar.positions(definition)
 }
 
 pub(crate) fn number_of(mark: Mark) -> u64 {

@@ -1,8 +1,8 @@
 //! The questions of the input.
 
 use crate::answers::version_of;
-use crate::histories::take_line;
 use crate::{plain_search, states};
+use edit_lines::take_line;
 use edit_log::{Grammar, Refusal};
 use std::alloc::{AllocError, Global};
 

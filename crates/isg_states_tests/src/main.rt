@@ -7,7 +7,6 @@
 
 mod answers;
 mod asking;
-mod histories;
 mod plain_search;
 mod states;
 mod telling;

@@ -1,6 +1,5 @@
 //! The questions of the input.
 
-use crate::histories::take_line;
 use crate::lookups::{
     told_kind, told_literal, told_live, told_names, told_numbers, told_positions, told_rule,
     told_under,
@@ -8,6 +7,7 @@ use crate::lookups::{
 use crate::plain_scanner::told_tokens;
 use crate::touches::told_touch;
 use crate::verdicts::{told_edit, told_entry, told_fill, told_new};
+use edit_lines::take_line;
 use edit_log::Grammar;
 use std::alloc::{AllocError, Global};
 

@@ -6,7 +6,6 @@
 
 mod answers;
 mod asking;
-mod histories;
 mod lookups;
 mod plain_scanner;
 mod telling;

@@ -3,9 +3,9 @@
 ghost use Rattle.edit_log.specs.Verdict.{IsProper};
 
 use crate::answers::touch_of;
-use crate::histories::{prepared, proper, take};
 use crate::telling::{tell, tell_definitions};
 use crate::verdicts::refused;
+use edit_lines::{prepared, proper, take};
 use edit_log::{Grammar, Refusal, Touch};
 use grammar_text::Edit;
 use std::alloc::{AllocError, Global};

@@ -1,7 +1,7 @@
 //! What a grammar takes, and why it does not take an edit.
 
 use crate::answers::version_of;
-use crate::histories::{entry_line, take_line};
+use edit_lines::{entry_line, take_line};
 use edit_log::{Entry, Grammar, LOG_LIMIT, Refusal};
 use grammar_text::Name;
 use std::alloc::{AllocError, Global};

@@ -8,7 +8,7 @@ ghost use Rattle.regex_ast.specs.Refusals.{SpellsWithinLimits};
 ghost use Rattle.edit_log.specs.Replicas.{IsReadyFor};
 ghost use Rattle.edit_log.specs.Verdict.{IsProper, HasExpression};
 
-use edit_log::{Grammar, Ready, Refusal, may};
+use edit_log::{Entry, Grammar, Ready, Refusal, may};
 use grammar_text::{EDIT_LIMIT, Edit, Text, read_edit};
 use regex_ast::read_regex;
 use std::alloc::{AllocError, Global};
@@ -61,7 +61,7 @@ fn check_expressions(alloc: Global, edit: &Edit) -> Result<(), AllocError>
 }
 
 /// The edit of a line that a grammar may be asked for. A line that is no edit counts as out of memory.
-fn proper(alloc: Global, line: &str) -> Result<Edit, AllocError>
+pub fn proper(alloc: Global, line: &str) -> Result<Edit, AllocError>
     ensures { IfOk result IsProper }
 {
     let edit = read(alloc, line)?;
@@ -70,7 +70,7 @@ fn proper(alloc: Global, line: &str) -> Result<Edit, AllocError>
 }
 
 /// The edit ready to be applied, where the grammar takes it.
-fn prepared(alloc: Global, grammar: &mut Grammar, edit: &Edit) -> Result<Ready, Refusal>
+pub fn prepared(alloc: Global, grammar: &mut Grammar, edit: &Edit) -> Result<Ready, Refusal>
     requires { IsProper edit.now }
     ensures { IfOk result (IsReadyFor grammar.new edit.now) }
 {
@@ -80,7 +80,7 @@ fn prepared(alloc: Global, grammar: &mut Grammar, edit: &Edit) -> Result<Ready, 
 }
 
 /// Applies the edit where the grammar takes it.
-fn take(alloc: Global, grammar: &mut Grammar, edit: &Edit) -> Result<(), Refusal>
+pub fn take(alloc: Global, grammar: &mut Grammar, edit: &Edit) -> Result<(), Refusal>
     requires { IsProper edit.now }
 {
     let ready = prepared(alloc, grammar, edit)?;
@@ -89,7 +89,13 @@ fn take(alloc: Global, grammar: &mut Grammar, edit: &Edit) -> Result<(), Refusal
 }
 
 /// Applies the edit of the line where the grammar takes it.
-pub(crate) fn take_line(alloc: Global, grammar: &mut Grammar, line: &str) -> Result<(), Refusal> {
+pub fn take_line(alloc: Global, grammar: &mut Grammar, line: &str) -> Result<(), Refusal> {
     let edit = proper(alloc, line)?;
     take(alloc, grammar, &edit)
+}
+
+/// The entry of the edit of the line.
+pub fn entry_line(alloc: Global, grammar: &Grammar, line: &str) -> Result<Entry, Refusal> {
+    let edit = proper(alloc, line)?;
+    may(alloc, grammar, &edit)
 }
