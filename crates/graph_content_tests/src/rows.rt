@@ -27,7 +27,10 @@ pub(crate) fn keep(modify: &mut Modify<'_>, row: &[u64]) -> bool
 }
 
 /// Adds the keys that are not there.
-pub(crate) fn add_new<K: PartialEq + Drop>(keys: &mut Vec<K>, found: Vec<K>) -> Result<(), AllocError> {
+pub(crate) fn add_new<K: PartialEq + Drop>(
+    keys: &mut Vec<K>,
+    found: Vec<K>,
+) -> Result<(), AllocError> {
     for key in found {
         if !keys.contains(&key) {
             keys.push(key)?;

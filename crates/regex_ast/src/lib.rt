@@ -2,8 +2,8 @@
 #![tactic(auto)]
 
 mod bad_regex;
-mod byte_set;
 mod breaches;
+mod byte_set;
 mod laws;
 mod lexer;
 mod limits;
