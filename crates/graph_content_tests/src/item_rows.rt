@@ -8,7 +8,7 @@ ghost use Rattle.row_coding.specs.Rows.{kernel as kernel_key, row_words};
 ghost use Rattle.graph_content.specs.Affected.{IsKey};
 ghost use Rattle.graph_content.specs.Rows.{Fits};
 
-use crate::rows::{Told, add_new, keep, row_of, stays};
+use crate::rows::{Told, keep, row_of, stays};
 use edit_log::Grammar;
 use graph_content::{Modify, item_key, item_payload};
 use item_sets::{Expansion, Item, Kernel, expand};
@@ -104,6 +104,16 @@ fn behind(alloc: Global, expansion: &Expansion) -> Result<Vec<Kernel>, AllocErro
         found.push(entry.1.clone()?)?;
     }
     Ok(found)
+}
+
+/// Adds the kernels that are not there.
+fn add_new(kernels: &mut Vec<Kernel>, found: Vec<Kernel>) -> Result<(), AllocError> {
+    for kernel in found {
+        if !kernels.contains(&kernel) {
+            kernels.push(kernel)?;
+        }
+    }
+    Ok(())
 }
 
 /// Adds the kernels behind the moves of this one that are not there.

@@ -26,19 +26,6 @@ pub(crate) fn keep(modify: &mut Modify<'_>, row: &[u64]) -> bool
     modify.keep(row)
 }
 
-/// Adds the keys that are not there.
-pub(crate) fn add_new<K: PartialEq + Drop>(
-    keys: &mut Vec<K>,
-    found: Vec<K>,
-) -> Result<(), AllocError> {
-    for key in found {
-        if !keys.contains(&key) {
-            keys.push(key)?;
-        }
-    }
-    Ok(())
-}
-
 /// How many rows were kept and refused, and how many of them wrongly.
 #[derive(Drop)]
 pub(crate) struct Told {

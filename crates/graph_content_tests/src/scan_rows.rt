@@ -9,7 +9,7 @@ ghost use Rattle.row_coding.specs.Rows.{scan as scanner_key, row_words};
 ghost use Rattle.graph_content.specs.Affected.{IsKey};
 ghost use Rattle.graph_content.specs.Rows.{Fits};
 
-use crate::rows::{Told, add_new, keep, row_of, stays};
+use crate::rows::{Told, keep, row_of, stays};
 use edit_log::Grammar;
 use graph_content::{Modify, scan_key, scan_payload};
 use isg_states::{Mark, ScanExpansion, ScanKey, expand_scan};
@@ -112,6 +112,16 @@ fn behind(alloc: Global, expansion: &ScanExpansion) -> Result<Vec<ScanKey>, Allo
         found.push(range.2.clone()?)?;
     }
     Ok(found)
+}
+
+/// Adds the keys that are not there.
+fn add_new(keys: &mut Vec<ScanKey>, found: Vec<ScanKey>) -> Result<(), AllocError> {
+    for key in found {
+        if !keys.contains(&key) {
+            keys.push(key)?;
+        }
+    }
+    Ok(())
 }
 
 /// Adds the keys to which bytes lead from this one and that are not there.
