@@ -1,1 +1,5 @@
 pub mod Chains
+pub mod Columns
+pub mod Growing
+pub mod Above
+pub mod Searching

@@ -3,3 +3,4 @@ pub mod PlaceGraphs
 pub mod KernelGraphs
 pub mod Paths
 pub mod Chains
+pub mod Rows
