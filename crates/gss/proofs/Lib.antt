@@ -3,3 +3,4 @@ pub mod Columns
 pub mod Growing
 pub mod Above
 pub mod Searching
+pub mod Reading

@@ -88,7 +88,9 @@ impl StackGraph {
         ensures ends { AreEndsNodes self.now }
         ensures few_nodes { length self.now.nodes < 2 ^ 32 }
         ensures few_links { length self.now.links < 2 ^ 32 }
-    {}
+    {
+        let _ = &self.nodes;
+    }
 
     /// The node with this number.
     #[inline]
