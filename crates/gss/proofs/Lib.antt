@@ -4,3 +4,5 @@ pub mod Growing
 pub mod Above
 pub mod Searching
 pub mod Reading
+pub mod LinkWalks
+pub mod KernelNumbers

@@ -4,3 +4,4 @@ pub mod KernelGraphs
 pub mod Paths
 pub mod Chains
 pub mod Rows
+pub mod Views
