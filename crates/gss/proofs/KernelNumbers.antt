@@ -1,5 +1,5 @@
 -- Kernels by numbers, and nodes by the numbers of their kernels.
-use Rattle.std.proofs.Common.{◌≡◌, inl, inr, ◌⊎◌, ℕ, zero, suc, ◌<◌, Bool, true, false, List, [], ◌∷◌, ◌++◌, length, map, get_or, position, Option, None, Some}
+use Rattle.std.proofs.Common.{◌≡◌, inl, inr, ◌⊎◌, ℕ, zero, suc, ◌<◌, Bool, true, false, List, [], ◌∷◌, ◌++◌, length, map, get_or, position, Option, None, Some, Result, Ok, Err, OnErr}
 use Rattle.std.proofs.Common.{is_some, slice_get, Contains, refl, sym, ap, ◌∙◌, subst, arith}
 use Rattle.std.specs.Prelude.{if◌then◌else◌, nat_eq}
 use Rattle.std.specs.Bool.{Decides}
@@ -137,3 +137,42 @@ module _ (kernels : List (List Item)) (nodes : List Place) (state at : ℕ) (ker
       let its_state : node.state ≡ state = are.distinct node.state state kernel its is in
       let node_is : node ≡ place_of state at = ap (λ s. place_of s node.at) its_state ∙ ap (λ p. place_of state p) its_at in
       none (n, at_n ∙ ap (λ (p : Place). Some p) node_is)
+
+-- ---- what a call for a node leaves
+
+pub on_err : {T E P : Type 0} (r : Result T E) → P → OnErr r P
+on_err (Ok x) p = tt
+on_err (Err e) p = p
+
+module _ (kernels more : List (List Item)) (nodes : List Place) (state at : ℕ) (kernel : List Item) (are : AreNumbered kernels nodes)
+    (keeps : KeepsNumbers kernels more) (distinct : AreKernelsDistinct more) (is : slice_get more state ≡ Some kernel) where
+  -- the node was there
+  pub there_before : (n : ℕ) → slice_get nodes n ≡ Some (place_of state at) → IsThere (nodes_in kernels nodes) (nodes_in more nodes) (kernel_at kernel at)
+  there_before n here =
+      let same : nodes_in more nodes ≡ nodes_in kernels nodes = same_nodes kernels more keeps nodes are.within in
+      inr (
+        contains_at (nodes_in kernels nodes) n (kernel_at kernel at)
+        (subst (λ (qs : List KernelPlace). slice_get qs n ≡ Some (kernel_at kernel at)) same (node_there more nodes state at kernel is n here)),
+        same,
+      )
+
+  -- the node is new
+  pub there_now : (new : List Place) → new ≡ nodes ++ place_of state at ∷ [] → (HasNode nodes state at → ⊥)
+      → IsThere (nodes_in kernels nodes) (nodes_in more new) (kernel_at kernel at)
+  there_now new new_is none =
+      let same : nodes_in more nodes ≡ nodes_in kernels nodes = same_nodes kernels more keeps nodes are.within in
+      inl (
+        λ c. node_new more nodes state at kernel is (still_numbered kernels more keeps nodes are distinct) none
+        (subst (λ (qs : List KernelPlace). Contains qs (kernel_at kernel at)) (sym same) c),
+        ap (nodes_in more) new_is ∙ nodes_more more nodes state at kernel is ∙ ap (λ (qs : List KernelPlace). qs ++ kernel_at kernel at ∷ []) same,
+      )
+
+  pub numbered_now : (new : List Place) → new ≡ nodes ++ place_of state at ∷ [] → AreNumbered more new
+  numbered_now new new_is = subst (λ (ps : List Place). AreNumbered more ps) (sym new_is)
+      (numbered_more more nodes state at kernel is (still_numbered kernels more keeps nodes are distinct))
+
+  pub last_there : (new : List Place) (n : ℕ) → new ≡ nodes ++ place_of state at ∷ [] → n ≡ length nodes
+      → slice_get (nodes_in more new) n ≡ Some (kernel_at kernel at)
+  last_there new n new_is size = node_there more new state at kernel is n
+      (subst (λ (ps : List Place). slice_get ps n ≡ Some (place_of state at)) (sym new_is)
+      (subst (λ m. slice_get (nodes ++ place_of state at ∷ []) m ≡ Some (place_of state at)) (sym size) (get_new nodes (place_of state at))))

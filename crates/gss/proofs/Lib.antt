@@ -6,3 +6,4 @@ pub mod Searching
 pub mod Reading
 pub mod LinkWalks
 pub mod KernelNumbers
+pub mod PathLists
