@@ -152,7 +152,7 @@ module _ (kernels more : List (List Item)) (nodes : List Place) (state at : ℕ)
       let same : nodes_in more nodes ≡ nodes_in kernels nodes = same_nodes kernels more keeps nodes are.within in
       inr (
         contains_at (nodes_in kernels nodes) n (kernel_at kernel at)
-        (subst (λ (qs : List KernelPlace). slice_get qs n ≡ Some (kernel_at kernel at)) same (node_there more nodes state at kernel is n here)),
+            (subst (λ (qs : List KernelPlace). slice_get qs n ≡ Some (kernel_at kernel at)) same (node_there more nodes state at kernel is n here)),
         same,
       )
 
@@ -163,7 +163,7 @@ module _ (kernels more : List (List Item)) (nodes : List Place) (state at : ℕ)
       let same : nodes_in more nodes ≡ nodes_in kernels nodes = same_nodes kernels more keeps nodes are.within in
       inl (
         λ c. node_new more nodes state at kernel is (still_numbered kernels more keeps nodes are distinct) none
-        (subst (λ (qs : List KernelPlace). Contains qs (kernel_at kernel at)) (sym same) c),
+            (subst (λ (qs : List KernelPlace). Contains qs (kernel_at kernel at)) (sym same) c),
         ap (nodes_in more) new_is ∙ nodes_more more nodes state at kernel is ∙ ap (λ (qs : List KernelPlace). qs ++ kernel_at kernel at ∷ []) same,
       )
 

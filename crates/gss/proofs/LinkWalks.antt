@@ -150,7 +150,7 @@ module _ (links : List Edge) (node : ℕ) where
       added = elim adds [
         | inl old ↦ subst (λ xs. Contains xs edge.lower) (sym old.1) old.0
         | inr new ↦ subst (λ xs. Contains xs edge.lower) (sym new.1)
-        (Contains-append_right found (edge.lower ∷ []) edge.lower (contains_here edge.lower []))
+            (Contains-append_right found (edge.lower ∷ []) edge.lower (contains_here edge.lower []))
       ]
 
   pub below_all : (found : List ℕ) → AreBelowSoFar links node None found → AreAll (λ lower. Leads (links_in links) (node_id node) (node_id lower)) found

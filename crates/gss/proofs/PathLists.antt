@@ -1,16 +1,19 @@
 -- Lists of paths, which get one link longer at a time.
-use Rattle.std.proofs.Common.{◌≡◌, inl, inr, ◌⊎◌, ℕ, zero, suc, ◌+◌, ◌<◌, ◌≤◌, List, [], ◌∷◌, ◌++◌, length, map, take, get_or, Some, slice_get, Contains, refl}
+use Rattle.std.proofs.Common.{◌≡◌, inl, inr, ◌⊎◌, ℕ, zero, suc, ◌+◌, ◌<◌, ◌≤◌, List, [], ◌∷◌, ◌++◌, length, map, take, get_or, None, Some, slice_get, Contains, refl}
 use Rattle.std.proofs.Common.{sym, ap, ◌∙◌, subst, arith, add-one, length-append}
 use Rattle.std.proofs.lemmas.List.Elements.{Contains-append_cases, Contains-append_left, Contains-append_right, Contains-push, Contains-push_cases}
 use Rattle.std.proofs.lemmas.Option.{same_Some}
 use Rattle.forest.specs.Distinct.{IsDistinct}
 use Rattle.forest.proofs.Ascending.{contains_here, contains_there, contains_cases}
 use Rattle.item_sets.proofs.DistinctLists.{distinct_append}
+use Rattle.gss.specs.declared.stack_graph.Edge.{Edge}
 use Rattle.gss.specs.declared.stacks.NodeId.{NodeId}
+use Rattle.gss.specs.declared.stacks.LinkId.{LinkId}
 use Rattle.gss.specs.declared.paths.Path.{Path}
 use Rattle.gss.specs.KernelGraphs.{Link}
-use Rattle.gss.specs.Paths.{node_id, Leads, IsPathDown, AreAll}
-use Rattle.gss.specs.Views.{with_node, HasBelow, AreLonger}
+use Rattle.gss.specs.Paths.{node_id, Leads, IsPathDown, HasStep, GoesThrough, IsPathOf, AreAll}
+use Rattle.gss.specs.Views.{link_in, links_in, with_node, HasBelow, AreLonger}
+use Rattle.gss.proofs.Columns.{to_column}
 
 -- ---- plain lists
 
@@ -142,8 +145,8 @@ module _ (links : List Link) where
         let f : ℕ → Path = λ lower. with_node path (node_id lower) in
         record {
           once = distinct_append found (map f below) are.once
-          (distinct_map f (λ x z e. ap (λ (q : NodeId). q.0) (with_node_inj path path (node_id x) (node_id z) e).1) below lowers.distinct)
-          (λ p c d.
+              (distinct_map f (λ x z e. ap (λ (q : NodeId). q.0) (with_node_inj path path (node_id x) (node_id z) e).1) below lowers.distinct)
+              (λ p c d.
               let old = are.within p c in
               let (low, there, is) = map_contains f below p d in
               let same : old.0 ≡ path = (with_node_inj old.0 path old.1 (node_id low) (sym old.2 ∙ sym is)).0 in
@@ -205,3 +208,26 @@ module _ (S : Path → Type 0) (done : List Path) (path : Path) (found : List Pa
       | inr e ↦ absurd (none (subst S (sym e) h.1))
     ];
   }
+
+-- ---- through a link
+
+module _ (edges : List Edge) (node : NodeId) (n : ℕ) (paths : List Path) (are : AreAll (λ (p : Path). IsPathDown (links_in edges) node n p.nodes) paths) where
+  pub all_plain : AreAll (IsPathOf (links_in edges) node n None) paths
+  all_plain = record {
+    distinct = are.distinct;
+    within = λ p c. record { down = are.within p c; passes = tt };
+    all = λ p is. are.all p is.down;
+  }
+
+  pub all_through : (through : LinkId) (edge : Edge) (found : List Path) → slice_get edges through.0 ≡ Some edge
+      → AreAll (λ (p : Path). Contains paths p × HasStep p.nodes edge.upper edge.lower) found → AreAll (IsPathOf (links_in edges) node n (Some through)) found
+  all_through through edge found at some =
+      let here : slice_get (links_in edges) through.0 ≡ Some (link_in edge) = to_column link_in edges through.0 edge at in
+      record {
+        distinct = some.distinct;
+        within = λ p c. let w = some.within p c in record { down = are.within p w.0; passes = (link_in edge, here, w.1) };
+        all = λ p is.
+            let (link, at_link, step) = is.passes in
+            let same : link ≡ link_in edge = same_Some _ _ (sym at_link ∙ here) in
+            some.all p (are.all p is.down, subst (λ (l : Link). HasStep p.nodes l.upper l.lower) same step);
+      }

@@ -110,9 +110,11 @@ fn paths_down(
     ensures { IfOk result (λ found. AreAll (λ path. IsPathDown (links_in graph.now.links) node count path.nodes) found.items) }
 {
     let mut found = Vec::new(alloc);
-    found.push(alone(alloc, node)?)?;
+    let path = alone(alloc, node)?;
+    found.push(path)?;
     for at in 0..count {
-        if found.is_empty() {
+        let many = found.len();
+        if many == 0 {
             return Ok(found);
         }
         found = longer(alloc, graph, &found, at)?;
@@ -152,7 +154,8 @@ fn with_step(alloc: Global, paths: &[Path], upper: u32, lower: u32) -> Result<Ve
     let mut found = Vec::new(alloc);
     for path in paths {
         if has_step(path, upper, lower) {
-            found.push(copied(alloc, path)?)?;
+            let copy = copied(alloc, path)?;
+            found.push(copy)?;
         }
     }
     Ok(found)

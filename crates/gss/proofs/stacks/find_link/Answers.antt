@@ -34,9 +34,9 @@ links-preserved c =
     let so_far = subst (λ (next : Option ℕ). IsNotFound c.args.graph.now.links link next) c.in-Some.is c.links.invariant in
     elim c.else-edge-lower.branch [
       | else-edge-lower-via-then-edge-lower+else-edge-symbol w ↦ not_found_next c.args.graph.now.links link c.in-Some.link c.edge-edge.result
-      c.next_link-next.result c.edge-edge.ensures (inr w.if-edge-symbol.false) so_far c.next_link-next.ensures.next c.next_link-next.ensures.none
+          c.next_link-next.result c.edge-edge.ensures (inr w.if-edge-symbol.false) so_far c.next_link-next.ensures.next c.next_link-next.ensures.none
       | else-edge-lower-via-else-edge-lower w ↦ not_found_next c.args.graph.now.links link c.in-Some.link c.edge-edge.result
-      c.next_link-next.result c.edge-edge.ensures (inl w.if-edge-lower.false) so_far c.next_link-next.ensures.next c.next_link-next.ensures.none
+          c.next_link-next.result c.edge-edge.ensures (inl w.if-edge-lower.false) so_far c.next_link-next.ensures.next c.next_link-next.ensures.none
     ]
 
 pub returns-clause-none : goal.returns-clause-none
