@@ -6,7 +6,7 @@ use Rattle.std.proofs.lemmas.Option.{slice_get_within, same_Some}
 use Rattle.forest.specs.declared.symbols.SymbolId.{SymbolId}
 use Rattle.gss.specs.declared.stack_graph.Edge.{Edge}
 use Rattle.gss.specs.declared.rows.LinkRow.{LinkRow}
-use Rattle.gss.specs.Numbers.{IsGreatest, HasNone}
+use Rattle.gss.specs.Numbers.{IsGreatest}
 use Rattle.gss.specs.PlaceGraphs.{LeadsToBy}
 use Rattle.gss.specs.Chains.{none, IsKey, IsEarlier, AreOlders, TellsGreatest, greatest, no_greatest}
 use Rattle.gss.specs.Rows.{edges, lowers, olders}

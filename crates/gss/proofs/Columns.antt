@@ -6,7 +6,7 @@ use Rattle.std.proofs.lemmas.List.{map-set}
 use Rattle.std.proofs.lemmas.Option.{slice_get-get_or, slice_get_within, same_Some}
 use Rattle.gss.specs.declared.rows.NodeRow.{NodeRow}
 use Rattle.gss.specs.declared.rows.LinkRow.{LinkRow}
-use Rattle.gss.specs.Rows.{places, PutsAbove, PutsLast, PutsFirst, PutsNext}
+use Rattle.gss.specs.Rows.{PutsAbove, PutsLast, PutsFirst, PutsNext}
 
 pub to_column : {X Y : Type 0} (f : X → Y) (xs : List X) (l : ℕ) (x : X) → slice_get xs l ≡ Some x → slice_get (map f xs) l ≡ Some (f x)
 to_column f [] l x at = absurd (omega (arith, slice_get_within [] l x at))

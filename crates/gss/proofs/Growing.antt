@@ -1,15 +1,14 @@
 -- What is kept beside nodes and links stays right as they are added.
-use Rattle.std.proofs.Common.{◌≡◌, inl, inr, ◌⊎◌, ℕ, ◌+◌, ◌-◌, ◌^◌, ◌<◌, ◌≤◌, List, [], ◌∷◌, ◌++◌, length, map, replicate, take, Some, slice_get, refl, sym, ap}
+use Rattle.std.proofs.Common.{◌≡◌, inl, inr, ◌⊎◌, ℕ, ◌+◌, ◌<◌, ◌≤◌, List, [], ◌∷◌, ◌++◌, length, replicate, take, Some, slice_get, sym, ap}
 use Rattle.std.proofs.Common.{◌∙◌, subst, arith, length-append}
 use Rattle.std.proofs.Math.ListN.{set}
 use Rattle.std.proofs.lemmas.List.{map-append, length-map, length-set, take_all}
-use Rattle.std.proofs.lemmas.Option.{slice_get_within, same_Some}
+use Rattle.std.proofs.lemmas.Option.{slice_get_within}
 use Rattle.gss.specs.declared.stack_graph.Place.{Place}
 use Rattle.gss.specs.declared.stack_graph.Edge.{Edge}
 use Rattle.gss.specs.declared.rows.NodeRow.{NodeRow}
 use Rattle.gss.specs.declared.rows.LinkRow.{LinkRow}
-use Rattle.gss.specs.Numbers.{IsGreatest, HasNone}
-use Rattle.gss.specs.PlaceGraphs.{place_of, HasNode, AreNodesDistinct}
+use Rattle.gss.specs.PlaceGraphs.{HasNode}
 use Rattle.gss.specs.Chains.{none, IsKey, AreBelow, AreFirsts, AreLasts, AreNexts, AreOlders, TellsGreatest}
 use Rattle.gss.specs.Rows.{states, uppers, lowers, places, firsts, lasts, aboves, edges, nexts, olders, AreFound, AreLinked, PutsAbove, PutsBelow}
 use Rattle.gss.proofs.Chains.{get_last, told_none, told_some, lasts_more, firsts_more, firsts_kept, nexts_more, nexts_linked, olders_more, below_more}

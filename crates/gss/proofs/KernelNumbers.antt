@@ -1,5 +1,5 @@
 -- Kernels by numbers, and nodes by the numbers of their kernels.
-use Rattle.std.proofs.Common.{◌≡◌, inl, inr, ◌⊎◌, ℕ, zero, suc, ◌<◌, Bool, true, false, List, [], ◌∷◌, ◌++◌, length, map, get_or, position, Option, None, Some, Result, Ok, Err, OnErr}
+use Rattle.std.proofs.Common.{◌≡◌, inl, inr, ℕ, zero, suc, ◌<◌, Bool, false, List, [], ◌∷◌, ◌++◌, length, get_or, position, Option, None, Some, Result, Ok, Err, OnErr}
 use Rattle.std.proofs.Common.{is_some, slice_get, Contains, refl, sym, ap, ◌∙◌, subst, arith}
 use Rattle.std.specs.Prelude.{if◌then◌else◌, nat_eq}
 use Rattle.std.specs.Bool.{Decides}
@@ -21,7 +21,7 @@ use Rattle.gss.specs.declared.stack_graph.Place.{Place}
 use Rattle.gss.specs.PlaceGraphs.{HasNode, place_of}
 use Rattle.gss.specs.KernelGraphs.{KernelPlace, kernel_at, IsThere}
 use Rattle.gss.specs.Views.{kernel_place, nodes_in, AreKernelsDistinct, KeepsNumbers, AreNumbered}
-use Rattle.gss.proofs.Chains.{get_left, get_new, get_last}
+use Rattle.gss.proofs.Chains.{get_new, get_last}
 use Rattle.gss.proofs.Columns.{to_column, from_column}
 
 -- ---- the same kernel

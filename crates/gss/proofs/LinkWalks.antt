@@ -13,7 +13,6 @@ use Rattle.gss.specs.PlaceGraphs.{LeadsFrom, LeadsFromSame}
 use Rattle.gss.specs.KernelGraphs.{Link, link_of}
 use Rattle.gss.specs.Paths.{node_id, Leads, AreAll}
 use Rattle.gss.specs.Views.{link_in, links_in, IsEdge, IsToCome, AddsNew}
-use Rattle.gss.proofs.Chains.{cases_same}
 use Rattle.gss.proofs.Columns.{to_column, from_column}
 
 -- how many links may come yet

@@ -1,5 +1,5 @@
 -- Lists of paths, which get one link longer at a time.
-use Rattle.std.proofs.Common.{◌≡◌, inl, inr, ◌⊎◌, ℕ, zero, suc, ◌+◌, ◌<◌, ◌≤◌, List, [], ◌∷◌, ◌++◌, length, map, take, get_or, None, Some, slice_get, Contains, refl}
+use Rattle.std.proofs.Common.{◌≡◌, inl, inr, ℕ, zero, suc, ◌+◌, ◌<◌, ◌≤◌, List, [], ◌∷◌, ◌++◌, length, map, take, get_or, None, Some, slice_get, Contains, refl}
 use Rattle.std.proofs.Common.{sym, ap, ◌∙◌, subst, arith, add-one, length-append}
 use Rattle.std.proofs.lemmas.List.Elements.{Contains-append_cases, Contains-append_left, Contains-append_right, Contains-push, Contains-push_cases}
 use Rattle.std.proofs.lemmas.Option.{same_Some}
@@ -11,7 +11,7 @@ use Rattle.gss.specs.declared.stacks.NodeId.{NodeId}
 use Rattle.gss.specs.declared.stacks.LinkId.{LinkId}
 use Rattle.gss.specs.declared.paths.Path.{Path}
 use Rattle.gss.specs.KernelGraphs.{Link}
-use Rattle.gss.specs.Paths.{node_id, Leads, IsPathDown, HasStep, GoesThrough, IsPathOf, AreAll}
+use Rattle.gss.specs.Paths.{node_id, Leads, IsPathDown, HasStep, IsPathOf, AreAll}
 use Rattle.gss.specs.Views.{link_in, links_in, with_node, HasBelow, AreLonger}
 use Rattle.gss.proofs.Columns.{to_column}
 

@@ -1,13 +1,13 @@
 -- What the numbers beside nodes and links tell of them.
 use Rattle.std.proofs.Common.{◌≡◌, ℕ, ◌<◌, ◌≤◌, List, length, get_or, Option, None, Some, IfSome, IfNone, slice_get, refl, sym, ap, ◌∙◌, subst, arith}
 use Rattle.std.proofs.lemmas.List.{length-map}
-use Rattle.std.proofs.lemmas.Option.{slice_get_within, slice_get_read, same_Some}
+use Rattle.std.proofs.lemmas.Option.{slice_get_read, same_Some}
 use Rattle.gss.specs.declared.stack_graph.Place.{Place}
 use Rattle.gss.specs.declared.stack_graph.Edge.{Edge}
 use Rattle.gss.specs.declared.rows.NodeRow.{NodeRow}
 use Rattle.gss.specs.declared.rows.LinkRow.{LinkRow}
 use Rattle.gss.specs.Numbers.{IsLeast, IsGreatest, HasNone}
-use Rattle.gss.specs.PlaceGraphs.{PlaceGraph, IsOfState, LeadsFrom, LeadsToBy, LeadsFromSame, AreEndsNodes}
+use Rattle.gss.specs.PlaceGraphs.{IsOfState, LeadsFrom, LeadsToBy, LeadsFromSame, AreEndsNodes}
 use Rattle.gss.specs.Chains.{none, IsKey, IsLater, TellsLeast, least, no_least, TellsGreatest, greatest, no_greatest}
 use Rattle.gss.specs.Rows.{states, uppers, lowers, places, edges, AreFound, AreLinked}
 use Rattle.gss.proofs.Columns.{to_column, from_column, row_column}

@@ -1,13 +1,12 @@
 -- Stacks by kernels as they lie in a graph by numbers.
-use Rattle.std.specs.Prelude.{◌≡◌, ℕ, ◌<◌, ◌≤◌, ◌⊎◌, List, [], ◌∷◌, ◌++◌, length, map, slice_get, slice_index_or, Option, None, Some, IfSome, Contains}
+use Rattle.std.specs.Prelude.{◌≡◌, ℕ, ◌<◌, ◌≤◌, ◌⊎◌, List, [], ◌∷◌, ◌++◌, length, map, slice_get, slice_index_or, Option, None, Some, Contains}
 use Rattle.forest.specs.Distinct.{IsDistinct}
 use Rattle.item_sets.specs.declared.item.Item.{Item}
 use Rattle.gss.specs.declared.stack_graph.Place.{Place}
 use Rattle.gss.specs.declared.stack_graph.Edge.{Edge}
 use Rattle.gss.specs.declared.paths.Path.{Path}
 use Rattle.gss.specs.declared.stacks.NodeId.{NodeId}
-use Rattle.gss.specs.PlaceGraphs.{PlaceGraph}
-use Rattle.gss.specs.KernelGraphs.{KernelPlace, KernelGraph, Link, kernel_at, link_of}
+use Rattle.gss.specs.KernelGraphs.{KernelPlace, Link, kernel_at, link_of}
 use Rattle.gss.specs.Paths.{Leads}
 
 -- a node, whose state is the number of its kernel

@@ -1,7 +1,5 @@
-use Rattle.std.proofs.Common.{◌≡◌, List, ℕ, Option, None, Some, sym, subst}
-use Rattle.gss.specs.Paths.{node_id, Leads, AreAll}
-use Rattle.gss.specs.Views.{links_in}
-use Rattle.gss.proofs.LinkWalks.{AreBelowSoFar, left_of, leads_within, fewer, below_none, below_next, below_all}
+use Rattle.std.proofs.Common.{List, ℕ, Option, sym, subst}
+use Rattle.gss.proofs.LinkWalks.{AreBelowSoFar, leads_within, fewer, below_none, below_next, below_all}
 use Rattle.gss.proofs.paths.nodes_below.Goals as goal
 
 pub links-init : goal.links-init

@@ -1,4 +1,4 @@
-use Rattle.std.proofs.Common.{◌≡◌, ◌+◌, ◌<◌, List, [], ◌∷◌, ◌++◌, length, Contains, sym, ap, ◌∙◌, subst, arith}
+use Rattle.std.proofs.Common.{List, [], ◌∷◌, ◌++◌, Contains, sym, ap, ◌∙◌, subst, arith}
 use Rattle.gss.specs.declared.paths.Path.{Path}
 use Rattle.gss.specs.Paths.{IsPathDown, AreAll}
 use Rattle.gss.specs.Views.{links_in}

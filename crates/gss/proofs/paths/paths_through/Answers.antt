@@ -1,4 +1,4 @@
-use Rattle.std.proofs.Common.{◌≡◌, List, Option, Some, Contains, sym, subst}
+use Rattle.std.proofs.Common.{List, Option, Contains, sym, subst}
 use Rattle.gss.specs.declared.paths.Path.{Path}
 use Rattle.gss.specs.declared.stacks.LinkId.{LinkId}
 use Rattle.gss.specs.Paths.{HasStep, IsPathOf, AreAll}

@@ -1,8 +1,8 @@
-use Rattle.std.proofs.Common.{◌≡◌, ◌<◌, inl, inr, length, Some, slice_get, sym, ap, ◌∙◌, subst, arith, length-append}
+use Rattle.std.proofs.Common.{◌≡◌, inl, inr, Some, slice_get, subst, arith}
 use Rattle.gss.specs.declared.rows.NodeRow.{NodeRow}
-use Rattle.gss.specs.Rows.{lasts, aboves}
+use Rattle.gss.specs.Rows.{aboves}
 use Rattle.gss.proofs.Columns.{row_column}
-use Rattle.gss.proofs.Growing.{last_within, linked_more, edges_are, places_are}
+use Rattle.gss.proofs.Growing.{last_within, linked_more}
 use Rattle.gss.proofs.rows.add_edge.Goals as goal
 
 pub put_below-requires-clause-last : goal.put_below-requires-clause-last

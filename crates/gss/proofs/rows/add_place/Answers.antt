@@ -1,4 +1,4 @@
-use Rattle.std.proofs.Common.{◌≡◌, length, sym, subst, arith}
+use Rattle.std.proofs.Common.{sym, subst, arith}
 use Rattle.gss.specs.declared.rows.NodeRow.{NodeRow}
 use Rattle.gss.specs.Chains.{none}
 use Rattle.gss.specs.Rows.{places, AreLinked}

@@ -1,4 +1,4 @@
-use Rattle.std.proofs.Common.{◌≡◌, inl, inr, ℕ, Option, subst}
+use Rattle.std.proofs.Common.{inl, inr, ℕ, Option, subst}
 use Rattle.gss.specs.KernelGraphs.{link_of}
 use Rattle.gss.proofs.LinkWalks.{IsNotFound, leads_within, fewer, not_found_first, not_found_next, not_there, found_edge}
 use Rattle.gss.proofs.stacks.find_link.Goals as goal

@@ -1,5 +1,4 @@
-use Rattle.std.proofs.Common.{◌≡◌, List, Some, slice_get, ap, ◌∙◌, subst, sym}
-use Rattle.gss.specs.declared.stack_graph.Place.{Place}
+use Rattle.std.proofs.Common.{ap, ◌∙◌, subst, sym}
 use Rattle.gss.specs.PlaceGraphs.{PlaceGraph}
 use Rattle.gss.specs.Views.{nodes_in, AreNumbered}
 use Rattle.gss.proofs.KernelNumbers.{same_nodes, still_numbered, node_there, on_err, there_before, there_now, numbered_now, last_there}

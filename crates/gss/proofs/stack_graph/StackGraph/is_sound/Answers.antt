@@ -1,4 +1,4 @@
-use Rattle.std.proofs.Common.{◌≡◌, ◌<◌, ◌^◌, length, subst, arith}
+use Rattle.std.proofs.Common.{◌<◌, ◌^◌, length, subst, arith}
 use Rattle.gss.specs.PlaceGraphs.{PlaceGraph, AreNodesDistinct, AreEndsNodes}
 use Rattle.gss.proofs.Reading.{ends_within, few_edges}
 use Rattle.gss.proofs.stack_graph.StackGraph.is_sound.Goals as goal

@@ -1,4 +1,4 @@
-use Rattle.std.proofs.Common.{List, IfSome, IfNone, sym, subst, arith}
+use Rattle.std.proofs.Common.{List, IfNone, sym, subst, arith}
 use Rattle.gss.specs.declared.rows.LinkRow.{LinkRow}
 use Rattle.gss.specs.Numbers.{HasNone}
 use Rattle.gss.specs.PlaceGraphs.{PlaceGraph, LeadsToBy}
