@@ -58,5 +58,6 @@ HasBelow links n path lower = (bottom : NodeId) × (slice_get path.nodes n ≡ S
 -- found has the paths with one node more below each of these paths, each once
 pub record AreLonger (links : List Link) (n : ℕ) (paths found : List Path) : Type 0 where
   pub once : IsDistinct found
-  pub within : (path : Path) → Contains found path → (front : Path) × (lower : NodeId) × (path ≡ with_node front lower) × Contains paths front × HasBelow links n front lower
+  pub within : (path : Path) → Contains found path → (front : Path) × (lower : NodeId) × (path ≡ with_node front lower) × Contains paths front
+      × HasBelow links n front lower
   pub all : (front : Path) (lower : NodeId) → Contains paths front → HasBelow links n front lower → Contains found (with_node front lower)
