@@ -11,8 +11,6 @@ mod paths;
 mod rows;
 mod stack_graph;
 mod stacks;
-#[cfg(test)]
-mod tests;
 
 pub use paths::Path;
 pub use stack_graph::{Edge, Place, StackGraph};
