@@ -78,7 +78,8 @@ with_node_inj p q x y e =
 module _ (links : List Link) where
   pub path_length : (n : ℕ) (node : NodeId) (path : List NodeId) → IsPathDown links node n path → length path ≡ n + 1
   path_length zero node path e = ap length e
-  path_length (suc n) node path (lower, rest, e, leads, down) = let long : length rest ≡ n + 1 = path_length n lower rest down in omega (arith, ap length e, long)
+  path_length (suc n) node path (lower, rest, e, leads, down) =
+      let long : length rest ≡ n + 1 = path_length n lower rest down in omega (arith, ap length e, long)
 
   snoc_down : (n : ℕ) (node : NodeId) (front : List NodeId) (bottom lower : NodeId) → IsPathDown links node n front → slice_get front n ≡ Some bottom
       → Leads links bottom lower → IsPathDown links node (suc n) (front ++ lower ∷ [])
@@ -104,7 +105,8 @@ module _ (links : List Link) where
       let (front, d) = shorter n m next rest (omega (arith, le)) down in (node ∷ front, (next, front, refl, first, d))
 
   -- where no path is so long, none is longer
-  pub none_longer : (node : NodeId) (n m : ℕ) (found : List Path) → length found ≡ 0 → n ≤ m → AreAll (λ (path : Path). IsPathDown links node n path.nodes) found
+  pub none_longer : (node : NodeId) (n m : ℕ) (found : List Path) → length found ≡ 0 → n ≤ m
+      → AreAll (λ (path : Path). IsPathDown links node n path.nodes) found
       → AreAll (λ (path : Path). IsPathDown links node m path.nodes) found
   none_longer node n m found empty le are = record {
     distinct = are.distinct;

@@ -37,8 +37,8 @@ module _ (P Q : ℕ → Type 0) (r : ℕ) (to : (l : ℕ) → P l → Q l) (back
 state_key : (nodes : List Place) (state n : ℕ) → IsOfState nodes state n → IsKey (states nodes) state n
 state_key nodes state n (node, at, is) = to_column (λ (p : Place). p.state) nodes n node at ∙ ap (λ k. Some k) is
 
-pub newest_told : (nodes : List Place) (newest : List ℕ) (state r : ℕ) (o : Option ℕ) → AreFound nodes newest → state < length newest → r ≡ get_or newest state r
-    → IsTold r o → IfSome o (IsGreatest (IsOfState nodes state)) × IfNone o (HasNone (IsOfState nodes state))
+pub newest_told : (nodes : List Place) (newest : List ℕ) (state r : ℕ) (o : Option ℕ) → AreFound nodes newest → state < length newest
+    → r ≡ get_or newest state r → IsTold r o → IfSome o (IsGreatest (IsOfState nodes state)) × IfNone o (HasNone (IsOfState nodes state))
 newest_told nodes newest state r o are within is told =
     told_greatest (IsKey (states nodes) state) (IsOfState nodes state) r (λ l key. from_column (λ (p : Place). p.state) nodes l state key)
     (state_key nodes state) o told (are.of_state state r (slice_get_read newest (length newest) state r refl within is))

@@ -120,6 +120,18 @@ impl Stacks {
         })
     }
 
+    pub fn node_count(&self) -> usize
+        ensures { result ≡ length self.now.nodes }
+    {
+        self.graph.node_count()
+    }
+
+    pub fn link_count(&self) -> usize
+        ensures { result ≡ length self.now.links }
+    {
+        self.graph.link_count()
+    }
+
     /// The one node of the kernel and position.
     pub fn node(&mut self, kernel: &Kernel, at: u32) -> Result<NodeId, NoMemory>
         requires nodes { length self.old.nodes < 2 ^ 32 - 1 }

@@ -17,6 +17,7 @@ pub returns-clause-linked : goal.returns-clause-linked
 returns-clause-linked c =
     let above : slice_get (aboves c.args.nodes.now.items) c.args.edge.lower ≡ Some c.index.result.now.above =
     row_column (λ (r : NodeRow). r.above) c.args.nodes.now.items c.args.edge.lower c.index.result.now c.requires.lower c.index.ensures in
-    linked_more c.args.nodes.now.items c.args.links.now.items c.args.edge c.index.result.now.above c.len-link.result c.requires.linked (omega arith) (omega arith)
+    linked_more c.args.nodes.now.items c.args.links.now.items c.args.edge c.index.result.now.above c.len-link.result c.requires.linked (omega arith)
+    (omega arith)
     c.requires.upper c.requires.lower above c.push.new.self.items c.in_ok-push.ensures.items c.put_above.new.nodes.items c.put_below.new.nodes.items
     c.put_below.new.links.items c.put_above.ensures c.put_below.ensures

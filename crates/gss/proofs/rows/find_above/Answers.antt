@@ -14,7 +14,8 @@ bounds-links-link c = elim (c.older.invariant.is) [
 pub returns-then-row-symbol-clause-newest : goal.returns-then-row-symbol-clause-newest
 returns-then-row-symbol-clause-newest c = elim (c.older.invariant.is) [
   | inl is ↦ absurd (c.older-test.true is)
-  | inr key ↦ above_found c.args.links.now c.args._lower c.args.from c.args.symbol c.requires.older c.older.link _ key c.older.invariant.rest c.if-from-link.true
+  | inr key ↦ above_found c.args.links.now c.args._lower c.args.from c.args.symbol c.requires.older c.older.link _ key c.older.invariant.rest
+      c.if-from-link.true
       c.if-row-symbol.true
 ]
 
@@ -27,7 +28,8 @@ older-smaller c = elim (c.older.invariant.is) [
 pub older-preserved : goal.older-preserved
 older-preserved c = elim (c.older.invariant.is) [
   | inl is ↦ absurd (c.older-test.true is)
-  | inr key ↦ above_next c.args.links.now c.args._lower c.args.from c.args.symbol c.requires.older c.older.link _ key c.older.invariant.rest c.if-row-symbol.false
+  | inr key ↦ above_next c.args.links.now c.args._lower c.args.from c.args.symbol c.requires.older c.older.link _ key c.older.invariant.rest
+      c.if-row-symbol.false
 ]
 
 pub returns-else-from-link-clause-none : goal.returns-else-from-link-clause-none
