@@ -2,7 +2,8 @@
 
 use crate::span::TOKEN_PART;
 use crate::table::{NO_SPLIT, SplitRow, Table};
-use std::alloc::{AllocError, Global};
+use forest::NoMemory;
+use std::alloc::Global;
 
 /// Which spans are reached, and which of these wait until their parts are marked too.
 #[derive(Drop)]
@@ -20,7 +21,7 @@ impl Marks {
     }
 
     /// Marks the span. It waits if its turn in the sweep has been.
-    fn mark(&mut self, number: u32, limit: u32) -> Result<(), AllocError> {
+    fn mark(&mut self, number: u32, limit: u32) -> Result<(), NoMemory> {
         if self.marked[number as usize] {
             return Ok(());
         }
@@ -33,12 +34,7 @@ impl Marks {
 }
 
 /// Marks the parts of a split.
-fn mark_parts(
-    table: &Table,
-    row: SplitRow,
-    limit: u32,
-    marks: &mut Marks,
-) -> Result<(), AllocError> {
+fn mark_parts(table: &Table, row: SplitRow, limit: u32, marks: &mut Marks) -> Result<(), NoMemory> {
     for index in 0..row.length {
         let part = table.part(row, index);
         if part != TOKEN_PART {
@@ -49,7 +45,7 @@ fn mark_parts(
 }
 
 /// Marks the parts of all splits of a span.
-fn mark_below(table: &Table, number: u32, limit: u32, marks: &mut Marks) -> Result<(), AllocError> {
+fn mark_below(table: &Table, number: u32, limit: u32, marks: &mut Marks) -> Result<(), NoMemory> {
     let mut at = table.spans[number as usize].newest;
     while at != NO_SPLIT {
         let row = table.splits[at as usize];
@@ -60,7 +56,7 @@ fn mark_below(table: &Table, number: u32, limit: u32, marks: &mut Marks) -> Resu
 }
 
 /// Marks what the span reaches, down to spans whose turn in the sweep comes later.
-fn settle(table: &Table, number: u32, marks: &mut Marks) -> Result<(), AllocError> {
+fn settle(table: &Table, number: u32, marks: &mut Marks) -> Result<(), NoMemory> {
     mark_below(table, number, number, marks)?;
     while let Some(next) = marks.waiting.pop() {
         mark_below(table, next, number, marks)?;
@@ -70,7 +66,7 @@ fn settle(table: &Table, number: u32, marks: &mut Marks) -> Result<(), AllocErro
 
 /// Marks exactly the spans that the root reaches. A sweep from the newest span down meets memory in order, since
 /// the parts of a split are mostly older than its span.
-pub(crate) fn mark_reached(table: &Table, root: u32, marks: &mut Marks) -> Result<(), AllocError> {
+pub(crate) fn mark_reached(table: &Table, root: u32, marks: &mut Marks) -> Result<(), NoMemory> {
     marks.waiting.clear();
     marks.marked.clear();
     marks.marked.resize(table.spans.len(), false)?;

@@ -3,8 +3,8 @@
 use crate::marks::Marks;
 use crate::splits::splits_of;
 use crate::table::Table;
-use forest::Node;
-use std::alloc::{AllocError, Global};
+use forest::{NoMemory, Node};
+use std::alloc::Global;
 use std::cmp::Ordering;
 
 /// How the nodes stand to each other.
@@ -24,7 +24,7 @@ fn are_ascending(nodes: &[Node]) -> bool {
 }
 
 /// The node of a span.
-fn node_of(alloc: Global, table: &Table, number: u32) -> Result<Node, AllocError> {
+fn node_of(alloc: Global, table: &Table, number: u32) -> Result<Node, NoMemory> {
     let span = table.spans[number as usize].span;
     let splits = splits_of(alloc, table, number)?;
     Ok(Node {
@@ -36,7 +36,7 @@ fn node_of(alloc: Global, table: &Table, number: u32) -> Result<Node, AllocError
 }
 
 /// The nodes of the marked spans, the newest span first.
-fn marked_nodes(alloc: Global, table: &Table, marks: &Marks) -> Result<Vec<Node>, AllocError> {
+fn marked_nodes(alloc: Global, table: &Table, marks: &Marks) -> Result<Vec<Node>, NoMemory> {
     let mut nodes = Vec::new(alloc);
     for number in (0..table.spans.len()).rev() {
         if marks.marked[number] {
@@ -47,11 +47,7 @@ fn marked_nodes(alloc: Global, table: &Table, marks: &Marks) -> Result<Vec<Node>
 }
 
 /// The nodes of the marked spans, in order.
-pub(crate) fn nodes_of(
-    alloc: Global,
-    table: &Table,
-    marks: &Marks,
-) -> Result<Vec<Node>, AllocError> {
+pub(crate) fn nodes_of(alloc: Global, table: &Table, marks: &Marks) -> Result<Vec<Node>, NoMemory> {
     let mut nodes = marked_nodes(alloc, table, marks)?;
     if !are_ascending(nodes.as_slice()) {
         nodes.sort_by(|a, b| compare(a, b))?;

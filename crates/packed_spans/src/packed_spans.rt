@@ -12,7 +12,7 @@ use crate::marks::{Marks, mark_reached};
 use crate::nodes::nodes_of;
 use crate::span::{Span, TOKEN_PART};
 use crate::table::{INLINE_PARTS, NO_SPLIT, SpanRow, SplitRow, Table};
-use forest::{Forest, Nodes, RuleId, SymbolId};
+use forest::{Forest, NoMemory, Nodes, RuleId, SymbolId};
 use std::alloc::{AllocError, Global};
 use std::marker::Model;
 
@@ -79,7 +79,7 @@ impl PackedSpans {
     }
 
     /// Adds a span with no splits. Gives its number.
-    pub fn add_span(&mut self, symbol: SymbolId, from: u32, to: u32) -> Result<u32, AllocError>
+    pub fn add_span(&mut self, symbol: SymbolId, from: u32, to: u32) -> Result<u32, NoMemory>
         ensures number { IfOk result (λ number. number ≡ length self.old.spans) }
         ensures below { IfOk result (λ number. number < TOKEN_PART) }
         ensures spans { OnOk result (self.new.spans ≡ self.old.spans ++ record { symbol = symbol; from = from; to = to } ∷ []) }
@@ -98,7 +98,7 @@ impl PackedSpans {
     }
 
     /// Adds a split to the span with this number: a rule, and the parts of its right side.
-    pub fn add_split(&mut self, span: u32, rule: RuleId, parts: &[u32]) -> Result<(), AllocError>
+    pub fn add_split(&mut self, span: u32, rule: RuleId, parts: &[u32]) -> Result<(), NoMemory>
         requires span { span < length self.old.spans }
         requires parts { ArePartsOf self.old.spans parts.now }
         ensures spans { OnOk result (self.new.spans ≡ self.old.spans) }
@@ -117,7 +117,7 @@ impl PackedSpans {
     }
 
     /// The forest of what the root reaches.
-    pub fn forest(&mut self, alloc: Global, root: u32) -> Result<Forest, AllocError>
+    pub fn forest(&mut self, alloc: Global, root: u32) -> Result<Forest, NoMemory>
         requires root { root < length self.old.spans }
         requires different { AreDifferent self.old.spans }
         ensures forest { (rules : List Rule) (tokens : List SymbolId) → IsComplete rules tokens self.old root → IfOk result (IsForestOf rules tokens) }

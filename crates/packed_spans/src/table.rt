@@ -5,7 +5,7 @@ ghost use Rattle.packed_spans.specs.Packed.{ArePartsOf};
 ghost use Rattle.packed_spans.specs.Tables.{parts_of, spans_of, IsTable};
 
 use crate::span::{Span, TOKEN_PART};
-use forest::RuleId;
+use forest::{NoMemory, RuleId};
 use std::alloc::AllocError;
 
 /// What stands for no split. No split has this number.
@@ -66,7 +66,7 @@ impl Table {
         rule: RuleId,
         older: u32,
         parts: &[u32],
-    ) -> Result<SplitRow, AllocError> {
+    ) -> Result<SplitRow, NoMemory> {
         let (first, second) = match parts {
             [] => (TOKEN_PART, TOKEN_PART),
             [first] => (*first, TOKEN_PART),
@@ -87,7 +87,7 @@ impl Table {
     }
 
     /// Puts the parts behind the others. Gives the place of the first.
-    fn store(&mut self, parts: &[u32]) -> Result<u32, AllocError> {
+    fn store(&mut self, parts: &[u32]) -> Result<u32, NoMemory> {
         let Ok(first) = u32::try_from(self.parts.len()) else {
             return Err(AllocError);
         };
