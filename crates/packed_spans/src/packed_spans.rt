@@ -11,7 +11,7 @@ ghost use Rattle.packed_spans.specs.Complete.{AreDifferent, IsComplete};
 use crate::marks::{Marks, mark_reached};
 use crate::nodes::nodes_of;
 use crate::span::{Span, TOKEN_PART};
-use crate::table::{INLINE_PARTS, NO_SPLIT, SpanRow, SplitRow, Table};
+use crate::table::{SpanRow, Table, row_for};
 use forest::{Forest, NoMemory, Nodes, RuleId, SymbolId};
 use std::alloc::{AllocError, Global};
 use std::marker::Model;
@@ -92,7 +92,7 @@ impl PackedSpans {
         }
         self.table.spans.push(SpanRow {
             span: Span { symbol, from, to },
-            newest: NO_SPLIT,
+            newest: 0,
         })?;
         Ok(number as u32)
     }
@@ -105,14 +105,13 @@ impl PackedSpans {
         ensures splits { OnOk result (self.new.splits ≡ self.old.splits ++ record { span = span; rule = rule; parts = parts.now } ∷ []) }
         ensures refused { OnErr result (self.new ≡ self.old) }
     {
-        let number = self.table.splits.len();
-        if number >= NO_SPLIT as usize {
+        let Ok(link) = u32::try_from(self.table.splits.len() + 1) else {
             return Err(AllocError);
-        }
+        };
         let older = self.table.spans[span as usize].newest;
-        let row = self.table.row_for(span, rule, older, parts)?;
+        let row = row_for(&mut self.table.parts, span, rule, older, parts)?;
         self.table.splits.push(row)?;
-        self.table.spans[span as usize].newest = number as u32;
+        self.table.spans[span as usize].newest = link;
         Ok(())
     }
 
