@@ -31,6 +31,7 @@ pub record IsLink (splits : List SplitRow) (span limit link : ℕ) : Type 0 wher
 pub record IsStored (spans : List SpanRow) (parts : List ℕ) (row : SplitRow) : Type 0 where
   pub room : INLINE_PARTS < row.length → row.first + row.length ≤ length parts
   pub are_parts : ArePartsOf (map span_of spans) (parts_of parts row)
+  pub known : row.span < length spans
 
 -- each span is linked to its newest split, each split to the next older of its span, and parts are there
 pub record IsTable (spans : List SpanRow) (splits : List SplitRow) (parts : List ℕ) : Type 0 where

@@ -33,10 +33,11 @@ impl Marks {
         if self.marked[number as usize] {
             return Ok(());
         }
-        if number >= limit {
-            self.waiting.push(number)?;
-        }
         self.marked[number as usize] = true;
+        if number < limit {
+            return Ok(());
+        }
+        self.waiting.push(number)?;
         Ok(())
     }
 }

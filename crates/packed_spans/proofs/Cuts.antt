@@ -1,0 +1,56 @@
+-- The cuts of a split, one after the other, and what the rows of a span tell.
+use Rattle.std.proofs.Common.{◌≡◌, ℕ, ◌+◌, ◌-◌, ◌<◌, ◌≤◌, ◌⊎◌, inl, inr, List, [], ◌∷◌, ◌++◌, take, length, refl, sym, ◌∙◌, ap, subst, arith, Contains, slice_get, Some}
+use Rattle.std.proofs.lemmas.Option.{slice_get_within}
+use Rattle.std.proofs.lemmas.List.Elements.{Contains-append_left, Contains-push, Contains-push_cases}
+use Rattle.forest.specs.declared.nodes.Split.{Split}
+use Rattle.packed_spans.specs.declared.table.SpanRow.{SpanRow}
+use Rattle.packed_spans.specs.declared.table.SplitRow.{SplitRow}
+use Rattle.packed_spans.specs.Tables.{IsLink, IsRow}
+use Rattle.packed_spans.specs.Told.{end_at, ends_of, last_of, told, AreTold}
+use Rattle.packed_spans.proofs.Lists.{take_push}
+use Rattle.packed_spans.proofs.Links.{IsAlong, of_span, cases}
+
+module _ (spans : List SpanRow) where
+  ends_push : (at : ℕ) (ps : List ℕ) (p : ℕ) → ends_of spans at (ps ++ p ∷ []) ≡ ends_of spans at ps ++ end_at spans (last_of spans at ps) p ∷ []
+  ends_push at [] p = refl
+  ends_push at (q ∷ ps) p = ap (λ zs. end_at spans at q ∷ zs) (ends_push (end_at spans at q) ps p)
+
+  last_push : (at : ℕ) (ps : List ℕ) (p : ℕ) → last_of spans at (ps ++ p ∷ []) ≡ end_at spans (last_of spans at ps) p
+  last_push at [] p = refl
+  last_push at (q ∷ ps) p = last_push (end_at spans at q) ps p
+
+  -- one more cut
+  pub cuts_more : (from k p : ℕ) (ps : List ℕ) → slice_get ps k ≡ Some p
+      → (from ∷ ends_of spans from (take k ps)) ++ end_at spans (last_of spans from (take k ps)) p ∷ [] ≡ from ∷ ends_of spans from (take (k + 1) ps)
+  cuts_more from k p ps e = ap (λ zs. from ∷ zs) (sym (ap (ends_of spans from) (take_push ps k p e) ∙ ends_push from (take k ps) p))
+
+  pub last_more : (from k p : ℕ) (ps : List ℕ) → slice_get ps k ≡ Some p
+      → end_at spans (last_of spans from (take k ps)) p ≡ last_of spans from (take (k + 1) ps)
+  last_more from k p ps e = sym (ap (last_of spans from) (take_push ps k p e) ∙ last_push from (take k ps) p)
+
+module _ (spans : List SpanRow) (splits : List SplitRow) (parts : List ℕ) (span from : ℕ) where
+  -- at the newest split nothing is told yet
+  pub none_told : (link : ℕ) → IsLink splits span (length splits) link → AreTold spans splits parts span from link []
+  none_told link i = record {
+    sound = λ s c. absurd (omega (arith, c.1));
+    whole = λ k row over at of. absurd (i.above k row over (within k row at) at of);
+  }
+    where
+      within : (k : ℕ) (row : SplitRow) → slice_get splits k ≡ Some row → k < length splits
+      within k row at = slice_get_within splits k row at
+
+  -- one more split
+  pub told_more : (link : ℕ) (row : SplitRow) (found : List Split) → IsAlong splits span link → 0 < link → slice_get splits (link - 1) ≡ Some row
+      → IsLink splits row.span (link - 1) row.older → AreTold spans splits parts span from link found
+      → AreTold spans splits parts span from row.older (found ++ told spans parts from row ∷ [])
+  told_more link row found a l e i t = record {
+    sound = λ s c. elim (Contains-push_cases found (told spans parts from row) s c) [
+      | inl d ↦ t.sound s d
+      | inr same ↦ (row, record { number = link - 1; at = e; of = of_span splits span link row a l e }, same)
+    ];
+    whole = λ k r over at of. elim (cases splits span link row a l e i k r over at of) [
+      | inl later ↦ Contains-append_left found (told spans parts from row ∷ []) (told spans parts from r) (t.whole k r later at of)
+      | inr same ↦ subst (λ q. Contains (found ++ told spans parts from row ∷ []) (told spans parts from q)) (sym same)
+          (Contains-push found (told spans parts from row))
+    ];
+  }

@@ -1,0 +1,7 @@
+pub mod Lists
+pub mod Orders
+pub mod Links
+pub mod Marking
+pub mod Sweeping
+pub mod Cuts
+pub mod Storing
