@@ -119,3 +119,17 @@ module _ {P Q R : ℕ → Type 0} {limit : ℕ} {m0 m1 m2 : List Bool} {w0 w1 w2
     ];
     spends = omega (arith, a.spends, b.spends);
   }
+
+-- the same spans in other words
+pub same_marked : (P Q : ℕ → Type 0) (limit : ℕ) (m0 m1 : List Bool) (w0 w1 : List ℕ) → ((n : ℕ) → P n → Q n) → ((n : ℕ) → Q n → P n)
+    → MarksExactly P limit m0 w0 m1 w1 → MarksExactly Q limit m0 w0 m1 w1
+same_marked P Q limit m0 m1 w0 w1 there back a = record {
+  size = a.size;
+  keeps = a.keeps;
+  only = λ n m. elim (a.only n m) [ inl was ↦ inl was | inr p ↦ inr (there n p) ];
+  whole = λ n q. a.whole n (back n q);
+  stays = a.stays;
+  waits = a.waits;
+  within = a.within;
+  spends = a.spends;
+}

@@ -1,7 +1,7 @@
 -- The sweep over the spans, from the newest down.
-use Rattle.std.proofs.Common.{◌≡◌, ℕ, ◌+◌, ◌<◌, ◌≤◌, ◌⊎◌, inl, inr, Bool, true, false, List, [], set, length, refl, sym, ◌∙◌, ap, subst, arith, Contains, slice_get, Some, replicate}
+use Rattle.std.proofs.Common.{◌≡◌, ℕ, ◌+◌, ◌-◌, ◌<◌, ◌≤◌, ◌⊎◌, inl, inr, Bool, true, false, List, [], ◌++◌, take, set, length, refl, sym, ◌∙◌, ap, subst, arith, Contains, slice_get, Some, replicate}
 use Rattle.std.proofs.lemmas.Bool.{cases_lt, cases_eq}
-use Rattle.std.proofs.lemmas.List.{length-set, length-replicate, get_or-replicate}
+use Rattle.std.proofs.lemmas.List.{length-set, take_all, length-replicate, get_or-replicate}
 use Rattle.std.proofs.lemmas.Option.{slice_get_within, get_or_from_slice_get}
 use Rattle.packed_spans.specs.declared.table.SplitRow.{SplitRow}
 use Rattle.packed_spans.specs.Marks.{IsBelow, Reaches, itself, below, IsMarked, MarksExactly, IsSwept, AreReached}
@@ -52,7 +52,7 @@ module _ (splits : List SplitRow) (parts : List ℕ) (root : ℕ) where
     start = s.start;
     settled = λ n low m. elim (cases_eq n number) [
       | inl e ↦ inl e
-      | inr ne ↦ elim (s.settled n (omega arith) m) [ inl no ↦ absurd no | inr all ↦ inr all ]
+      | inr ne ↦ elim (s.settled n (omega arith) m) [ inl none ↦ absurd none | inr all ↦ inr all ]
     ];
   }
 
@@ -89,4 +89,13 @@ module _ (splits : List SplitRow) (parts : List ℕ) (root : ℕ) where
     where
       all : {n : ℕ} → Reaches splits parts root n → IsMarked marked n
       all itself = s.start
-      all (below {span = x} r b) = elim (s.settled x (omega arith) (all r)) [ inl no ↦ absurd no | inr each ↦ each _ b ]
+      all (below {span = x} r b) = elim (s.settled x (omega arith) (all r)) [ inl none ↦ absurd none | inr each ↦ each _ b ]
+
+-- a cleared list that was filled up
+pub filled : (n k : ℕ) (xs : List Bool) → xs ≡ [] → k ≡ 0 → take n xs ++ replicate (n - k) false ≡ replicate n false
+filled n k xs none zero =
+    let size : n - k ≡ n = omega arith in
+    rw (none, size) (ap (λ ys. ys ++ replicate n false) (empty n))
+  where
+    empty : (m : ℕ) → take m ([] {A = Bool}) ≡ []
+    empty m = take_all m [] (omega arith)

@@ -1,6 +1,7 @@
 //! What a span reaches.
 
-ghost use Rattle.std.specs.Prelude.{◌≡◌, ◌+◌, ◌<◌, ℕ, [], Contains, OnOk, Some, slice_get, length};
+ghost use Rattle.std.specs.Prelude.{◌≡◌, ◌+◌, ◌<◌, ◌⊎◌, ℕ, [], Contains, OnOk, Some, slice_get, length};
+ghost use Rattle.packed_spans.specs.declared.span.TheConstants.{TOKEN_PART};
 ghost use Rattle.packed_spans.specs.Tables.{IsTable, IsStored};
 ghost use Rattle.packed_spans.specs.Marks.{IsPartSpan, IsBelow, IsMarked, MarksExactly, IsSwept, AreReached};
 
@@ -42,6 +43,19 @@ impl Marks {
     }
 }
 
+/// Marks the part of a split, if it is a span.
+fn mark_part(part: u32, limit: u32, marks: &mut Marks) -> Result<(), NoMemory>
+    requires { (part ≡ TOKEN_PART) ⊎ (part < length marks.old.marked.items) }
+    ensures { OnOk result (MarksExactly (λ n. (n ≡ part) × (n ≡ TOKEN_PART → ⊥)) limit marks.old.marked.items marks.old.waiting.items
+        marks.new.marked.items marks.new.waiting.items) }
+{
+    if part == TOKEN_PART {
+        return Ok(());
+    }
+    marks.mark(part, limit)?;
+    Ok(())
+}
+
 /// Marks the parts of a split.
 fn mark_parts(table: &Table, row: SplitRow, limit: u32, marks: &mut Marks) -> Result<(), NoMemory>
     requires stored { IsStored table.now.spans.items table.now.parts.items row }
@@ -50,10 +64,7 @@ fn mark_parts(table: &Table, row: SplitRow, limit: u32, marks: &mut Marks) -> Re
         marks.new.marked.items marks.new.waiting.items) }
 {
     for index in 0..row.length {
-        let part = table.part(row, index);
-        if part != TOKEN_PART {
-            marks.mark(part, limit)?;
-        }
+        mark_part(table.part(row, index), limit, marks)?;
     }
     Ok(())
 }
@@ -75,18 +86,20 @@ fn mark_below(table: &Table, number: u32, limit: u32, marks: &mut Marks) -> Resu
     Ok(())
 }
 
-/// Marks what the span reaches, down to spans whose turn in the sweep comes later.
+/// Marks what the span reaches if it is marked itself, but for parts of spans whose turn in the sweep comes later.
 fn settle(table: &Table, number: u32, marks: &mut Marks) -> Result<(), NoMemory>
     requires table { IsTable table.now.spans.items table.now.splits.items table.now.parts.items }
     requires number { number < length table.now.spans.items }
     requires size { length marks.old.marked.items ≡ length table.now.spans.items }
-    requires marked { IsMarked marks.old.marked.items number }
     requires nothing { marks.old.waiting.items ≡ [] }
     ensures nothing { OnOk result (marks.new.waiting.items ≡ []) }
     ensures size { OnOk result (length marks.new.marked.items ≡ length table.now.spans.items) }
     ensures swept { OnOk result ((root : ℕ) → IsSwept table.now.splits.items table.now.parts.items root (number + 1) marks.old.marked.items (λ n. ⊥)
         → IsSwept table.now.splits.items table.now.parts.items root number marks.new.marked.items (λ n. ⊥)) }
 {
+    if !marks.marked[number as usize] {
+        return Ok(());
+    }
     mark_below(table, number, number, marks)?;
     while let Some(next) = marks.waiting.pop() {
         mark_below(table, next, number, marks)?;
@@ -109,9 +122,7 @@ pub(crate) fn mark_reached(table: &Table, root: u32, marks: &mut Marks) -> Resul
     let mut number = table.spans.len() as u32;
     while number > 0 {
         number -= 1;
-        if marks.marked[number as usize] {
-            settle(table, number, marks)?;
-        }
+        settle(table, number, marks)?;
     }
     Ok(())
 }
