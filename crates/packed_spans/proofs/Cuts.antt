@@ -1,11 +1,12 @@
 -- The cuts of a split, one after the other, and what the rows of a span tell.
-use Rattle.std.proofs.Common.{◌≡◌, ℕ, ◌+◌, ◌-◌, ◌<◌, ◌≤◌, ◌⊎◌, inl, inr, List, [], ◌∷◌, ◌++◌, take, length, refl, sym, ◌∙◌, ap, subst, arith, Contains, slice_get, Some}
+use Rattle.std.proofs.Common.{◌≡◌, ℕ, ◌+◌, ◌-◌, ◌<◌, ◌≤◌, nat_le, ◌⊎◌, inl, inr, Bool, true, false, cond, List, [], ◌∷◌, ◌++◌, take, drop, length, length-take, refl, sym, ◌∙◌, ap, subst, arith, Contains, slice_get, Some}
 use Rattle.std.proofs.lemmas.Option.{slice_get_within}
 use Rattle.std.proofs.lemmas.List.Elements.{Contains-append_left, Contains-push, Contains-push_cases}
 use Rattle.forest.specs.declared.nodes.Split.{Split}
 use Rattle.packed_spans.specs.declared.table.SpanRow.{SpanRow}
 use Rattle.packed_spans.specs.declared.table.SplitRow.{SplitRow}
-use Rattle.packed_spans.specs.Tables.{IsLink, IsRow}
+use Rattle.packed_spans.specs.declared.table.TheConstants.{INLINE_PARTS}
+use Rattle.packed_spans.specs.Tables.{parts_of, IsLink, IsRow}
 use Rattle.packed_spans.specs.Told.{end_at, ends_of, last_of, told, AreTold}
 use Rattle.packed_spans.proofs.Lists.{take_push}
 use Rattle.packed_spans.proofs.Links.{IsAlong, of_span, cases}
@@ -54,3 +55,11 @@ module _ (spans : List SpanRow) (splits : List SplitRow) (parts : List ℕ) (spa
           (Contains-push found (told spans parts from row))
     ];
   }
+
+-- a row has no more parts than its length
+pub few_parts : (parts : List ℕ) (row : SplitRow) → length (parts_of parts row) ≤ row.length
+few_parts parts row = by (nat_le row.length INLINE_PARTS)
+  where
+    by : (few : Bool) → length (cond few (take row.length (row.first ∷ row.second ∷ [])) (take row.length (drop row.first parts))) ≤ row.length
+    by true = omega (arith, length-take row.length (row.first ∷ row.second ∷ []))
+    by false = omega (arith, length-take row.length (drop row.first parts))

@@ -95,7 +95,5 @@ module _ (splits : List SplitRow) (parts : List ℕ) (root : ℕ) where
 pub filled : (n k : ℕ) (xs : List Bool) → xs ≡ [] → k ≡ 0 → take n xs ++ replicate (n - k) false ≡ replicate n false
 filled n k xs none zero =
     let size : n - k ≡ n = omega arith in
-    rw (none, size) (ap (λ ys. ys ++ replicate n false) (empty n))
-  where
-    empty : (m : ℕ) → take m ([] {A = Bool}) ≡ []
-    empty m = take_all m [] (omega arith)
+    let short : take n xs ≡ xs = take_all n xs (omega (arith, ap length none)) in
+    rw (short, none, size) refl
