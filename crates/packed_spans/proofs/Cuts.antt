@@ -1,15 +1,18 @@
 -- The cuts of a split, one after the other, and what the rows of a span tell.
-use Rattle.std.proofs.Common.{◌≡◌, ℕ, ◌+◌, ◌-◌, ◌<◌, ◌≤◌, nat_le, ◌⊎◌, inl, inr, Bool, true, false, cond, List, [], ◌∷◌, ◌++◌, take, drop, length, length-take, refl, sym, ◌∙◌, ap, subst, arith, Contains, slice_get, Some}
+use Rattle.std.proofs.Common.{◌≡◌, ℕ, ◌+◌, ◌-◌, ◌<◌, ◌≤◌, nat_le, ◌↔◌, ◌⊎◌, inl, inr, Bool, true, false, cond, List, [], ◌∷◌, ◌++◌, take, drop, length, length-take, refl, sym, ◌∙◌, ap, subst, arith, Contains, slice_get, Some}
 use Rattle.std.proofs.lemmas.Option.{slice_get_within}
 use Rattle.std.proofs.lemmas.List.Elements.{Contains-append_left, Contains-push, Contains-push_cases}
+use Rattle.std.specs.List.Sorted.{IsStrictlySortedBy}
 use Rattle.forest.specs.declared.nodes.Split.{Split}
+use Rattle.forest.specs.Orders.{split_cmp}
 use Rattle.packed_spans.specs.declared.table.SpanRow.{SpanRow}
 use Rattle.packed_spans.specs.declared.table.SplitRow.{SplitRow}
 use Rattle.packed_spans.specs.declared.table.TheConstants.{INLINE_PARTS}
 use Rattle.packed_spans.specs.Tables.{parts_of, IsLink, IsRow}
-use Rattle.packed_spans.specs.Told.{end_at, ends_of, last_of, told, AreTold}
+use Rattle.packed_spans.specs.Told.{end_at, ends_of, last_of, told, AreTold, AreSplitsOf}
 use Rattle.packed_spans.proofs.Lists.{take_push}
-use Rattle.packed_spans.proofs.Links.{IsAlong, of_span, cases}
+use Rattle.packed_spans.proofs.Links.{IsAlong, begins, of_span, cases}
+use Rattle.packed_spans.proofs.Orders.{no_splits_ascend, one_ascends}
 
 module _ (spans : List SpanRow) where
   ends_push : (at : ℕ) (ps : List ℕ) (p : ℕ) → ends_of spans at (ps ++ p ∷ []) ≡ ends_of spans at ps ++ end_at spans (last_of spans at ps) p ∷ []
@@ -54,6 +57,33 @@ module _ (spans : List SpanRow) (splits : List SplitRow) (parts : List ℕ) (spa
       | inr same ↦ subst (λ q. Contains (found ++ told spans parts from row ∷ []) (told spans parts from q)) (sym same)
           (Contains-push found (told spans parts from row))
     ];
+  }
+
+module _ (spans : List SpanRow) (splits : List SplitRow) (parts : List ℕ) (span from : ℕ) where
+  -- the splits of a span that has none
+  pub no_splits : (link : ℕ) → link ≡ 0 → IsLink splits span (length splits) link → AreSplitsOf spans splits parts span from []
+  no_splits link zero i = record {
+    order = no_splits_ascend;
+    exact = subst (λ k. AreTold spans splits parts span from k []) zero (none_told spans splits parts span from link i);
+  }
+
+  -- the splits of a span that has one
+  pub one_split : (link : ℕ) (row : SplitRow) → 0 < link → IsLink splits span (length splits) link → slice_get splits (link - 1) ≡ Some row
+      → IsLink splits row.span (link - 1) row.older → row.older ≡ 0 → AreSplitsOf spans splits parts span from (told spans parts from row ∷ [])
+  one_split link row l i e o zero =
+      let along : IsAlong splits span link = begins splits span (length splits) link (omega arith) i in
+      record {
+        order = one_ascends (told spans parts from row);
+        exact = subst (λ k. AreTold spans splits parts span from k (told spans parts from row ∷ [])) zero
+            (told_more spans splits parts span from link row [] along l e o (none_told spans splits parts span from link i));
+      }
+
+  -- the same splits in order
+  pub in_order : (found sorted : List Split) → AreTold spans splits parts span from 0 found → IsStrictlySortedBy split_cmp sorted
+      → ((split : Split) → Contains sorted split ↔ Contains found split) → AreSplitsOf spans splits parts span from sorted
+  in_order found sorted t order same = record {
+    order = order;
+    exact = record { sound = λ s c. t.sound s ((same s).0 c); whole = λ k row over at of. (same (told spans parts from row)).1 (t.whole k row over at of) };
   }
 
 -- a row has no more parts than its length
