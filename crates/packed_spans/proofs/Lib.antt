@@ -6,3 +6,5 @@ pub mod Sweeping
 pub mod Parts
 pub mod Cuts
 pub mod Storing
+pub mod NodeLists
+pub mod Making

@@ -1,6 +1,6 @@
 //! The nodes of a forest.
 
-ghost use Rattle.std.specs.Prelude.{◌≡◌, ◌<◌, IfOk, IsTrue, length, map};
+ghost use Rattle.std.specs.Prelude.{◌≡◌, ◌<◌, ◌+◌, IfOk, OnOk, IsTrue, length, map};
 ghost use Rattle.std.specs.List.Sorted.{IsStrictlySortedBy};
 ghost use Rattle.forest.specs.Orders.{node_cmp};
 ghost use Rattle.packed_spans.specs.Complete.{AreDifferent};
@@ -50,6 +50,28 @@ fn node_of(alloc: Global, table: &Table, number: u32) -> Result<Node, NoMemory>
     })
 }
 
+/// Adds the node of the span, if it is marked.
+fn add_node(
+    alloc: Global,
+    table: &Table,
+    marks: &Marks,
+    number: u32,
+    nodes: &mut Vec<Node>,
+) -> Result<(), NoMemory>
+    requires table { IsTable table.now.spans.items table.now.splits.items table.now.parts.items }
+    requires different { AreDifferent (map span_of table.now.spans.items) }
+    requires size { length marks.now.marked.items ≡ length table.now.spans.items }
+    requires number { number < length table.now.spans.items }
+    ensures { OnOk result (AreNodesOf table.now.spans.items table.now.splits.items table.now.parts.items marks.now.marked.items (number + 1) nodes.old.items
+        → AreNodesOf table.now.spans.items table.now.splits.items table.now.parts.items marks.now.marked.items number nodes.new.items) }
+{
+    if !marks.marked[number as usize] {
+        return Ok(());
+    }
+    nodes.push(node_of(alloc, table, number)?)?;
+    Ok(())
+}
+
 /// The nodes of the marked spans, the newest span first.
 fn marked_nodes(alloc: Global, table: &Table, marks: &Marks) -> Result<Vec<Node>, NoMemory>
     requires table { IsTable table.now.spans.items table.now.splits.items table.now.parts.items }
@@ -61,9 +83,7 @@ fn marked_nodes(alloc: Global, table: &Table, marks: &Marks) -> Result<Vec<Node>
     let mut number = table.spans.len() as u32;
     while number > 0 {
         number -= 1;
-        if marks.marked[number as usize] {
-            nodes.push(node_of(alloc, table, number)?)?;
-        }
+        add_node(alloc, table, marks, number, &mut nodes)?;
     }
     Ok(nodes)
 }
@@ -77,8 +97,9 @@ pub(crate) fn nodes_of(alloc: Global, table: &Table, marks: &Marks) -> Result<Ve
     ensures nodes { IfOk result (λ nodes. AreNodesOf table.now.spans.items table.now.splits.items table.now.parts.items marks.now.marked.items 0 nodes.items) }
 {
     let mut nodes = marked_nodes(alloc, table, marks)?;
-    if !are_ascending(nodes.as_slice()) {
-        nodes.sort_by(|a, b| compare(a, b))?;
+    if are_ascending(nodes.as_slice()) {
+        return Ok(nodes);
     }
+    nodes.sort_by(|a, b| compare(a, b))?;
     Ok(nodes)
 }
