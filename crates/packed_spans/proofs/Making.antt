@@ -87,6 +87,7 @@ module _ (rules : List Rule) (tokens : List SymbolId) (spans : List SpanRow) (fe
   part_span : {xs : List SymbolId} {i j : ℕ} {ps cuts : List ℕ} → StandsAlong rules tokens (map span_of spans) xs i ps cuts j → {y : SymbolId} {a b : ℕ}
       → IsPart xs i cuts y a b → IsNonterminal rules y
       → (n : ℕ) × ((place : ℕ) × (slice_get ps place ≡ Some n)) × (slice_get (map span_of spans) n ≡ Some (span_at y a b))
+  part_span no_parts q named = elim q [ ]
   part_span (next_part (of_token t not_left) rest) here named = absurd (not_left named)
   part_span (next_part (of_span {part = p} has at) rest) here named = (p, (0, refl), at)
   part_span (next_part at rest) (later q) named = let (n, (place, e), there) = part_span rest q named in (n, (suc place, e), there)
