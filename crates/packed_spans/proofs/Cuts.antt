@@ -1,5 +1,5 @@
 -- The cuts of a split, one after the other, and what the rows of a span tell.
-use Rattle.std.proofs.Common.{◌≡◌, ℕ, ◌+◌, ◌-◌, ◌<◌, ◌≤◌, nat_le, ◌↔◌, ◌⊎◌, inl, inr, Bool, true, false, cond, List, [], ◌∷◌, ◌++◌, take, drop, length, length-take, refl, sym, ◌∙◌, ap, subst, arith, Contains, slice_get, Some}
+use Rattle.std.proofs.Common.{◌≡◌, ℕ, ◌+◌, ◌-◌, ◌<◌, ◌≤◌, nat_le, ◌↔◌, inl, inr, Bool, true, false, cond, List, [], ◌∷◌, ◌++◌, take, drop, length, length-take, refl, sym, ◌∙◌, ap, subst, arith, Contains, slice_get, Some}
 use Rattle.std.proofs.lemmas.Option.{slice_get_within}
 use Rattle.std.proofs.lemmas.List.Elements.{Contains-append_left, Contains-push, Contains-push_cases}
 use Rattle.std.specs.List.Sorted.{IsStrictlySortedBy}
@@ -8,7 +8,7 @@ use Rattle.forest.specs.Orders.{split_cmp}
 use Rattle.packed_spans.specs.declared.table.SpanRow.{SpanRow}
 use Rattle.packed_spans.specs.declared.table.SplitRow.{SplitRow}
 use Rattle.packed_spans.specs.declared.table.TheConstants.{INLINE_PARTS}
-use Rattle.packed_spans.specs.Tables.{parts_of, IsLink, IsRow}
+use Rattle.packed_spans.specs.Tables.{parts_of, IsLink}
 use Rattle.packed_spans.specs.Told.{end_at, ends_of, last_of, told, AreTold, AreSplitsOf}
 use Rattle.packed_spans.proofs.Lists.{take_push}
 use Rattle.packed_spans.proofs.Links.{IsAlong, begins, of_span, cases}

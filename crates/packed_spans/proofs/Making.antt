@@ -1,9 +1,8 @@
 -- The forest that complete spans make.
-use Rattle.std.proofs.Common.{◌≡◌, ℕ, zero, suc, ◌+◌, ◌<◌, ◌≤◌, ◌==◌, inl, inr, Bool, true, false, cond, List, [], ◌∷◌, map, length, get_or, refl, sym, ◌∙◌, ap, subst, arith, Contains, slice_get, Some}
+use Rattle.std.proofs.Common.{◌≡◌, ℕ, zero, suc, ◌+◌, ◌≤◌, ◌==◌, Bool, true, false, cond, List, ◌∷◌, map, length, get_or, refl, sym, ◌∙◌, ap, subst, arith, Contains, slice_get, Some}
 use Rattle.std.proofs.lemmas.Bool.{eqb-true}
 use Rattle.std.proofs.lemmas.List.{length-map}
 use Rattle.std.proofs.lemmas.Option.{slice_get_within, get_or_from_slice_get, same_Some}
-use Rattle.std.specs.List.Sorted.{IsStrictlySortedBy}
 use Rattle.forest.specs.declared.symbols.SymbolId.{SymbolId}
 use Rattle.forest.specs.declared.symbols.TheConstants.{START}
 use Rattle.forest.specs.declared.rules.Rule.{Rule}
@@ -12,17 +11,15 @@ use Rattle.forest.specs.declared.nodes.Node.{Node}
 use Rattle.forest.specs.declared.forest.Forest.{Forest}
 use Rattle.forest.specs.Derivation.{Derives, DerivesAlong, token, done, part, IsNonterminal}
 use Rattle.forest.specs.Forests.{IsSplit, IsPart, here, later, InForest, root, part_of, IsNodeOf, IsForestOf}
-use Rattle.forest.specs.Nodes.{IsAt}
-use Rattle.forest.specs.Orders.{node_cmp}
 use Rattle.packed_spans.specs.declared.span.Span.{Span}
 use Rattle.packed_spans.specs.declared.span.TheConstants.{TOKEN_PART}
 use Rattle.packed_spans.specs.declared.table.SpanRow.{SpanRow}
 use Rattle.packed_spans.specs.declared.table.SplitRow.{SplitRow}
-use Rattle.packed_spans.specs.Packed.{Packed, PackedSplit}
-use Rattle.packed_spans.specs.Complete.{IsPartAt, of_token, of_span, StandsAlong, no_parts, next_part, Tells, AreDifferent, IsComplete}
+use Rattle.packed_spans.specs.Packed.{PackedSplit}
+use Rattle.packed_spans.specs.Complete.{IsPartAt, of_token, of_span, StandsAlong, no_parts, next_part, Tells, IsComplete}
 use Rattle.packed_spans.specs.Tables.{parts_of, split_of, span_of, packed_of, IsRow}
-use Rattle.packed_spans.specs.Told.{end_at, ends_in, ends_of, told, AreTold, AreSplitsOf}
-use Rattle.packed_spans.specs.Marks.{IsPartSpan, IsBelow, Reaches, itself, below, IsMarked, AreReached}
+use Rattle.packed_spans.specs.Told.{end_at, ends_in, ends_of, told}
+use Rattle.packed_spans.specs.Marks.{IsPartSpan, Reaches, itself, below, AreReached}
 use Rattle.packed_spans.specs.Nodes.{IsNodeFor, AreNodesOf}
 use Rattle.packed_spans.proofs.Lists.{one_at, contains_at, at_contained, map_at, map_from}
 use Rattle.packed_spans.proofs.Cuts.{few_parts}

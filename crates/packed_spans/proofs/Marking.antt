@@ -1,12 +1,12 @@
 -- Marks, one after the other.
-use Rattle.std.proofs.Common.{◌≡◌, ℕ, ◌+◌, ◌<◌, ◌≤◌, ◌⊎◌, inl, inr, Bool, true, false, not, cond, List, [], ◌∷◌, ◌++◌, set, get_or, length, refl, sym, ◌∙◌, ap, subst, arith, Contains, slice_get, Some}
-use Rattle.std.proofs.lemmas.Bool.{cases_lt, cases_eq}
+use Rattle.std.proofs.Common.{◌≡◌, ℕ, ◌+◌, ◌<◌, ◌⊎◌, inl, inr, Bool, true, false, not, cond, List, [], ◌∷◌, ◌++◌, set, get_or, length, refl, sym, ◌∙◌, subst, arith, Contains, slice_get, Some}
+use Rattle.std.proofs.lemmas.Bool.{cases_eq}
 use Rattle.std.proofs.lemmas.List.{length-set, length_push}
 use Rattle.std.proofs.lemmas.List.Sums.{sum_by-set}
 use Rattle.std.proofs.lemmas.List.Elements.{Contains-append_left, Contains-push, Contains-push_cases}
 use Rattle.std.proofs.lemmas.Option.{get_or_from_slice_get, slice_get_within}
 use Rattle.std.specs.List.{count_by}
-use Rattle.packed_spans.specs.Marks.{IsMarked, left, MarksExactly}
+use Rattle.packed_spans.specs.Marks.{IsMarked, MarksExactly}
 use Rattle.packed_spans.proofs.Lists.{at_set, at_other}
 
 -- nothing to mark

@@ -1,5 +1,5 @@
 -- The parts of a split, and those of a span's splits, one after the other.
-use Rattle.std.proofs.Common.{◌≡◌, ℕ, ◌+◌, ◌-◌, ◌<◌, ◌≤◌, ◌⊎◌, inl, inr, List, Bool, length, refl, sym, ◌∙◌, ap, subst, arith, slice_get, Some}
+use Rattle.std.proofs.Common.{◌≡◌, ℕ, ◌+◌, ◌-◌, ◌<◌, inl, inr, List, Bool, length, sym, ◌∙◌, ap, subst, arith, slice_get, Some}
 use Rattle.std.proofs.lemmas.Bool.{cases_lt}
 use Rattle.std.proofs.lemmas.Option.{slice_get_within}
 use Rattle.packed_spans.specs.declared.span.TheConstants.{TOKEN_PART}
@@ -7,7 +7,7 @@ use Rattle.packed_spans.specs.declared.table.SplitRow.{SplitRow}
 use Rattle.packed_spans.specs.Tables.{parts_of, IsLink}
 use Rattle.packed_spans.specs.Marks.{IsPartSpan, IsBelow, MarksExactly}
 use Rattle.packed_spans.proofs.Lists.{one_at}
-use Rattle.packed_spans.proofs.Links.{IsAlong, of_span, goes_on, cases}
+use Rattle.packed_spans.proofs.Links.{IsAlong, of_span, cases}
 use Rattle.packed_spans.proofs.Marking.{nothing_marked, joined}
 
 module _ (parts : List ℕ) (row : SplitRow) (limit : ℕ) (m0 : List Bool) (w0 : List ℕ) where

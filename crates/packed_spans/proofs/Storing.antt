@@ -1,6 +1,6 @@
 -- A table stays one when a span or a split is added.
-use Rattle.std.proofs.Common.{◌≡◌, ℕ, ◌+◌, ◌-◌, ◌<◌, ◌≤◌, nat_le, ◌⊎◌, inl, inr, Bool, true, false, cond, List, [], ◌∷◌, ◌++◌, map, take, drop, set, length, refl, sym, ◌∙◌, ap, subst, arith, Contains, slice_get, Some}
-use Rattle.std.proofs.lemmas.Bool.{cases_lt, cases_eq, leb-false}
+use Rattle.std.proofs.Common.{◌≡◌, ℕ, ◌+◌, ◌<◌, ◌≤◌, nat_le, inl, inr, Bool, true, false, cond, List, [], ◌∷◌, ◌++◌, map, take, drop, set, length, refl, sym, ◌∙◌, ap, subst, arith, slice_get, Some}
+use Rattle.std.proofs.lemmas.Bool.{cases_eq, leb-false}
 use Rattle.std.proofs.lemmas.List.{length-set, length_push, map_push, length-append, length-map, length-drop, take-append-le, drop-append-le}
 use Rattle.std.proofs.lemmas.Option.{slice_get_within}
 use Rattle.forest.specs.declared.rules.RuleId.{RuleId}
@@ -11,7 +11,7 @@ use Rattle.packed_spans.specs.declared.table.SplitRow.{SplitRow}
 use Rattle.packed_spans.specs.declared.table.TheConstants.{INLINE_PARTS}
 use Rattle.packed_spans.specs.Packed.{PackedSplit, ArePartsOf}
 use Rattle.packed_spans.specs.Tables.{parts_of, split_of, span_of, IsLink, IsStored, IsTable, IsRowOf}
-use Rattle.packed_spans.proofs.Lists.{one_at, at_left, at_end, at_push, at_set, at_other, map_kept, map_same}
+use Rattle.packed_spans.proofs.Lists.{one_at, at_push, at_set, at_other, map_kept, map_same}
 
 -- ---- parts behind the others
 

@@ -1,9 +1,9 @@
 -- What a span reaches, and how it is marked.
-use Rattle.std.specs.Prelude.{◌≡◌, ℕ, ◌+◌, ◌<◌, ◌≤◌, ◌⊎◌, ◌↔◌, Bool, true, not, List, length, Contains, slice_get, Some}
+use Rattle.std.specs.Prelude.{◌≡◌, ℕ, ◌+◌, ◌<◌, ◌≤◌, ◌⊎◌, Bool, true, not, List, length, Contains, slice_get, Some}
 use Rattle.std.specs.List.{count_by}
 use Rattle.packed_spans.specs.declared.span.TheConstants.{TOKEN_PART}
 use Rattle.packed_spans.specs.declared.table.SplitRow.{SplitRow}
-use Rattle.packed_spans.specs.Tables.{parts_of, IsRow}
+use Rattle.packed_spans.specs.Tables.{parts_of}
 
 -- a span that is among the first parts of the row
 pub record IsPartSpan (parts : List ℕ) (row : SplitRow) (below n : ℕ) : Type 0 where

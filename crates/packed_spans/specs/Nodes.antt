@@ -1,7 +1,6 @@
 -- Nodes of the spans that are marked.
 use Rattle.std.specs.Prelude.{◌≡◌, ℕ, ◌≤◌, Bool, List, Contains, slice_get, Some}
 use Rattle.std.specs.List.{IsDistinct}
-use Rattle.std.specs.List.Sorted.{IsStrictlySortedBy}
 use Rattle.std.specs.Ordering.{eq_by_cmp}
 use Rattle.forest.specs.declared.nodes.Node.{Node}
 use Rattle.forest.specs.Orders.{node_cmp}

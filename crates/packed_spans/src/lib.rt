@@ -10,8 +10,6 @@ mod packed_spans;
 mod span;
 mod splits;
 mod table;
-#[cfg(test)]
-mod tests;
 
 pub use packed_spans::PackedSpans;
 pub use span::{Span, TOKEN_PART};

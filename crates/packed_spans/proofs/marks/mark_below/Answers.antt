@@ -1,4 +1,4 @@
-use Rattle.std.proofs.Common.{◌≡◌, ◌<◌, ◌≤◌, ◌-◌, length, arith, slice_get, Some, refl}
+use Rattle.std.proofs.Common.{◌≡◌, ◌<◌, ◌-◌, length, arith, slice_get, Some}
 use Rattle.packed_spans.proofs.Lists.{read_at}
 use Rattle.packed_spans.proofs.Links.{begins, goes_on}
 use Rattle.packed_spans.proofs.Parts.{no_splits_marked, split_marked}

@@ -1,4 +1,4 @@
-use Rattle.std.proofs.Common.{◌≡◌, ◌≤◌, ◌<◌, ◌+◌, ◌-◌, ℕ, length, refl, arith, subst, sym, set, replicate, false, true, ◌∙◌, ap}
+use Rattle.std.proofs.Common.{◌≡◌, ◌<◌, ◌+◌, ◌-◌, length, arith, subst, sym, replicate, false, true, ◌∙◌, ap}
 use Rattle.std.proofs.lemmas.List.{length-set, length-replicate}
 use Rattle.packed_spans.specs.Marks.{IsSwept}
 use Rattle.packed_spans.proofs.Sweeping.{sweep_begins, sweep_ends, filled}

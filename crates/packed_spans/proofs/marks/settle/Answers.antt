@@ -1,8 +1,8 @@
-use Rattle.std.proofs.Common.{◌≡◌, ◌<◌, ◌+◌, ℕ, inl, inr, [], ◌∷◌, ◌++◌, length, refl, sym, ◌∙◌, ap, subst, arith, Contains, slice_get, Some, true, false}
+use Rattle.std.proofs.Common.{◌≡◌, ◌<◌, ℕ, inl, inr, length, sym, ◌∙◌, ap, arith, Contains, slice_get, Some, true, false}
 use Rattle.std.proofs.lemmas.Option.{slice_get_within}
 use Rattle.std.proofs.lemmas.List.{length_push}
 use Rattle.std.proofs.lemmas.List.Elements.{Contains-push, Contains-push_cases, Contains-append_left}
-use Rattle.packed_spans.specs.Marks.{IsMarked, left}
+use Rattle.packed_spans.specs.Marks.{left}
 use Rattle.packed_spans.proofs.Lists.{read_at}
 use Rattle.packed_spans.proofs.Sweeping.{passed, turn, settled_more, sweep_rests}
 use Rattle.packed_spans.proofs.marks.settle.Goals as goal

@@ -1,6 +1,4 @@
 use Rattle.std.proofs.Common.{rules}
-use Rattle.std.proofs.lemmas.Cmp.{eq_by_cmp_equiv}
-use Rattle.forest.specs.Orders.{node_cmp}
 use Rattle.forest.proofs.Orderings.{node_cmp_total}
 use Rattle.packed_spans.proofs.Orders.{sorted_by, sorted_nodes}
 use Rattle.packed_spans.proofs.NodeLists.{nodes_moved}

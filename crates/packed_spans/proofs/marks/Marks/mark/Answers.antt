@@ -1,4 +1,4 @@
-use Rattle.std.proofs.Common.{◌≡◌, false, slice_get, Some, ◌∙◌, ap, arith}
+use Rattle.std.proofs.Common.{◌≡◌, false, slice_get, Some, ◌∙◌, ap}
 use Rattle.packed_spans.proofs.Lists.{read_at}
 use Rattle.packed_spans.proofs.Marking.{newly_marked, newly_waiting}
 use Rattle.packed_spans.proofs.marks.Marks.mark.Goals as goal

@@ -1,4 +1,4 @@
-use Rattle.std.proofs.Common.{◌≡◌, ◌<◌, length, map, sym, ap, subst, arith}
+use Rattle.std.proofs.Common.{◌≡◌, length, map, sym, ap, subst, arith}
 use Rattle.std.proofs.lemmas.List.{length-map}
 use Rattle.packed_spans.specs.Packed.{Packed}
 use Rattle.packed_spans.specs.Complete.{AreDifferent, IsComplete}
