@@ -79,11 +79,7 @@ fn spans_of(alloc: Global, words: &str) -> Result<PackedSpans, AllocError> {
 }
 
 /// What is told of the forest from the root.
-fn told_forest(
-    alloc: Global,
-    spans: &mut PackedSpans,
-    root: u32,
-) -> Result<String, AllocError> {
+fn told_forest(alloc: Global, spans: &mut PackedSpans, root: u32) -> Result<String, AllocError> {
     if root as usize >= spans.span_count() {
         return String::from_str(alloc, "no root");
     }
