@@ -1,5 +1,6 @@
 -- A table stays one when a span or a split is added.
-use Rattle.std.proofs.Common.{◌≡◌, ℕ, ◌+◌, ◌<◌, ◌≤◌, nat_le, inl, inr, Bool, true, false, cond, List, [], ◌∷◌, ◌++◌, map, take, drop, set, length, refl, sym, ◌∙◌, ap, subst, arith, slice_get, Some}
+use Rattle.std.proofs.Common.{◌≡◌, ℕ, ◌+◌, ◌<◌, ◌≤◌, nat_le, inl, inr, Bool, true, false, cond, List, []}
+use Rattle.std.proofs.Common.{◌∷◌, ◌++◌, map, take, drop, set, length, refl, sym, ◌∙◌, ap, subst, arith, slice_get, Some}
 use Rattle.std.proofs.lemmas.Bool.{cases_eq, leb-false}
 use Rattle.std.proofs.lemmas.List.{length-set, length_push, map_push, length-append, length-map, length-drop, take-append-le, drop-append-le}
 use Rattle.std.proofs.lemmas.Option.{slice_get_within}
@@ -47,7 +48,8 @@ table_grows spans splits parts more t = record {
 pub splits_kept : (spans : List SpanRow) (splits : List SplitRow) (parts more : List ℕ) → IsTable spans splits parts
     → map (split_of (parts ++ more)) splits ≡ map (split_of parts) splits
 splits_kept spans splits parts more t = map_same (split_of (parts ++ more)) (split_of parts) splits
-    (λ k row e. ap (λ ps. let s : PackedSplit = record { span = row.span; rule = row.rule; parts = ps } in s) (parts_kept parts more row (t.stored k row e).room))
+    (λ k row e. ap (λ ps. let s : PackedSplit = record { span = row.span; rule = row.rule; parts = ps } in s)
+    (parts_kept parts more row (t.stored k row e).room))
 
 -- ---- one more span
 

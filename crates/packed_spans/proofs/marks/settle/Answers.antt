@@ -44,16 +44,16 @@ pub loop-next-preserved : goal.loop-next-preserved
 loop-next-preserved c =
     let there : Contains c.loop-next.marks.waiting.items c.in-Some.next = rw c.in-Some.ensures.items (Contains-push _ _) in
     let marks = c.in_ok-mark_below-2.ensures in
+    let before = c.loop-next.invariant in
     let kept : (n : ℕ) → Contains c.pop.new.self.items n → Contains c.loop-next.marks.waiting.items n =
     λ n w. rw c.in-Some.ensures.items (Contains-append_left _ _ n w) in
+    let cover : (n : ℕ) → Contains c.loop-next.marks.waiting.items n → (n ≡ c.in-Some.next) ⊎ Contains c.pop.new.self.items n =
+    λ n w. elim (Contains-push_cases _ _ n (rw c.in-Some.ensures.items at w)) [ inl d ↦ inr d | inr e ↦ inl (sym e) ] in
     record {
-      size = marks.size ∙ c.loop-next.invariant.size;
-      waiting = λ n w. elim (marks.within n w) [ inl d ↦ marks.keeps n (c.loop-next.invariant.waiting n (kept n d)) | inr m ↦ m ];
-      swept = λ root s. settled_more _ _ root c.in-Some.next c.args.number _ _ _ _ (Contains c.loop-next.marks.waiting.items) (c.loop-next.invariant.swept root s)
-          (c.loop-next.invariant.waiting c.in-Some.next there) marks (λ n w. elim (Contains-push_cases _ _ n (rw c.in-Some.ensures.items at w)) [
-            | inl d ↦ inr d
-            | inr e ↦ inl (sym e)
-          ]);
+      size = marks.size ∙ before.size;
+      waiting = λ n w. elim (marks.within n w) [ inl d ↦ marks.keeps n (before.waiting n (kept n d)) | inr m ↦ m ];
+      swept = λ root s. settled_more _ _ root c.in-Some.next c.args.number _ _ _ _ (Contains c.loop-next.marks.waiting.items) (before.swept root s)
+          (before.waiting c.in-Some.next there) marks cover;
     }
 
 pub returns-clause-swept : goal.returns-clause-swept

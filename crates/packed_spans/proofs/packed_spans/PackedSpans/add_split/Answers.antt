@@ -50,5 +50,6 @@ pub returns-clause-splits : goal.returns-clause-splits
 returns-clause-splits c =
     let (more, grown) = c.in_ok-row.ensures.grows in
     let splits = ap (λ (q : Packed). q.splits) c.self.view_is in
-    rw c.in_ok-push.ensures.items (splits_after _ c.self.inside.table.splits.items _ _ more grown c.self.invariant _ _ _ _ c.in_ok-row.row c.in_ok-row.ensures.row
-    ∙ ap (λ (ss : List PackedSplit). ss ++ (let s : PackedSplit = record { span = c.args.span; rule = c.args.rule; parts = c.args.parts.now } in s) ∷ []) splits)
+    let added : PackedSplit = record { span = c.args.span; rule = c.args.rule; parts = c.args.parts.now } in
+    let after = splits_after _ c.self.inside.table.splits.items _ _ more grown c.self.invariant _ _ _ _ c.in_ok-row.row c.in_ok-row.ensures.row in
+    rw c.in_ok-push.ensures.items (after ∙ ap (λ (ss : List PackedSplit). ss ++ added ∷ []) splits)
