@@ -69,7 +69,8 @@ impl MoveLists {
             self.targets.push(UNKNOWN)?;
             self.symbols.push(entry.0)?;
         }
-        part_between(first, self.symbols.len())
+        let whole = part_between(first, self.symbols.len())?;
+        Ok(whole)
     }
 
     /// The kernel behind the move at this place.

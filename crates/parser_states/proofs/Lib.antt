@@ -1,0 +1,6 @@
+pub mod PlainParts
+pub mod SymbolSearches
+pub mod LeftSides
+pub mod MovesAdded
+pub mod Told
+pub mod Uppers
