@@ -4,3 +4,8 @@ pub mod LeftSides
 pub mod MovesAdded
 pub mod Told
 pub mod Uppers
+pub mod Lists
+pub mod ReductionsTold
+pub mod RowsKept
+pub mod NewRows
+pub mod MoreStates

@@ -30,23 +30,23 @@ listed Set [] none = none (
   record { ascends = tt; within = λ item c. absurd (omega (arith, c.1)); whole = λ item c is. absurd (omega (arith, c.1)) },
 )
 listed Set (one ∷ among) none = listed Set among (λ (list, is). either (λ (inside : Set one ⊎ (Set one → ⊥)). elim inside [
-  | inl yes ↦ none (
+  | inl is_in ↦ none (
     with_item one list,
     record {
       ascends = with_item_ascends one list is.ascends;
-      within = λ item c. elim ((with_item_members one list item).0 c) [ inl old ↦ is.within item old | inr same ↦ subst Set same yes ];
+      within = λ item c. elim ((with_item_members one list item).0 c) [ inl old ↦ is.within item old | inr same ↦ subst Set same is_in ];
       whole = λ item c it. elim (contains_cases one among item c) [
         | inl same ↦ (with_item_members one list item).1 (inr same)
         | inr d ↦ (with_item_members one list item).1 (inl (is.whole item d it))
       ];
     },
   )
-  | inr no ↦ none (
+  | inr is_out ↦ none (
     list,
     record {
       ascends = is.ascends;
       within = is.within;
-      whole = λ item c it. elim (contains_cases one among item c) [ inl same ↦ absurd (no (subst Set (sym same) it)) | inr d ↦ is.whole item d it ];
+      whole = λ item c it. elim (contains_cases one among item c) [ inl same ↦ absurd (is_out (subst Set (sym same) it)) | inr d ↦ is.whole item d it ];
     },
   )
 ]))

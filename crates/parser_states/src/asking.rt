@@ -33,5 +33,6 @@ pub(crate) fn copy_expansion<G: Graph, L: Ledger>(
     let expansion = graph.expansion(kernel, steps)?;
     finished.clear();
     finished.extend_from_slice(expansion.reductions.as_slice())?;
-    moves.add(expansion.moves.as_slice())
+    let part = moves.add(expansion.moves.as_slice())?;
+    Ok(part)
 }

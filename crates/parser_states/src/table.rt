@@ -1,13 +1,13 @@
 //! The states in lists, and how one more is asked for and joins them.
 
-ghost use Rattle.std.specs.Prelude.{◌≡◌, ◌≤◌, ◌<◌, ◌+◌, ◌^◌, length, List, IfOk, OnOk, IfSome, IfNone, Contains};
+ghost use Rattle.std.specs.Prelude.{◌≡◌, ◌≤◌, ◌<◌, ◌+◌, ◌^◌, length, List, [], ◌∷◌, ◌++◌, IfOk, OnOk, IfSome, IfNone, Contains};
 ghost use Rattle.edit_log.specs.Facts.{IsWellFormed};
 ghost use Rattle.item_sets.specs.declared.item.Item.{Item};
 ghost use Rattle.item_sets.specs.Prefixes.{AreItems};
 ghost use Rattle.live_graph.specs.Asking.{AsksKernel};
 ghost use Rattle.parser_states.specs.Known.{known, known_moves, no_states};
 ghost use Rattle.parser_states.specs.Moves.{IsMovePlace, IsBehindAt, KeepsMoves};
-ghost use Rattle.parser_states.specs.Rows.{IsShaped, AreTold, AddsState, IsPlaceOf, IsNoneOf};
+ghost use Rattle.parser_states.specs.Rows.{IsShaped, AreTold, IsPlaceOf, IsNoneOf};
 ghost use Rattle.parser_states.specs.Leads.{LeadsFrom, IsNumbered};
 ghost use Rattle.parser_states.specs.Asked.{Stands, AsksNew};
 
@@ -74,10 +74,13 @@ impl Table {
         steps: &mut Steps<L>,
     ) -> Result<u32, NoMemory>
         requires shaped { IsShaped (known self.old) }
+        requires told { AreTold (G.means graph.old).grammar.rules (known self.old) }
         requires items { AreItems (G.means graph.old).grammar.rules kernel }
         requires fresh { Contains self.old.keys.keys kernel → ⊥ }
         ensures number { IfOk result (λ number. (number ≡ length self.old.keys.keys) × (number + 1 < 2 ^ 32)) }
-        ensures adds { OnOk result (AddsState (G.means graph.old).grammar.rules kernel (known self.old) (known self.new)) }
+        ensures kernels { OnOk result (self.new.keys.keys ≡ self.old.keys.keys ++ kernel ∷ []) }
+        ensures told { OnOk result (AreTold (G.means graph.old).grammar.rules (known self.new)) }
+        ensures keeps { OnOk result (KeepsMoves (known_moves self.old.moves) (known_moves self.new.moves)) }
         ensures asks { OnOk result (AsksKernel (G.means graph.old) kernel (G.means graph.new) steps.old steps.new) }
         ensures shaped { IsShaped (known self.new) }
         ensures stands { Stands (G.means graph.old) (G.means graph.new) }
