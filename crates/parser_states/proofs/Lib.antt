@@ -9,3 +9,7 @@ pub mod ReductionsTold
 pub mod RowsKept
 pub mod NewRows
 pub mod MoreStates
+pub mod Keys
+pub mod AskedKernels
+pub mod Results
+pub mod Reading

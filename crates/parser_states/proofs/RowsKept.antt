@@ -17,7 +17,7 @@ use Rattle.parser_states.specs.Moves.{AddsMoves, IsBehind, IsBehindAt, KeepsMove
 use Rattle.parser_states.specs.Reductions.{ListsReductions}
 use Rattle.parser_states.specs.Leads.{KeepsNumbers}
 use Rattle.parser_states.specs.Rows.{symbol_cmp, IsRow, IsRowWithin, AreMoves}
-use Rattle.parser_states.proofs.PlainParts.{longer, still_there, was_there, within_more, part_kept, extends_append}
+use Rattle.parser_states.proofs.PlainParts.{longer, still_there, was_there, within_more, part_kept, within_appended}
 use Rattle.parser_states.proofs.Lists.{append_cases, in_replicate}
 use Rattle.parser_states.proofs.MovesAdded.{behind_more}
 
@@ -27,6 +27,10 @@ keeps_added added old new part adds = record {
   behind = adds.behind;
   items = adds.items;
 }
+
+pub moves_within : (added : List (SymbolId × List Item)) (old new : KnownMoves) (part : Part) → AddsMoves added old new part → IsWithin part (length new.symbols)
+moves_within added old new part adds = within_appended old.symbols (map (λ (m : SymbolId × List Item). m.0) added) new.symbols part adds.symbols adds.first
+    (omega (arith, adds.past, length-map added (λ (m : SymbolId × List Item). m.0)))
 
 pub behind_kept : (rules : List Rule) (old new : KnownMoves) (kernel : List Item) (x : SymbolId) (place : ℕ) → KeepsMoves old new
     → IsBehind rules old kernel x place → IsBehind rules new kernel x place
@@ -100,7 +104,7 @@ module _ (kernels others : List (List Item)) (keeps : KeepsNumbers kernels other
       are.behind,
       adds.size,
       ap length adds.symbols,
-      length-append old.symbols (map_symbols added),
+      length-append old.symbols (map (λ (m : SymbolId × List Item). m.0) added),
       length-map added (λ (m : SymbolId × List Item). m.0),
     );
     targets = omega (
@@ -110,12 +114,9 @@ module _ (kernels others : List (List Item)) (keeps : KeepsNumbers kernels other
       length-append old.targets (replicate (length added) 0),
       length-replicate {A = ℕ} (length added) 0,
       ap length adds.symbols,
-      length-append old.symbols (map_symbols added),
+      length-append old.symbols (map (λ (m : SymbolId × List Item). m.0) added),
       length-map added (λ (m : SymbolId × List Item). m.0),
     );
     within = part_within;
     tells = part_tells;
   }
-    where
-      abbrev map_symbols : List (SymbolId × List Item) → List SymbolId
-      map_symbols list = map (λ m. m.0) list

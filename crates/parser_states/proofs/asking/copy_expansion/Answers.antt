@@ -7,6 +7,7 @@ pub returns-clause-copies : goal.returns-clause-copies
 returns-clause-copies g c = record {
   expansion = c.in_ok-expansion.expansion.now;
   is = c.in_ok-expansion.ensures.expansion;
-  moves = subst (λ list. AddsMoves list (known_moves c.args.moves.now) (known_moves c.add.new.self) c.in_ok-part.part) ? c.in_ok-part.ensures.adds;
-  reductions = ?;
+  moves = subst (λ list. AddsMoves list (known_moves c.args.moves.now) (known_moves c.add.new.self) c.in_ok-part.part) c.as_slice-2.ensures
+      c.in_ok-part.ensures.adds;
+  reductions = c.in_ok-extend_from_slice.ensures.items ∙ ap (λ list. list ++ c.as_slice.result.now) c.clear.ensures.items ∙ c.as_slice.ensures;
 }
