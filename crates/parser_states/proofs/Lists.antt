@@ -1,5 +1,5 @@
 -- Plain lists: appended, mapped, sorted.
-use Rattle.std.proofs.Common.{◌≡◌, ◌⊎◌, inl, inr, ℕ, zero, suc, ◌+◌, ◌<◌, List, [], ◌∷◌, ◌++◌, length, map, replicate, Option, Some, None, slice_get, Contains}
+use Rattle.std.proofs.Common.{◌≡◌, ◌⊎◌, inl, inr, ℕ, zero, suc, ◌+◌, ◌<◌, List, [], ◌∷◌, ◌++◌, length, map, set, replicate, Option, Some, None, slice_get, Contains}
 use Rattle.std.proofs.Common.{refl, sym, ap, ◌∙◌, subst, arith}
 use Rattle.std.specs.List.{AllByRecursion}
 use Rattle.std.specs.List.Sorted.{IsStrictlySortedBy}
@@ -25,6 +25,18 @@ pub in_replicate : (n x place entry : ℕ) → slice_get (replicate n x) place �
 in_replicate zero x place entry at = absurd (let no : None ≡ Some entry = at in cc)
 in_replicate (suc n) x zero entry at = let same : Some x ≡ Some entry = at in sym (let e : x ≡ entry = cc in e)
 in_replicate (suc n) x (suc place) entry at = in_replicate n x place entry at
+
+-- an element of a list with one element changed is the new one, or one of before
+pub set_cases : {X : Type 0} (xs : List X) (i : ℕ) (y : X) (place : ℕ) (x : X) → slice_get (set xs i y) place ≡ Some x
+    → ((place ≡ i) × (y ≡ x)) ⊎ (slice_get xs place ≡ Some x)
+set_cases [] i y place x at = inr at
+set_cases (z ∷ xs) zero y zero x at = inl (refl, let same : Some y ≡ Some x = at in cc)
+set_cases (z ∷ xs) zero y (suc place) x at = inr at
+set_cases (z ∷ xs) (suc i) y zero x at = inr at
+set_cases (z ∷ xs) (suc i) y (suc place) x at = elim (set_cases xs i y place x at) [
+  | inl here ↦ inl (let n : suc place ≡ suc i = ap (λ k. suc k) here.0 in n, here.1)
+  | inr there ↦ inr there
+]
 
 -- what an element of a mapped list comes from
 pub map_at : {X Y : Type 0} (f : X → Y) (xs : List X) (place : ℕ) (y : Y) → slice_get (map f xs) place ≡ Some y

@@ -16,7 +16,10 @@ use Rattle.parser_states.specs.Known.{Known, KnownMoves}
 use Rattle.parser_states.specs.Moves.{KeepsMoves}
 use Rattle.parser_states.specs.Leads.{KeepsNumbers}
 use Rattle.parser_states.specs.Rows.{IsRow, IsRowOf, IsCopied, IsShaped, IsRowWithin, AreTold}
-use Rattle.parser_states.proofs.PlainParts.{push_cases, last_at}
+use Rattle.std.proofs.Math.ListN.{length-set}
+use Rattle.parser_states.specs.declared.rows.Part.{Part}
+use Rattle.parser_states.proofs.Lists.{set_cases}
+use Rattle.parser_states.proofs.PlainParts.{push_cases, extends_same}
 use Rattle.parser_states.proofs.RowsKept.{keeps_added, row_kept, row_within, moves_more}
 use Rattle.parser_states.proofs.NewRows.{new_row}
 
@@ -105,3 +108,44 @@ module _ (g : Grammar) (well : IsWellFormed g) (old new : Known) (kernel : List 
     moves = moves_more old.kernels new.kernels (keeps_pushed old.kernels new.kernels kernel kernels) old.moves new.moves copied.expansion.moves row.moves
         are.moves copied.moves;
   }
+
+-- ---- a target that is learned
+
+abbrev pub with_targets : Known → List ℕ → Known
+with_targets states targets = record {
+  kernels = states.kernels;
+  rows = states.rows;
+  moves = record { symbols = states.moves.symbols; behind = states.moves.behind; targets = targets; items = states.moves.items };
+  reductions = states.reductions;
+}
+
+pub told_learned : (rules : List Rule) (states : Known) (place number : ℕ) (part : Part) (targets : List ℕ)
+    → targets ≡ set states.moves.targets place (number + 1) → slice_get states.moves.behind place ≡ Some part
+    → slice_get states.kernels number ≡ Some (part_of part states.moves.items)
+    → AreTold rules states → AreTold rules (with_targets states targets)
+told_learned rules states place number part targets is at named are =
+    let keeps : KeepsMoves states.moves (with_targets states targets).moves = record {
+      symbols = extends_same states.moves.symbols;
+      behind = extends_same states.moves.behind;
+      items = extends_same states.moves.items;
+    } in
+    record {
+      one_number = are.one_number;
+      items = are.items;
+      size = are.size;
+      rows = λ n kernel row at_kernel at_row. row_kept rules states.moves (with_targets states targets).moves states.reductions states.reductions kernel row
+          keeps (extends_same states.reductions) (are.rows n kernel row at_kernel at_row);
+      moves = record {
+        behind = are.moves.behind;
+        targets = omega (arith, are.moves.targets, ap length is, length-set states.moves.targets place (number + 1));
+        within = are.moves.within;
+        tells = λ p entry n other at_entry next at_part.
+            elim (set_cases states.moves.targets place (number + 1) p entry (ap (λ l. slice_get l p) (sym is) ∙ at_entry)) [
+              | inl here ↦
+                  let same_number : n ≡ number = omega (arith, here.1, next) in
+                  let same_part : part ≡ other = same_Some part other (sym at ∙ ap (slice_get states.moves.behind) (sym here.0) ∙ at_part) in
+                  ap (slice_get states.kernels) same_number ∙ named ∙ ap (λ q. Some (part_of q states.moves.items)) same_part
+              | inr there ↦ are.moves.tells p entry n other there next at_part
+            ];
+      };
+    }

@@ -69,12 +69,12 @@ module _ (old mid new : KnownMoves) (more : List (SymbolId × List Item)) (m : S
   pub adds_one_more : new.targets ≡ mid.targets ++ 0 ∷ [] → new.symbols ≡ mid.symbols ++ m.0 ∷ [] → AddsSome (more ++ m ∷ []) old new
   adds_one_more targets symbols = record {
     symbols = symbols ∙ ap (λ l. l ++ m.0 ∷ []) adds.symbols ∙ append_assoc old.symbols (map (λ (q : SymbolId × List Item). q.0) more) (m.0 ∷ [])
-    ∙ ap (λ l. old.symbols ++ l) (sym (map-append (λ (q : SymbolId × List Item). q.0) more (m ∷ [])));
+        ∙ ap (λ l. old.symbols ++ l) (sym (map-append (λ (q : SymbolId × List Item). q.0) more (m ∷ [])));
     behind = extends_push old.behind mid.behind new.behind (part ∷ []) adds.behind behind;
     size = omega (arith, ap length behind, length-append mid.behind (part ∷ []), adds.size, length-append more (m ∷ []));
     each = each_more;
     targets = targets ∙ ap (λ l. l ++ 0 ∷ []) adds.targets ∙ append_assoc old.targets (replicate (length more) 0) (0 ∷ [])
-    ∙ ap (λ l. old.targets ++ l) (one_more_same (length more) 0 ∙ ap (λ n. replicate n 0) (sym (length-append more (m ∷ []))));
+        ∙ ap (λ l. old.targets ++ l) (one_more_same (length more) 0 ∙ ap (λ n. replicate n 0) (sym (length-append more (m ∷ []))));
     items = extends_push old.items mid.items new.items m.1 adds.items added.is;
   }
 

@@ -1,5 +1,5 @@
 -- What the row of a state tells, and where its moves lead.
-use Rattle.std.proofs.Common.{◌≡◌, ◌↔◌, inl, inr, ℕ, ◌+◌, ◌-◌, ◌≤◌, ◌<◌, List, length, get_or, Option, Some, None, MatchOption, slice_get, Contains, IsTrue}
+use Rattle.std.proofs.Common.{◌≡◌, ◌↔◌, inl, inr, ℕ, ◌+◌, ◌-◌, ◌≤◌, ◌<◌, List, [], ◌∷◌, length, get_or, Option, Some, None, MatchOption, slice_get, Contains, IsTrue}
 use Rattle.std.proofs.Common.{IfSome, IfNone, refl, sym, ap, ◌∙◌, subst, arith}
 use Rattle.std.specs.Option.{is_some}
 use Rattle.std.proofs.lemmas.Option.{slice_get_read, slice_get_within, slice_get_cases, same_Some}
@@ -7,12 +7,17 @@ use Rattle.forest.specs.declared.symbols.SymbolId.{SymbolId}
 use Rattle.forest.specs.declared.rules.Rule.{Rule}
 use Rattle.edit_log.proofs.PlainLists.{contains_at}
 use Rattle.item_sets.specs.declared.item.Item.{Item}
+use Rattle.item_sets.specs.Prefixes.{AreItems}
 use Rattle.item_sets.specs.Expansions.{HasMove}
+use Rattle.item_sets.proofs.Kernels.{moved_is_item}
+use Rattle.live_graph.specs.Asking.{Joins}
+use Rattle.edit_log.proofs.Texts.{slice_get-append}
 use Rattle.parser_states.specs.declared.rows.Row.{Row}
-use Rattle.parser_states.specs.Parts.{part_of}
-use Rattle.parser_states.specs.Known.{Known}
+use Rattle.parser_states.specs.declared.rows.Part.{Part}
+use Rattle.parser_states.specs.Parts.{part_of, IsWithin}
+use Rattle.parser_states.specs.Known.{Known, KnownMoves}
 use Rattle.parser_states.specs.Moves.{IsBehind, IsBehindAt, IsMovePlace}
-use Rattle.parser_states.specs.Leads.{IsNumbered, LeadsNowhere, LeadsTo, LeadsFrom}
+use Rattle.parser_states.specs.Leads.{IsNumbered, LeadsNowhere, LeadsTo, LeadsFrom, KeepsNumbers}
 use Rattle.parser_states.specs.Rows.{IsRow, AreTold, IsPlaceOf, IsNoneOf}
 
 pub some_at : {X : Type 0} (list : List X) (place : ℕ) → place < length list → (x : X) × (slice_get list place ≡ Some x)
@@ -61,3 +66,26 @@ pub move_place : (rules : List Rule) (states : Known) → AreTold rules states �
 move_place rules states are state within x place is =
     let kernel = some_at states.kernels state within in
     record { kernel = kernel.0; symbol = x; behind = place_tells rules states are state kernel.0 kernel.1 x place is }
+
+-- ---- what stands behind a move
+
+module _ (rules : List Rule) (moves : KnownMoves) (place : ℕ) (is : IsMovePlace rules moves place) (part : Part) (read : part ≡ get_or moves.behind place part) where
+  pub part_there : slice_get moves.behind place ≡ Some part
+  part_there = slice_get_read moves.behind (length moves.behind) place part refl (slice_get_within moves.behind place is.behind.at.part is.behind.at.at) read
+
+  -- whatever is said to stand there
+  pub part_is : (upper : List Item) → IsBehindAt moves place upper → part_of part moves.items ≡ upper
+  part_is upper at = ap (λ p. part_of p moves.items) (same_Some part at.part (sym part_there ∙ at.at)) ∙ at.is
+
+  pub part_fits : IsWithin part (length moves.items)
+  part_fits = subst (λ p. IsWithin p (length moves.items)) (same_Some is.behind.at.part part (sym is.behind.at.at ∙ part_there)) is.behind.at.within
+
+  pub upper_items : (kernel : List Item) → kernel ≡ part_of part moves.items → AreItems rules kernel
+  upper_items kernel kernel_is = subst (AreItems rules) (sym (kernel_is ∙ part_is is.behind.upper is.behind.at))
+      (λ item there. moved_is_item (is.behind.is_move.list.within item there))
+
+pub keeps_joined : (old new : List (List Item)) (kernel : List Item) → Joins old kernel new → KeepsNumbers old new
+keeps_joined old new kernel joins number other at = elim joins [
+  | inl again ↦ ap (λ l. slice_get l number) again.1 ∙ at
+  | inr first ↦ ap (λ l. slice_get l number) first.1 ∙ slice_get-append old (kernel ∷ []) number other at
+]

@@ -8,7 +8,7 @@ ghost use Rattle.live_graph.specs.Asking.{AsksKernel};
 ghost use Rattle.parser_states.specs.Known.{known, known_moves, no_states};
 ghost use Rattle.parser_states.specs.Moves.{IsMovePlace, IsBehindAt, KeepsMoves};
 ghost use Rattle.parser_states.specs.Rows.{IsShaped, AreTold, IsPlaceOf, IsNoneOf};
-ghost use Rattle.parser_states.specs.Leads.{LeadsFrom, IsNumbered};
+ghost use Rattle.parser_states.specs.Leads.{LeadsFrom, IsNumbered, KeepsNumbers};
 ghost use Rattle.parser_states.specs.Asked.{Stands, AsksNew};
 
 use crate::asking::copy_expansion;
@@ -177,6 +177,7 @@ impl Table {
         requires told { AreTold (G.means graph.old).grammar.rules (known self.old) }
         requires state { state < length self.old.keys.keys }
         ensures leads { IfOk result (LeadsFrom (G.means graph.old).grammar.rules self.old.keys.keys self.new.keys.keys state symbol) }
+        ensures keeps { OnOk result (KeepsNumbers self.old.keys.keys self.new.keys.keys) }
         ensures told { OnOk result (AreTold (G.means graph.old).grammar.rules (known self.new)) }
         ensures asks { OnOk result (AsksNew self.old.keys.keys self.new.keys.keys (G.means graph.old) (G.means graph.new) steps.old steps.new) }
         ensures shaped { IsShaped (known self.new) }
