@@ -1,5 +1,5 @@
 -- The kernels that a graph was asked for.
-use Rattle.std.proofs.Common.{◌≡◌, inl, inr, ◌⊎◌, ℕ, ◌≤◌, ◌<◌, List, [], ◌∷◌, ◌++◌, length, Some, slice_get, Contains, refl, sym, ap, ◌∙◌, subst, arith}
+use Rattle.std.proofs.Common.{◌≡◌, inl, inr, ◌⊎◌, ℕ, ◌≤◌, List, [], ◌∷◌, ◌++◌, length, Some, slice_get, Contains, refl, sym, ap, ◌∙◌, subst, arith}
 use Rattle.std.proofs.lemmas.Bool.{cases_lt}
 use Rattle.std.proofs.lemmas.List.Elements.{Contains-push, Contains-push_cases, Contains-append_left}
 use Rattle.std.proofs.lemmas.Option.{slice_get_within, slice_get_cases}
@@ -8,7 +8,7 @@ use Rattle.live_graph.specs.Meaning.{Meaning}
 use Rattle.live_graph.specs.Asking.{Joins, AsksKernel}
 use Rattle.live_graph.proofs.Rises.{kernel_rises, rise_none, rise_join}
 use Rattle.parser_states.specs.Leads.{KeepsNumbers}
-use Rattle.parser_states.specs.Asked.{Stands, IsNew, AsksNew}
+use Rattle.parser_states.specs.Asked.{Stands, AsksNew}
 use Rattle.parser_states.proofs.PlainParts.{push_cases, last_at}
 
 module _ {Key : Type 0} (old : List Key) (key : Key) (new : List Key) (joins : Joins old key new) where

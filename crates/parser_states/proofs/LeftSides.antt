@@ -1,9 +1,8 @@
 -- Whether a symbol is the left side of a rule, by the numbers of the rules with this left side.
-use Rattle.std.proofs.Common.{◌≡◌, ℕ, ◌==◌, Bool, true, false, cond, List, [], ◌∷◌, length, map, filter, Contains, refl, sym, ap, ◌∙◌, arith}
+use Rattle.std.proofs.Common.{◌≡◌, ℕ, ◌==◌, Bool, true, false, cond, List, [], ◌∷◌, length, map, filter, refl, ap, arith}
 use Rattle.std.specs.Cmp.{unsigned_Decides}
 use Rattle.std.proofs.lemmas.List.{length-map}
 use Rattle.forest.specs.declared.symbols.SymbolId.{SymbolId}
-use Rattle.forest.specs.declared.rules.RuleId.{RuleId}
 use Rattle.forest.specs.declared.rules.Rule.{Rule}
 use Rattle.forest.specs.Derivation.{IsNonterminal}
 use Rattle.forest.proofs.Ascending.{contains_here, contains_there}

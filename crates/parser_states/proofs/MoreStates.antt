@@ -1,5 +1,5 @@
 -- The states with one more, and with a target that is learned.
-use Rattle.std.proofs.Common.{◌≡◌, inl, inr, ℕ, ◌+◌, ◌≤◌, ◌<◌, List, [], ◌∷◌, ◌++◌, length, set, Some, slice_get, Contains, refl, sym, ap, ◌∙◌, subst, arith}
+use Rattle.std.proofs.Common.{◌≡◌, inl, inr, ℕ, ◌+◌, ◌≤◌, List, [], ◌∷◌, ◌++◌, length, set, Some, slice_get, Contains, sym, ap, ◌∙◌, subst, arith}
 use Rattle.std.proofs.Common.{length-append}
 use Rattle.std.proofs.lemmas.Option.{slice_get_within, slice_get_cases, same_Some}
 use Rattle.forest.specs.declared.rules.RuleId.{RuleId}
@@ -11,8 +11,8 @@ use Rattle.edit_log.proofs.PlainLists.{contains_at}
 use Rattle.item_sets.specs.declared.item.Item.{Item}
 use Rattle.item_sets.specs.Prefixes.{AreItems}
 use Rattle.parser_states.specs.declared.rows.Row.{Row}
-use Rattle.parser_states.specs.Parts.{part_of, IsWithin}
-use Rattle.parser_states.specs.Known.{Known, KnownMoves}
+use Rattle.parser_states.specs.Parts.{part_of}
+use Rattle.parser_states.specs.Known.{Known}
 use Rattle.parser_states.specs.Moves.{KeepsMoves}
 use Rattle.parser_states.specs.Leads.{KeepsNumbers}
 use Rattle.parser_states.specs.Rows.{IsRow, IsRowOf, IsCopied, IsShaped, IsRowWithin, AreTold}

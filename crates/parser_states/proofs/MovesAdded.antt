@@ -1,13 +1,11 @@
 -- Moves that are appended one after the other.
-use Rattle.std.proofs.Common.{◌≡◌, inl, inr, ℕ, ◌+◌, ◌<◌, ◌≤◌, List, [], ◌∷◌, ◌++◌, length, take, map, replicate, Some, None, slice_get, refl, sym, ap, ◌∙◌, subst, arith}
+use Rattle.std.proofs.Common.{◌≡◌, inl, inr, ℕ, ◌+◌, ◌≤◌, List, [], ◌∷◌, ◌++◌, length, take, map, replicate, Some, None, slice_get, sym, ap, ◌∙◌, subst, arith}
 use Rattle.std.proofs.Common.{length-append, append_assoc}
 use Rattle.std.proofs.lemmas.List.{take_all, length-map, map-append}
-use Rattle.std.proofs.lemmas.Option.{slice_get_within, same_Some}
 use Rattle.forest.specs.declared.symbols.SymbolId.{SymbolId}
 use Rattle.item_sets.specs.declared.item.Item.{Item}
 use Rattle.item_sets.specs.Walks.{Extends}
 use Rattle.parser_states.specs.declared.rows.Part.{Part}
-use Rattle.parser_states.specs.Parts.{part_of, IsWithin}
 use Rattle.parser_states.specs.Known.{KnownMoves}
 use Rattle.parser_states.specs.Moves.{AddsItems, AddsMoves, IsBehindAt}
 use Rattle.parser_states.proofs.PlainParts.{extends_same, extends_push, extends_append, still_there, within_more, part_kept, part_appended, within_appended, last_at}

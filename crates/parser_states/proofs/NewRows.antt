@@ -1,10 +1,9 @@
 -- The row of a new state keeps the expansion of its kernel.
-use Rattle.std.proofs.Common.{◌≡◌, ◌↔◌, ℕ, ◌+◌, ◌-◌, ◌≤◌, ◌<◌, true, false, List, length, map, Some, slice_get, Contains, refl, sym, ap, ◌∙◌, subst, arith, IsTrue}
+use Rattle.std.proofs.Common.{◌≡◌, ◌↔◌, ℕ, ◌+◌, ◌-◌, ◌≤◌, ◌<◌, true, false, List, length, map, Some, slice_get, Contains, sym, ap, ◌∙◌, subst, arith, IsTrue}
 use Rattle.std.proofs.lemmas.List.{length-map}
 use Rattle.std.specs.List.Sorted.{IsStrictlySortedBy}
 use Rattle.forest.specs.declared.symbols.SymbolId.{SymbolId}
 use Rattle.forest.specs.declared.rules.RuleId.{RuleId}
-use Rattle.forest.specs.declared.rules.Rule.{Rule}
 use Rattle.edit_log.specs.History.{Grammar}
 use Rattle.edit_log.specs.Facts.{IsWellFormed}
 use Rattle.edit_log.proofs.PlainLists.{contains_at, contains_map_from}
@@ -15,7 +14,7 @@ use Rattle.parser_states.specs.declared.rows.Row.{Row}
 use Rattle.parser_states.specs.declared.reduction.Reduction.{Reduction}
 use Rattle.parser_states.specs.Parts.{part_of, IsWithin}
 use Rattle.parser_states.specs.Known.{KnownMoves}
-use Rattle.parser_states.specs.Moves.{AddsMoves, IsBehind, IsBehindAt}
+use Rattle.parser_states.specs.Moves.{IsBehind, IsBehindAt}
 use Rattle.parser_states.specs.Reductions.{ListsReductions, Opens}
 use Rattle.parser_states.specs.Rows.{symbol_cmp, IsRow, IsRowOf, IsCopied}
 use Rattle.parser_states.proofs.PlainParts.{part_appended, within_appended, to_part}

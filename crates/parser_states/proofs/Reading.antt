@@ -1,5 +1,5 @@
 -- What the row of a state tells, and where its moves lead.
-use Rattle.std.proofs.Common.{◌≡◌, ◌↔◌, inl, inr, ℕ, ◌+◌, ◌-◌, ◌≤◌, ◌<◌, List, [], ◌∷◌, length, get_or, Option, Some, None, MatchOption, slice_get, Contains, IsTrue}
+use Rattle.std.proofs.Common.{◌≡◌, ◌↔◌, inl, inr, ℕ, ◌-◌, ◌<◌, List, [], ◌∷◌, length, get_or, Option, Some, None, slice_get, Contains, IsTrue}
 use Rattle.std.proofs.Common.{IfSome, IfNone, refl, sym, ap, ◌∙◌, subst, arith}
 use Rattle.std.specs.Option.{is_some}
 use Rattle.std.proofs.lemmas.Option.{slice_get_read, slice_get_within, slice_get_cases, same_Some}
@@ -17,7 +17,7 @@ use Rattle.parser_states.specs.declared.rows.Part.{Part}
 use Rattle.parser_states.specs.Parts.{part_of, IsWithin}
 use Rattle.parser_states.specs.Known.{Known, KnownMoves}
 use Rattle.parser_states.specs.Moves.{IsBehind, IsBehindAt, IsMovePlace}
-use Rattle.parser_states.specs.Leads.{IsNumbered, LeadsNowhere, LeadsTo, LeadsFrom, KeepsNumbers}
+use Rattle.parser_states.specs.Leads.{LeadsTo, KeepsNumbers}
 use Rattle.parser_states.specs.Rows.{IsRow, AreTold, IsPlaceOf, IsNoneOf}
 
 pub some_at : {X : Type 0} (list : List X) (place : ℕ) → place < length list → (x : X) × (slice_get list place ≡ Some x)

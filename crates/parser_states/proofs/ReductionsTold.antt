@@ -4,7 +4,6 @@ use Rattle.std.specs.List.Sorted.{IsStrictlySortedBy}
 use Rattle.std.proofs.lemmas.Option.{cond_some}
 use Rattle.forest.specs.declared.rules.RuleId.{RuleId}
 use Rattle.forest.specs.declared.rules.Rule.{Rule}
-use Rattle.forest.specs.Distinct.{IsDistinct}
 use Rattle.edit_log.specs.History.{Grammar}
 use Rattle.edit_log.specs.Facts.{IsWellFormed}
 use Rattle.edit_log.specs.Lookups.{rule_of}
@@ -15,7 +14,7 @@ use Rattle.item_sets.specs.Expansions.{IsReduction}
 use Rattle.item_sets.proofs.DistinctLists.{makes, made, distinct_made}
 use Rattle.item_sets.proofs.Positions.{number_same}
 use Rattle.parser_states.specs.declared.reduction.Reduction.{Reduction}
-use Rattle.parser_states.specs.Reductions.{reduction_by, IsReductionIn, ListsReductions}
+use Rattle.parser_states.specs.Reductions.{reduction_by, ListsReductions}
 use Rattle.parser_states.specs.Finished.{is_wanted, reduction_told, reductions_told}
 use Rattle.parser_states.proofs.Lists.{distinct_from_map}
 

@@ -1,5 +1,5 @@
 -- What is kept stays where more is kept.
-use Rattle.std.proofs.Common.{◌≡◌, inl, inr, ℕ, ◌+◌, ◌≤◌, ◌<◌, List, ◌++◌, length, map, ◌-◌, replicate, Some, slice_get, Contains, refl, sym, ap, ◌∙◌, subst, arith}
+use Rattle.std.proofs.Common.{◌≡◌, inl, inr, ℕ, ◌+◌, ◌≤◌, ◌<◌, List, length, map, ◌-◌, replicate, Some, slice_get, Contains, refl, sym, ap, ◌∙◌, subst, arith}
 use Rattle.std.proofs.Common.{length-append}
 use Rattle.std.proofs.lemmas.List.{length-map, length-replicate}
 use Rattle.std.proofs.lemmas.Option.{slice_get_within, slice_get_cases, same_Some}
@@ -17,7 +17,7 @@ use Rattle.parser_states.specs.Moves.{AddsMoves, IsBehind, IsBehindAt, KeepsMove
 use Rattle.parser_states.specs.Reductions.{ListsReductions}
 use Rattle.parser_states.specs.Leads.{KeepsNumbers}
 use Rattle.parser_states.specs.Rows.{symbol_cmp, IsRow, IsRowWithin, AreMoves}
-use Rattle.parser_states.proofs.PlainParts.{longer, still_there, was_there, within_more, part_kept, within_appended}
+use Rattle.parser_states.proofs.PlainParts.{longer, was_there, within_more, part_kept, within_appended}
 use Rattle.parser_states.proofs.Lists.{append_cases, in_replicate}
 use Rattle.parser_states.proofs.MovesAdded.{behind_more}
 

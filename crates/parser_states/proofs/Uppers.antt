@@ -1,5 +1,5 @@
 -- Where a kernel has a move on a symbol, there is a list of it: it cannot be that none is.
-use Rattle.std.proofs.Common.{◌≡◌, suc, ◌⊎◌, inl, inr, List, [], ◌∷◌, ◌++◌, map, sym, subst, arith, Contains}
+use Rattle.std.proofs.Common.{suc, ◌⊎◌, inl, inr, List, [], ◌∷◌, ◌++◌, map, sym, subst, arith, Contains}
 use Rattle.std.specs.List.Sorted.{IsStrictlySortedBy}
 use Rattle.std.proofs.lemmas.List.Elements.{Contains-append_left, Contains-append_right}
 use Rattle.forest.specs.declared.symbols.SymbolId.{SymbolId}

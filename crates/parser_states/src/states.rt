@@ -55,6 +55,13 @@ impl States {
         self.table.clear();
     }
 
+    /// How many states there are. Their numbers are those below.
+    pub fn count(&self) -> usize
+        ensures { result ≡ length self.now.kernels }
+    {
+        self.table.keys.len()
+    }
+
     /// Begins anew with the state that a parse begins in, which is asked of the graph and gets the number 0.
     pub fn start<G: Graph, L: Ledger>(
         &mut self,

@@ -1,4 +1,4 @@
-use Rattle.std.proofs.Common.{◌≡◌, [], ◌++◌, sym, ap, ◌∙◌, subst}
+use Rattle.std.proofs.Common.{◌++◌, ap, ◌∙◌, subst}
 use Rattle.parser_states.specs.Known.{known_moves}
 use Rattle.parser_states.specs.Moves.{AddsMoves}
 use Rattle.parser_states.proofs.asking.copy_expansion.Goals as goal

@@ -1,4 +1,4 @@
-use Rattle.std.proofs.Common.{◌≡◌, ◌≤◌, List, ◌++◌, ◌∷◌, [], length, get_or, Option, Some, None, option_map, refl, sym, ap, ◌∙◌, subst, arith, not, eqb, false, true}
+use Rattle.std.proofs.Common.{◌≡◌, ◌≤◌, ◌++◌, ◌∷◌, [], length, get_or, Some, option_map, refl, sym, ap, ◌∙◌, subst, arith, not, eqb, false, true}
 use mathlib.Core.Bool.{beq}
 use Rattle.forest.specs.declared.rules.RuleId.{RuleId}
 use Rattle.forest.specs.declared.rules.Rule.{Rule}

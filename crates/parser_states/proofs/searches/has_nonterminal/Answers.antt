@@ -1,4 +1,4 @@
-use Rattle.std.proofs.Common.{◌≡◌, inl, inr, ◌+◌, take, get_or, length, ap, sym, subst, ◌∙◌, Contains, refl, arith, eqb-true, eq-eqb}
+use Rattle.std.proofs.Common.{inl, inr, take, get_or, length, ap, sym, subst, ◌∙◌, Contains, refl, eqb-true, eq-eqb}
 use Rattle.std.proofs.lemmas.List.{take_more, take_all, get_or_default}
 use Rattle.std.proofs.lemmas.List.Elements.{Contains-push_cases}
 use Rattle.forest.specs.declared.symbols.SymbolId.{SymbolId}

@@ -1,4 +1,4 @@
-use Rattle.std.proofs.Common.{◌≡◌, take, Contains, length}
+use Rattle.std.proofs.Common.{take}
 use Rattle.parser_states.specs.Known.{known_moves}
 use Rattle.parser_states.proofs.MovesAdded.{AddsSome}
 use Rattle.parser_states.proofs.moves.MoveLists.add.Given as goal

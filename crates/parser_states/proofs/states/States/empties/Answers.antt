@@ -1,4 +1,4 @@
-use Rattle.std.proofs.Common.{◌≡◌, ◌<◌, Some, slice_get, sym, subst}
+use Rattle.std.proofs.Common.{◌≡◌, Some, slice_get, sym, subst}
 use Rattle.parser_states.specs.Parts.{part_of}
 use Rattle.parser_states.specs.Known.{Known, known}
 use Rattle.parser_states.specs.Expanded.{AreExpandedIn}

@@ -1,8 +1,7 @@
-use Rattle.std.proofs.Common.{◌≡◌, List, sym, ap, ◌∙◌, subst}
-use Rattle.item_sets.specs.declared.item.Item.{Item}
+use Rattle.std.proofs.Common.{◌≡◌, sym, ap, subst}
 use Rattle.item_sets.specs.Prefixes.{start_kernel}
 use Rattle.edit_log.specs.History.{Grammar}
-use Rattle.parser_states.specs.Known.{Known, known}
+use Rattle.parser_states.specs.Known.{known}
 use Rattle.parser_states.specs.Leads.{KeepsNumbers}
 use Rattle.parser_states.specs.Rows.{AreTold}
 use Rattle.parser_states.specs.Expanded.{AreExpandedIn}

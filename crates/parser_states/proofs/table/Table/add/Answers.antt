@@ -1,8 +1,6 @@
-use Rattle.std.proofs.Common.{◌≡◌, ◌++◌, ◌∷◌, [], List, length, refl, sym, ap, ◌∙◌, subst, arith}
-use Rattle.forest.specs.declared.rules.RuleId.{RuleId}
+use Rattle.std.proofs.Common.{◌≡◌, ◌++◌, ◌∷◌, [], length, refl, sym, ◌∙◌, subst}
 use Rattle.edit_log.specs.History.{Grammar}
 use Rattle.edit_log.specs.Facts.{IsWellFormed}
-use Rattle.parser_states.specs.declared.rows.Row.{Row}
 use Rattle.parser_states.specs.Known.{known, known_moves}
 use Rattle.parser_states.specs.Parts.{part_of, IsWithin}
 use Rattle.parser_states.specs.Rows.{AreTold, IsCopied, IsRowOf, IsRowWithin}

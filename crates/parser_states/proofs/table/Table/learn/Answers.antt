@@ -1,7 +1,6 @@
-use Rattle.std.proofs.Common.{◌≡◌, ◌+◌, length, Some, slice_get, refl, sym, ap, ◌∙◌, subst, arith}
+use Rattle.std.proofs.Common.{Some, refl, sym, ap, ◌∙◌, subst, arith}
 use Rattle.std.proofs.lemmas.Option.{slice_get_within}
 use Rattle.parser_states.specs.Known.{known, known_moves}
-use Rattle.parser_states.specs.Parts.{part_of}
 use Rattle.parser_states.specs.Leads.{IsNumbered}
 use Rattle.parser_states.proofs.PlainParts.{longer, still_there, part_kept}
 use Rattle.parser_states.proofs.Reading.{part_there, part_is, part_fits, upper_items}

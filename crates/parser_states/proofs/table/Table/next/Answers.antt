@@ -1,6 +1,6 @@
-use Rattle.std.proofs.Common.{◌≡◌, length, Some, slice_get, refl, sym, ap, ◌∙◌, subst, arith}
+use Rattle.std.proofs.Common.{◌≡◌, length, Some, slice_get, refl, arith}
 use Rattle.std.proofs.lemmas.Option.{slice_get_read, slice_get_within}
-use Rattle.parser_states.specs.Known.{known, known_moves}
+use Rattle.parser_states.specs.Known.{known}
 use Rattle.parser_states.proofs.AskedKernels.{asks_none}
 use Rattle.parser_states.proofs.Reading.{none_tells, known_leads, place_tells, move_place, keeps_joined}
 use Rattle.parser_states.proofs.table.Table.next.Goals as goal

@@ -1,6 +1,5 @@
-use Rattle.std.proofs.Common.{◌≡◌, inl, inr, ℕ, ◌+◌, ◌^◌, ◌<◌, ◌++◌, ◌∷◌, [], List, length, Some, slice_get, refl, sym, ap, ◌∙◌}
+use Rattle.std.proofs.Common.{◌≡◌, inl, inr, ◌+◌, ◌^◌, ◌<◌, ◌++◌, ◌∷◌, [], length, slice_get, refl, sym, ap, ◌∙◌}
 use Rattle.edit_log.proofs.PlainLists.{contains_at}
-use Rattle.item_sets.specs.declared.item.Item.{Item}
 use Rattle.live_graph.specs.Asking.{AsksKernel}
 use Rattle.parser_states.specs.Leads.{IsNumbered}
 use Rattle.parser_states.specs.Asked.{AsksNew}
