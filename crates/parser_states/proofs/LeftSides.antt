@@ -15,7 +15,8 @@ some_left [] x some = absurd (some refl)
 some_left (r ∷ rules) x some = by (r.left.0 == x.0) refl some (some_left rules x)
   where
     by : (b : Bool) → (r.left.0 == x.0) ≡ b
-        → (length (map (λ (q : Rule). q.number) (cond b (r ∷ filter (λ (q : Rule). q.left.0 == x.0) rules) (filter (λ (q : Rule). q.left.0 == x.0) rules))) ≡ 0 → ⊥)
+        → (length (map (λ (q : Rule). q.number) (cond b (r ∷ filter (λ (q : Rule). q.left.0 == x.0) rules)
+        (filter (λ (q : Rule). q.left.0 == x.0) rules))) ≡ 0 → ⊥)
         → ((length (numbers_of_left rules x) ≡ 0 → ⊥) → IsNonterminal rules x) → IsNonterminal (r ∷ rules) x
     by true e there rec =
         let f : ℕ → SymbolId = λ n. record { 0 = n } in

@@ -8,7 +8,8 @@ use Rattle.item_sets.specs.Walks.{Extends}
 use Rattle.parser_states.specs.declared.rows.Part.{Part}
 use Rattle.parser_states.specs.Known.{KnownMoves}
 use Rattle.parser_states.specs.Moves.{AddsItems, AddsMoves, IsBehindAt}
-use Rattle.parser_states.proofs.PlainParts.{extends_same, extends_push, extends_append, still_there, within_more, part_kept, part_appended, within_appended, last_at}
+use Rattle.parser_states.proofs.PlainParts.{extends_same, extends_push, extends_append, still_there}
+use Rattle.parser_states.proofs.PlainParts.{within_more, part_kept, part_appended, within_appended, last_at}
 use Rattle.parser_states.proofs.PlainParts.{push_cases, append_nil, one_more_same}
 
 -- these moves were appended

@@ -23,7 +23,8 @@ use Rattle.parser_states.specs.Rows.{IsRow, AreTold, IsPlaceOf, IsNoneOf}
 pub some_at : {X : Type 0} (list : List X) (place : ℕ) → place < length list → (x : X) × (slice_get list place ≡ Some x)
 some_at list place within = elim (slice_get_cases list place).1 [ inl there ↦ (there.0, there.2) | inr past ↦ absurd (omega (arith, past.0, within)) ]
 
-module _ (rules : List Rule) (states : Known) (are : AreTold rules states) (state : ℕ) (kernel : List Item) (named : slice_get states.kernels state ≡ Some kernel) where
+module _ (rules : List Rule) (states : Known) (are : AreTold rules states) (state : ℕ) (kernel : List Item)
+    (named : slice_get states.kernels state ≡ Some kernel) where
   pub row_told : (row : Row) → row ≡ get_or states.rows state row → IsRow rules states.moves states.reductions kernel row
   row_told row is = are.rows state kernel row named (slice_get_read states.rows (length states.rows) state row refl (omega (
     arith,
@@ -69,7 +70,8 @@ move_place rules states are state within x place is =
 
 -- ---- what stands behind a move
 
-module _ (rules : List Rule) (moves : KnownMoves) (place : ℕ) (is : IsMovePlace rules moves place) (part : Part) (read : part ≡ get_or moves.behind place part) where
+module _ (rules : List Rule) (moves : KnownMoves) (place : ℕ) (is : IsMovePlace rules moves place) (part : Part)
+    (read : part ≡ get_or moves.behind place part) where
   pub part_there : slice_get moves.behind place ≡ Some part
   part_there = slice_get_read moves.behind (length moves.behind) place part refl (slice_get_within moves.behind place is.behind.at.part is.behind.at.at) read
 

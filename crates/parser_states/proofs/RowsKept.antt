@@ -28,7 +28,8 @@ keeps_added added old new part adds = record {
   items = adds.items;
 }
 
-pub moves_within : (added : List (SymbolId × List Item)) (old new : KnownMoves) (part : Part) → AddsMoves added old new part → IsWithin part (length new.symbols)
+pub moves_within : (added : List (SymbolId × List Item)) (old new : KnownMoves) (part : Part) → AddsMoves added old new part
+    → IsWithin part (length new.symbols)
 moves_within added old new part adds = within_appended old.symbols (map (λ (m : SymbolId × List Item). m.0) added) new.symbols part adds.symbols adds.first
     (omega (arith, adds.past, length-map added (λ (m : SymbolId × List Item). m.0)))
 

@@ -1,5 +1,6 @@
 -- What a binary search for a symbol finds, and that it is decided whether a symbol is there.
-use Rattle.std.proofs.Common.{◌≡◌, ◌⊎◌, inl, inr, ℕ, Bool, true, false, List, [], ◌∷◌, length, get_or, Some, Result, Ok, Err, slice_get, Contains, IfSome, IfNone}
+use Rattle.std.proofs.Common.{◌≡◌, ◌⊎◌, inl, inr, ℕ, Bool, true, false, List, []}
+use Rattle.std.proofs.Common.{◌∷◌, length, get_or, Some, Result, Ok, Err, slice_get, Contains, IfSome, IfNone}
 use Rattle.std.proofs.Common.{refl, sym, ap, ◌∙◌, subst, arith}
 use Rattle.std.specs.List.Sorted.{IsStrictlySortedBy, IsSearchInRange, IsBinarySearchResult}
 use Rattle.std.specs.Ordering.{nat_cmp}

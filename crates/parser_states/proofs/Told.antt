@@ -46,7 +46,8 @@ module _ (rules : List Rule) (empty : Bool) (numbers : List RuleId) (i : ℕ) (n
   unfolding one
   told_next new more =
       let each : RuleId → Option Reduction = λ n. reduction_told empty (rule_of rules n) in
-      let longer : take (i + 1) numbers ≡ take i numbers ++ number ∷ [] = take_more numbers i (record { 0 = 0 }) within ∙ ap (λ n. take i numbers ++ n ∷ []) here in
+      let longer : take (i + 1) numbers ≡ take i numbers ++ number ∷ [] =
+      take_more numbers i (record { 0 = 0 }) within ∙ ap (λ n. take i numbers ++ n ∷ []) here in
       more ∙ ap (λ l. l ++ one) is ∙ append_assoc first (filter_map each (take i numbers)) one
       ∙ ap (λ l. first ++ l) (sym (ap (filter_map each) longer ∙ filter_map-append each (take i numbers) (number ∷ [])))
 

@@ -22,7 +22,11 @@ returns-then-not-is_empty c =
     let here : SymbolId = get_or c.args.symbols.now c.loop-symbol.symbol-index (record { 0 = 0 }) in (
       λ yes. (
         here,
-        (c.loop-symbol.symbol-index, c.loop-symbol-test.true, get_or_default c.args.symbols.now c.loop-symbol.symbol-index here (record { 0 = 0 }) c.loop-symbol-test.true),
+        (
+          c.loop-symbol.symbol-index,
+          c.loop-symbol-test.true,
+          get_or_default c.args.symbols.now c.loop-symbol.symbol-index here (record { 0 = 0 }) c.loop-symbol-test.true,
+        ),
         some_left c.args.grammar.now.grammar.rules here (λ none.
             let yes' = sym c.is_empty.ensures ∙ c.if-not-is_empty.true in
             let no = eq-eqb (length c.rules_of.result.now) 0 (ap length c.rules_of.ensures ∙ none) in

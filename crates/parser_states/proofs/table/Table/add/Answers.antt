@@ -62,7 +62,8 @@ told g c =
     let row = c.in_ok-row.row in
     let part = c.in_ok-moves.moves in
     let finished = c.copy_expansion.new.finished.items in
-    let one : IsRowOf c.grammar-grammar.result.now.grammar.rules part (part_of part new.moves.symbols) finished c.args.self.now.reductions.items new.reductions row =
+    let one : IsRowOf c.grammar-grammar.result.now.grammar.rules part (part_of part new.moves.symbols) finished
+    c.args.self.now.reductions.items new.reductions row =
     subst (λ list. IsRowOf c.grammar-grammar.result.now.grammar.rules part (part_of part list) finished c.args.self.now.reductions.items new.reductions row)
     c.deref.ensures.value
     (subst (λ list. IsRowOf c.grammar-grammar.result.now.grammar.rules part (part_of part c.deref.result.now) list c.args.self.now.reductions.items
