@@ -65,9 +65,9 @@ stored_wider spans parts added row s = record {
 }
 
 pub span_added : (spans : List SpanRow) (splits : List SplitRow) (parts : List ℕ) (span : Span) → length spans < TOKEN_PART → IsTable spans splits parts
-    → IsTable (spans ++ record { span = span; newest = 0 } ∷ []) splits parts
+    → IsTable (spans ++ record { span = span; newest = 0; count = 0 } ∷ []) splits parts
 span_added spans splits parts span room t =
-    let added : SpanRow = record { span = span; newest = 0 } in
+    let added : SpanRow = record { span = span; newest = 0; count = 0 } in
     record {
       few = omega (arith, length_push spans added);
       newest = λ n row e. elim (at_push spans added n row e) [

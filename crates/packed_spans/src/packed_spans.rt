@@ -93,6 +93,7 @@ impl PackedSpans {
         self.table.spans.push(SpanRow {
             span: Span { symbol, from, to },
             newest: 0,
+            count: 0,
         })?;
         Ok(number as u32)
     }
@@ -111,7 +112,9 @@ impl PackedSpans {
         let older = self.table.spans[span as usize].newest;
         let row = row_for(&mut self.table.parts, span, rule, older, parts)?;
         self.table.splits.push(row)?;
-        self.table.spans[span as usize].newest = link;
+        let owner = &mut self.table.spans[span as usize];
+        owner.newest = link;
+        owner.count = owner.count.wrapping_add(1);
         Ok(())
     }
 

@@ -15,6 +15,8 @@ pub(crate) const INLINE_PARTS: u32 = 2;
 pub(crate) struct SpanRow {
     pub(crate) span: Span,
     pub(crate) newest: u32,
+    /// How many splits it has, so that room for all is taken at once. Nothing else depends on it.
+    pub(crate) count: usize,
 }
 
 /// A split of a span. Up to two parts are the first and the second. Of more, the first is where they begin in the

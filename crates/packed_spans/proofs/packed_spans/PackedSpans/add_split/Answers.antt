@@ -1,4 +1,4 @@
-use Rattle.std.proofs.Common.{◌≡◌, ◌<◌, ◌+◌, List, length, map, refl, sym, ◌∙◌, ap, subst, arith, slice_get, Some, ◌++◌, ◌∷◌, []}
+use Rattle.std.proofs.Common.{◌≡◌, ◌<◌, ◌+◌, ◌%◌, List, length, map, refl, sym, ◌∙◌, ap, subst, arith, slice_get, Some, ◌++◌, ◌∷◌, []}
 use Rattle.std.proofs.lemmas.List.{length-map}
 use Rattle.std.proofs.lemmas.Result.{err_from_is_err_and}
 use Rattle.packed_spans.specs.declared.span.Span.{Span}
@@ -30,12 +30,16 @@ invariant_of-self-2 c =
     let within : c.args.span < length c.self.inside.table.spans.items =
     omega (arith, c.requires.span, ap length spans, length-map c.self.inside.table.spans.items span_of) in
     let was : slice_get c.self.inside.table.spans.items c.args.span ≡ Some c.index.result.now = read_at _ _ _ within c.index.ensures in
-    let again : slice_get c.self.inside.table.spans.items c.args.span ≡ Some c.index_mut.result.now = read_at _ _ _ within c.index_mut.ensures.value in
-    let same : c.index_mut.result.now ≡ c.index.result.now = one_at c.self.inside.table.spans.items c.args.span _ _ again was in
+    let again : slice_get c.self.inside.table.spans.items c.args.span ≡ Some c.index_mut-owner.result.now = read_at _ _ _ within c.index_mut-owner.ensures.value in
+    let same : c.index_mut-owner.result.now ≡ c.index.result.now = one_at c.self.inside.table.spans.items c.args.span _ _ again was in
     let link : c.in-Ok.link ≡ length c.self.inside.table.splits.items + 1 = omega (arith, c.in-Ok.ensures) in
     let are = subst (λ ss. ArePartsOf ss c.args.parts.now) (sym spans) c.requires.parts in
     let row = row_added _ _ _ _ more grown c.self.invariant _ _ _ _ c.in_ok-row.row c.in_ok-row.ensures.row c.index.result.now
-    (record { span = c.index_mut.result.now.span; newest = c.in-Ok.link }) was refl (ap (λ (r : SpanRow). r.span) same) link are in
+    (record {
+      span = c.index_mut-owner.result.now.span;
+      newest = c.in-Ok.link;
+      count = (c.index_mut-owner.result.now.count + 1) % 18446744073709551616;
+    }) was refl (ap (λ (r : SpanRow). r.span) same) link are in
     rw c.in_ok-push.ensures.items row
 
 pub returns-clause-spans : goal.returns-clause-spans
@@ -43,8 +47,8 @@ returns-clause-spans c =
     let spans : map span_of c.self.inside.table.spans.items ≡ c.args.self.now.spans = ap (λ (q : Packed). q.spans) c.self.view_is in
     let within : c.args.span < length c.self.inside.table.spans.items =
     omega (arith, c.requires.span, ap length spans, length-map c.self.inside.table.spans.items span_of) in
-    let again : slice_get c.self.inside.table.spans.items c.args.span ≡ Some c.index_mut.result.now = read_at _ _ _ within c.index_mut.ensures.value in
-    map_kept span_of _ _ c.index_mut.result.now _ again refl ∙ spans
+    let again : slice_get c.self.inside.table.spans.items c.args.span ≡ Some c.index_mut-owner.result.now = read_at _ _ _ within c.index_mut-owner.ensures.value in
+    map_kept span_of _ _ c.index_mut-owner.result.now _ again refl ∙ spans
 
 pub returns-clause-splits : goal.returns-clause-splits
 returns-clause-splits c =
