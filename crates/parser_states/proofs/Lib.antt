@@ -5,6 +5,7 @@ pub mod MovesAdded
 pub mod Told
 pub mod Uppers
 pub mod Lists
+pub mod MadeInOrder
 pub mod ReductionsTold
 pub mod RowsKept
 pub mod NewRows

@@ -8,11 +8,12 @@ use Rattle.forest.specs.declared.rules.Rule.{Rule}
 use Rattle.edit_log.specs.History.{Grammar}
 use Rattle.edit_log.specs.Facts.{IsWellFormed}
 use Rattle.edit_log.specs.Lookups.{rule_of}
-use Rattle.edit_log.proofs.PlainLists.{found, find_only, sorted_keys, distinct_map}
+use Rattle.edit_log.proofs.PlainLists.{found, find_only, sorted_keys, distinct_map, by_key}
 use Rattle.item_sets.specs.declared.item.Item.{Item}
 use Rattle.item_sets.specs.Orders.{reduction_cmp}
 use Rattle.item_sets.specs.Expansions.{IsReduction}
 use Rattle.item_sets.proofs.DistinctLists.{makes, made, distinct_made}
+use Rattle.parser_states.proofs.MadeInOrder.{made_ascends}
 use Rattle.item_sets.proofs.Positions.{number_same}
 use Rattle.parser_states.specs.declared.reduction.Reduction.{Reduction}
 use Rattle.parser_states.specs.Reductions.{reduction_by, ListsReductions}
@@ -76,8 +77,14 @@ module _ (g : Grammar) (well : IsWellFormed g) (kernel : List Item) (finished : 
       let tb = told_by b y eb in
       sym ta.numbered ∙ ap (λ (q : Reduction). q.rule) ta.makes_it ∙ sym (ap (λ (q : Reduction). q.rule) tb.makes_it) ∙ tb.numbered
 
+  -- the reduction has the number that tells it
+  same_number : (number : RuleId) (y : Reduction) → reduction_told empty (rule_of g.rules number) ≡ Some y → y.rule.0 ≡ number.0
+  same_number number y e = let t = told_by number y e in ap (λ (q : Reduction). q.rule.0) (sym t.makes_it) ∙ ap (λ (k : RuleId). k.0) t.numbered
+
   pub lists_told : ListsReductions g.rules kernel Wanted (reductions_told g.rules empty finished)
   lists_told = record {
+    ascends = made_ascends (λ number. reduction_told empty (rule_of g.rules number)) (λ (k : RuleId). k.0) (λ (q : Reduction). q.rule.0) finished
+        (λ number y _ e. same_number number y e) ascends;
     distinct = distinct_made (λ number. reduction_told empty (rule_of g.rules number)) finished apart
         (distinct_from_map (λ (k : RuleId). k.0) finished (sorted_keys (λ (k : RuleId). k.0) finished ascends));
     members = λ reduction. (

@@ -1,5 +1,8 @@
 -- The reductions of a state, and whether it opens a left side.
 use Rattle.std.specs.Prelude.{◌≡◌, ℕ, ◌↔◌, List, length, Contains}
+use Rattle.std.specs.List.Sorted.{IsStrictlySortedBy}
+use Rattle.std.specs.Ordering.{nat_cmp}
+use Rattle.std.specs.declared.cmp.Ordering.{Ordering}
 use Rattle.forest.specs.declared.symbols.SymbolId.{SymbolId}
 use Rattle.forest.specs.declared.rules.Rule.{Rule}
 use Rattle.forest.specs.Derivation.{IsNonterminal}
@@ -20,8 +23,13 @@ pub record IsReductionIn (rules : List Rule) (kernel : List Item) (Wanted : ℕ 
   pub wanted : Wanted (length rule.right)
   pub made : reduction_by rule ≡ reduction
 
--- exactly the reductions by live rules that are finished in the kernel and of wanted lengths, each once
+-- by the number of the rule
+abbrev pub number_cmp : Reduction → Reduction → Ordering
+number_cmp a b = nat_cmp a.rule.0 b.rule.0
+
+-- exactly the reductions by live rules that are finished in the kernel and of wanted lengths, each once, by their numbers
 pub record ListsReductions (rules : List Rule) (kernel : List Item) (Wanted : ℕ → Type 0) (reductions : List Reduction) : Type 0 where
+  pub ascends : IsStrictlySortedBy number_cmp reductions
   pub distinct : IsDistinct reductions
   pub members : (reduction : Reduction) → Contains reductions reduction ↔ IsReductionIn rules kernel Wanted reduction
 
