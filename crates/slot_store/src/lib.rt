@@ -14,12 +14,12 @@ pub mod page;
 pub mod pass;
 mod paths;
 pub mod pinned;
+mod pinned_page;
 mod pinning;
 mod placing;
 mod site;
 #[cfg(test)]
 mod tests;
-mod using;
 mod writing;
 
 /// There was no memory.

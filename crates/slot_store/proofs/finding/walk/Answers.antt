@@ -1,8 +1,10 @@
-use Rattle.std.proofs.Common.{◌≡◌, ◌-◌, ◌<◌, ℕ, refl, sym, ◌∙◌, subst, arith}
+use Rattle.std.proofs.Common.{◌≡◌, ◌-◌, ◌<◌, ℕ, refl, sym, ap, ◌∙◌, subst, arith}
 use Rattle.pin_rule.specs.declared.sizes.Sizes.{Sizes}
+use Rattle.pin_rule.specs.declared.view.View.{View}
 use Rattle.pin_rule.specs.Hands.{view_of, sizes_of}
 use Rattle.pin_rule.proofs.KindLoads.{keeps_load_place}
 use Rattle.std.specs.Prelude.{IsTrue, Bool, true, false}
+use Rattle.slot_store.specs.Quiet.{IsPlain}
 use Rattle.slot_store.proofs.Growing.{work_on, told_at}
 use Rattle.slot_store.proofs.Passing.{starts, on_the_page, row_met, loaded_on, meets, loaded_it, empty, found, goes_on}
 use Rattle.slot_store.proofs.finding.walk.Goals as goal
@@ -13,7 +15,8 @@ not_both b t f = cc
 pub loop-step-init : goal.loop-step-init
 loop-step-init g c = record {
   table = refl;
-  walking = starts c.args.site (view_of c.args.hand.now) c.args.key.now c.first_place-place.result
+  own = refl;
+  walking = starts IsPlain c.args.site (view_of c.args.hand.now) c.args.key.now c.first_place-place.result
       c.first_place-place.ensures;
 }
 
@@ -24,21 +27,21 @@ load_place-met-requires-clause-share g c = let k = c.loop-step.invariant.walking
 pub load_place-met-requires-clause-place : goal.load_place-met-requires-clause-place
 load_place-met-requires-clause-place g c = let z = c.args.site in let k = c.loop-step.invariant.walking in
     let same : sizes_of c.loop-step.hand ≡ z.sizes = k.moves.sizes ∙ c.requires.sizes in
-    let inside = on_the_page z (view_of c.args.hand.now) (view_of c.loop-step.hand) c.args.key.now c.loop-step._step c.loop-step.place k c.loop-step-test.true
+    let inside = on_the_page IsPlain z (view_of c.args.hand.now) (view_of c.loop-step.hand) c.args.key.now c.loop-step._step c.loop-step.place k c.loop-step-test.true
     in
     subst (λ (y : Sizes). (c.args.site.page < y.versions) × (c.loop-step.place < y.places)) (sym same) (c.args.site.page_in, inside)
 
 pub load_place-met-requires-clause-keeps : goal.load_place-met-requires-clause-keeps
 load_place-met-requires-clause-keeps g c = let z = c.args.site in let h = c.loop-step.hand in let k = c.loop-step.invariant.walking in
     let same : sizes_of h ≡ z.sizes = k.moves.sizes ∙ c.requires.sizes in
-    let inside = on_the_page z (view_of c.args.hand.now) (view_of h) c.args.key.now c.loop-step._step c.loop-step.place k c.loop-step-test.true in
+    let inside = on_the_page IsPlain z (view_of c.args.hand.now) (view_of h) c.args.key.now c.loop-step._step c.loop-step.place k c.loop-step-test.true in
     keeps_load_place g.C.Content.lawful g.C.Content.fits (view_of h) c.args.site.page c.loop-step.place (subst (λ (y : Sizes). c.loop-step.place < y.places)
     (sym same) inside)
 
 pub returns-then-met-eq0-clause-walked : goal.returns-then-met-eq0-clause-walked
 returns-then-met-eq0-clause-walked g c = let z = c.args.site in let v = view_of c.args.hand.now in let w = view_of c.loop-step.hand in
     let k = c.loop-step.invariant.walking in
-    empty z v w c.args.key.now c.loop-step._step c.loop-step.place k (work_on z v w k.added c.requires k.moves)
+    empty z v w c.args.key.now c.loop-step._step c.loop-step.place k c.loop-step.invariant.own (work_on z v w k.added c.requires k.moves)
     (view_of c.load_place-met.new.self) c.load_place-met.result c.load_place-met.ensures.view c.if-met-eq0.true c.loop-step-test.true
 
 pub overflow_cast-row : goal.overflow_cast-row
@@ -70,11 +73,12 @@ returns-then-has_key-clause-walked g c =
     let m = meets z w u work place n c.load_place-met.ensures.view _ told (n - 1) (row_met n c.if-met-eq0.false) in
     let inside : n - 1 < z.sizes.rows = m.met.0 in
     found z v w c.args.key.now c.loop-step._step place k u (view_of c.has_key.new.hand) (n - 1) m
-    (IsTrue c.has_key.result) c.has_key.ensures.compared c.loop-step-test.true c.if-has_key.true inside
+    (IsTrue c.has_key.result) c.has_key.ensures.compared
+    (c.has_key.ensures.compared.own ∙ ap (λ (y : View). y.own) c.load_place-met.ensures.view ∙ c.loop-step.invariant.own) c.loop-step-test.true c.if-has_key.true inside
     (loaded_it z w u work place n c.load_place-met.ensures.view _ told (n - 1) (row_met n c.if-met-eq0.false))
 
 pub next_place-place-requires : goal.next_place-place-requires
-next_place-place-requires g c = on_the_page c.args.site (view_of c.args.hand.now)
+next_place-place-requires g c = on_the_page IsPlain c.args.site (view_of c.args.hand.now)
     (view_of c.loop-step.hand) c.args.key.now c.loop-step._step c.loop-step.place c.loop-step.invariant.walking c.loop-step-test.true
 
 pub loop-step-preserved : goal.loop-step-preserved
@@ -86,7 +90,8 @@ loop-step-preserved g c =
     let m = meets z w u work place n c.load_place-met.ensures.view _ told (n - 1) (row_met n c.if-met-eq0.false) in
     let inside : n - 1 < z.sizes.rows = m.met.0 in record {
       table = c.has_key.ensures.table ∙ c.load_place-met.ensures.table ∙ c.loop-step.invariant.table;
-      walking = goes_on z v w c.args.key.now c.loop-step._step place k u (view_of c.has_key.new.hand) (n - 1) m
+      own = c.has_key.ensures.compared.own ∙ ap (λ (y : View). y.own) c.load_place-met.ensures.view ∙ c.loop-step.invariant.own;
+      walking = goes_on IsPlain (λ _ p. p) z v w c.args.key.now c.loop-step._step place k u (view_of c.has_key.new.hand) (n - 1) m
           (IsTrue c.has_key.result) c.has_key.ensures.compared (λ t. not_both c.has_key.result t c.if-has_key.false) c.next_place-place.result
           (c.next_place-place.ensures c.args.key.now c.loop-step._step k.at);
     }

@@ -8,7 +8,6 @@ use crate::finding::{Glance, look};
 use crate::page::{Look, Page, Put};
 use crate::pinned::Pinned;
 use crate::placing::{Placed, place_row};
-use crate::writing::write_whole;
 use pin_rule::content::Content;
 
 impl<C: Content> Page<C> for Pinned<C> {
@@ -41,7 +40,6 @@ impl<C: Content> Page<C> for Pinned<C> {
             return Put::PoolFull;
         };
         self.next = row + 1;
-        write_whole(&mut self.hand, self.site, row, key, payload);
         match place_row(&mut self.hand, self.site, row, key, payload) {
             Placed::Here => Put::Made,
             Placed::Already => {

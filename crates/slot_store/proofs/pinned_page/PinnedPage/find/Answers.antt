@@ -4,7 +4,7 @@ use Rattle.pin_rule.specs.Hands.{view_of, table_of}
 use Rattle.slot_store.specs.declared.page.Look.TheVariants as look
 use Rattle.slot_store.specs.Answers.{IsFound}
 use Rattle.slot_store.proofs.Extending.{finds}
-use Rattle.slot_store.proofs.using.PinnedPage.find.Goals as goal
+use Rattle.slot_store.proofs.pinned_page.PinnedPage.find.Goals as goal
 
 pub returns-in-PageFull : goal.returns-in-PageFull
 returns-in-PageFull g c = let p = c.args.self.now in let q = c.look-glance.new.hand in let k = c.in-PageFull.ensures.look in (
