@@ -18,4 +18,7 @@ pub mod Allowed
 pub mod Parting
 pub mod KindPin
 pub mod KindLoadLog
+pub mod KindWriteLog
+pub mod KindWritePlace
+pub mod KindSwapCurrent
 pub mod Beginning

@@ -8,6 +8,7 @@
 
 pub mod choosers;
 pub mod content;
+mod editing;
 pub mod hand;
 pub mod laws;
 pub mod limits;
@@ -15,7 +16,6 @@ mod opening;
 mod operations;
 pub mod ops;
 mod pins;
-mod plays;
 mod rule;
 mod seating;
 pub mod sizes;
@@ -24,6 +24,7 @@ mod stepping;
 #[cfg(test)]
 mod tests;
 pub mod view;
+mod view_changes;
 
 /// There was no memory.
 pub type NoMemory = std::alloc::AllocError;

@@ -10,7 +10,7 @@ ghost use Rattle.pin_rule.specs.Hands.{view_of, sizes_of, table_of};
 use crate::content::Content;
 use crate::hand::Hand;
 use crate::ops::Op;
-use crate::plays::{Doing, Halves, Portion, Reads, Stores};
+use crate::view_changes::{Doing, Halves, Portion, Reads, Stores};
 use std::marker::Brand;
 
 impl<C: Content> Hand<C> {
@@ -133,6 +133,36 @@ impl<C: Content> Hand<C> {
         ensures meets { Meets (view_of self.old) op result }
     {
         self.add_as::<Brand>(op)
+    }
+
+    fn swap_as<G: Doing>(&mut self, op: Op, new: u64) -> u64
+        requires op { G.op ≡ op }
+        requires share { (view_of self.old).share ≢ 0 }
+        requires inside { IsIn (sizes_of self.old) op }
+        requires does { (n : ℕ) → does op n ≡ new }
+        requires keeps { Keeps C.lawful C.fits (view_of self.old) op }
+        ensures table { table_of self.new ≡ table_of self.old }
+        ensures view { view_of self.new ≡ after (view_of self.old) op result }
+        ensures told { Tells C.lawful C.fits (view_of self.new) }
+        ensures meets { Meets (view_of self.old) op result }
+    {
+        let word = self.starts.index_of(op);
+        let table = self.table.value();
+        table.shared.swap::<Reads<C, G>>(&mut self.seat, word, new)
+    }
+
+    /// Leaves a new word in place of the word met.
+    pub(crate) fn swap(&mut self, op: Op, new: u64) -> u64
+        requires share { (view_of self.old).share ≢ 0 }
+        requires inside { IsIn (sizes_of self.old) op }
+        requires does { (n : ℕ) → does op n ≡ new }
+        requires keeps { Keeps C.lawful C.fits (view_of self.old) op }
+        ensures table { table_of self.new ≡ table_of self.old }
+        ensures view { view_of self.new ≡ after (view_of self.old) op result }
+        ensures told { Tells C.lawful C.fits (view_of self.new) }
+        ensures meets { Meets (view_of self.old) op result }
+    {
+        self.swap_as::<Brand>(op, new)
     }
 
     pub(crate) fn split_as<P: Portion>(&mut self, pins: u32) -> Hand<C>

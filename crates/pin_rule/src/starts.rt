@@ -87,6 +87,20 @@ impl Starts {
             Op::Pin => 0,
             Op::Unpin { page } => 1 + page as usize,
             Op::LoadLog { entry, index } => self.log + 32 * entry as usize + index as usize,
+            Op::WriteLog {
+                entry,
+                index,
+                word: _,
+            } => self.log + 32 * entry as usize + index as usize,
+            Op::WritePlace {
+                page,
+                place,
+                word: _,
+            } => self.place_at(page, place),
+            Op::SwapCurrent {
+                version: _,
+                page: _,
+            } => 0,
         }
     }
 }

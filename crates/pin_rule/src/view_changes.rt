@@ -1,4 +1,4 @@
-//! What an operation tells its hand.
+//! What an operation makes of the views of its seats, and what it tells of them.
 
 ghost use Rattle.std.specs.Prelude.{◌≡◌};
 ghost use Rattle.pin_rule.specs.Ops.{word_of};
