@@ -6,6 +6,8 @@ pub mod Versions
 pub mod Moves
 pub mod Parts
 pub mod Settling
+pub mod Spare
+pub mod MakingOn
 pub mod KindLoads
 pub mod KindClaim
 pub mod KindWriteRow
