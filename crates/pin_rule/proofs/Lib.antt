@@ -22,5 +22,7 @@ pub mod KindPin
 pub mod KindLoadLog
 pub mod KindWriteLog
 pub mod KindWritePlace
+pub mod Places
+pub mod WholePage
 pub mod KindSwapCurrent
 pub mod Beginning
