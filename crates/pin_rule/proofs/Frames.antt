@@ -69,6 +69,9 @@ claim_in z row h = omega arith
 pub place_in : (z : Sizes) (page place : ℕ) → page < z.versions → place < z.places → place_word z page place < word_count z
 place_in z page place h k = let m = place_before z page place h k in omega arith
 
+pub log_in : (z : Sizes) (e i : ℕ) → e < z.log → i < 32 → log_word z e i < word_count z
+log_in z e i h k = omega arith
+
 pub row_in : (z : Sizes) (row index : ℕ) → row < z.rows → index < z.width → row_word z row index < word_count z
 row_in z row index h k = let m = before row z.rows z.width index h k in omega arith
 
@@ -152,6 +155,25 @@ module _ (z : Sizes) (words : List ℕ) (x : ℕ) where
 
   pub place-logged : (page place e i : ℕ) → page < z.versions → place < z.places → logged z (set words (place_word z page place) x) e i ≡ logged z words e i
   place-logged page place e i v h = let m = place_before z page place v h in other (place_word z page place) (log_word z e i) (λ e. omega arith)
+
+  -- a word of the log is written
+  pub log-cur : (e i : ℕ) → slice_index (set words (log_word z e i) x) 0 ≡ slice_index words 0
+  log-cur e i = other (log_word z e i) 0 (λ q. omega arith)
+
+  pub log-release : (e i page : ℕ) → page < z.versions → release z (set words (log_word z e i) x) page ≡ release z words page
+  log-release e i page h = other (log_word z e i) (release_word z page) (λ q. omega arith)
+
+  pub log-claim : (e i r : ℕ) → r < z.rows → claim z (set words (log_word z e i) x) r ≡ claim z words r
+  log-claim e i r h = other (log_word z e i) (claim_word z r) (λ q. omega arith)
+
+  pub log-entry : (e i page p : ℕ) → page < z.versions → p < z.places → entry z (set words (log_word z e i) x) page p ≡ entry z words page p
+  log-entry e i page p v h = let m = place_before z page p v h in other (log_word z e i) (place_word z page p) (λ q. omega arith)
+
+  pub log-logged : (e i d j : ℕ) → i < 32 → j < 32 → (d ≡ e → j ≢ i) → logged z (set words (log_word z e i) x) d j ≡ logged z words d j
+  log-logged e i d j h k n = other (log_word z e i) (log_word z d j) (λ q. let same : d ≡ e = omega arith in n same (omega arith))
+
+  pub log-row : (e i r index : ℕ) → e < z.log → i < 32 → row_at z (set words (log_word z e i) x) r index ≡ row_at z words r index
+  log-row e i r index h k = other (log_word z e i) (row_word z r index) (λ q. omega arith)
 
   -- a word of a row is written
   pub row-claim : (row index r : ℕ) → r < z.rows → claim z (set words (row_word z row index) x) r ≡ claim z words r

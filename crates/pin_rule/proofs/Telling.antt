@@ -55,7 +55,7 @@ module _ (L : List Entry → Type 0) (F : List Entry → List ℕ → Type 0) (z
     read : (row index word : ℕ) → KnowsWord v (now v) row index word → row_at z words row index ≡ word
     read row index word k = ((each_in (WordStands z words h.role) _ v.words (h.facts id v at).1 k).live l live version_is).1.1
 
-    key_is : (row : ℕ) (g : ℕ → ℕ) → KnowsKey v (now v) row g → key_of (row_at z words row) ≡ key_of g
+    pub key_is : (row : ℕ) (g : ℕ → ℕ) → KnowsKey v (now v) row g → key_of (row_at z words row) ≡ key_of g
     key_is row g k = key_alike (row_at z words row) g (λ index of. read row index (g index) (k index of))
 
     told : v.share ≢ 0 → IsTold (F v.log) v (now v)
@@ -79,7 +79,7 @@ module _ (L : List Entry → Type 0) (F : List Entry → List ℕ → Type 0) (z
 
 -- CUR names the newest version and its page
 module _ (L : List Entry → Type 0) (F : List Entry → List ℕ → Type 0) (z : Sizes) (words : List ℕ) (views : List View) (h : Lawful L F z words views) where
-  few : h.taken < 4294967296
+  pub few : h.taken < 4294967296
   few = let t = few_taken L F z words views h h.role.newest h.taken (inl (refl, refl)) in let most = z.pins_in in omega arith
 
   page_few : h.role.newest.page < 16

@@ -99,11 +99,14 @@ module _ (L : List Entry → Type 0) (F : List Entry → List ℕ → Type 0) (z
       let same : v ≡ k.view = maybe.some-injective v k.view (sym at ∙ ap (get_elem? views) seat ∙ k.at) in
       same_some r h.role (sym e ∙ ap (λ (u : View). u.role) same ∙ k.has)
 
-  -- the editor's log is the log
-  pub editor_log : (r : Role) → v.role ≡ Some r → now v ≡ length h.log
-  editor_log r e = let k = h.editor in let seat = k.one id v r at e in
+  pub log_of_editor : (r : Role) → v.role ≡ Some r → v.log ≡ h.log
+  log_of_editor r e = let k = h.editor in let seat = k.one id v r at e in
       let same : v ≡ k.view = maybe.some-injective v k.view (sym at ∙ ap (get_elem? views) seat ∙ k.at) in
-      ap (λ (u : View). length u.log) same ∙ ap length k.log_is
+      ap (λ (u : View). u.log) same ∙ k.log_is
+
+  -- the editor's log is as long as the log
+  pub editor_log : (r : Role) → v.role ≡ Some r → now v ≡ length h.log
+  editor_log r e = ap length (log_of_editor r e)
 
   pub speaks : (page m : ℕ) → version_at v page ≡ Some m → Speaks h.role page m
   speaks page m e = pinned_speaks z h.role h.live v.pinned v.role page m (h.pinned id v at) is_role e
