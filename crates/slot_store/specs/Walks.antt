@@ -39,6 +39,7 @@ pub record MovesBy (P : Step → Type 0) (v w : View) (added : List Step) : Type
   pub pins_left : w.pins_left ≡ v.pins_left
   pub log_words : w.log_words ≡ v.log_words
   pub pinned : w.pinned ≡ v.pinned
+  pub role : w.role ≡ v.role
   pub steps : w.steps ≡ v.steps ++ added
   pub quiet : Each P added
   pub entries : (e : EntryFact) → In e v.entries → In e w.entries
