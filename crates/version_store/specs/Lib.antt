@@ -1,0 +1,7 @@
+pub mod Roles
+pub mod Meaning
+pub mod Edits
+pub mod Means
+pub mod Parts
+pub mod Stages
+pub mod Choices
