@@ -46,9 +46,12 @@ pub claim_apart : kind.Claim ≢ kind.WriteRow
 claim_apart e = cc
 
 -- a view that names a row knows it
-pub knows_row : (z : Site) (v : View) (row : ℕ) → version_of v.entries row ≡ Some z.version → KnowsRow v z.version row
-knows_row z v row is = let r = names v.entries row z.version is in
+pub names_known : (v : View) (version row : ℕ) → version_of v.entries row ≡ Some version → KnowsRow v version row
+names_known v version row is = let r = names v.entries row version is in
     (r.0.place, subst (λ (t : ℕ × ℕ). In (let e : EntryFact = record { version = t.0; place = r.0.place; row = t.1 } in e) v.entries) (λ i. (r.3 i, r.2 i)) r.1)
+
+pub knows_row : (z : Site) (v : View) (row : ℕ) → version_of v.entries row ≡ Some z.version → KnowsRow v z.version row
+knows_row z v row is = names_known v z.version row is
 
 named : (z : Site) (es : List EntryFact) (place row : ℕ) → version_of (record { version = z.version; place = place; row = row } ∷ es) row ≡ Some z.version
 named z es place row = ap (λ b. cond b (Some z.version) (version_of es row)) (eq-eqb row row refl)

@@ -30,9 +30,11 @@ pub(crate) fn read_row<C: Content>(
     ensures room { length buffer.new ≡ current.sizes.width }
     ensures told { Tells C.lawful C.fits (view_of hand.new) }
 {
-    buffer[0] = hand.load_row(row, 0);
-    buffer[1] = hand.load_row(row, 1);
-    let count = 2 + buffer[0] as usize + buffer[1] as usize;
+    let key = hand.load_row(row, 0);
+    let payload = hand.load_row(row, 1);
+    buffer[0] = key;
+    buffer[1] = payload;
+    let count = 2 + key as usize + payload as usize;
     for index in 2..count {
         buffer[index] = hand.load_row(row, index as u32);
     }
