@@ -53,6 +53,15 @@ impl Starts {
         self.pages + at
     }
 
+    fn log_at(self, entry: u32, index: u32) -> usize
+        requires entry { entry < self.sizes.log }
+        requires index { index < 32 }
+        ensures index { result ≡ log_word self.sizes entry index }
+        ensures inside { result < word_count self.sizes }
+    {
+        self.log + 32 * entry as usize + index as usize
+    }
+
     fn row_at(self, row: u32, index: u32) -> usize
         requires row { row < self.sizes.rows }
         requires index { index < self.sizes.width }
@@ -86,12 +95,12 @@ impl Starts {
             Op::GiveBack { row } => self.claim_at(row),
             Op::Pin => 0,
             Op::Unpin { page } => 1 + page as usize,
-            Op::LoadLog { entry, index } => self.log + 32 * entry as usize + index as usize,
+            Op::LoadLog { entry, index } => self.log_at(entry, index),
             Op::WriteLog {
                 entry,
                 index,
                 word: _,
-            } => self.log + 32 * entry as usize + index as usize,
+            } => self.log_at(entry, index),
             Op::WritePlace {
                 page,
                 place,
