@@ -43,6 +43,22 @@ impl Starts {
         self.claims + row as usize
     }
 
+    /// The index of the page's first place.
+    pub(crate) fn page_at(self, page: u32) -> usize
+        requires { page < self.sizes.versions }
+        ensures { result ≡ place_word self.sizes page 0 }
+    {
+        self.pages + page as usize * self.sizes.places as usize
+    }
+
+    /// The index of the row's first word.
+    pub(crate) fn row_from(self, row: u32) -> usize
+        requires { row < self.sizes.rows }
+        ensures { result ≡ row_word self.sizes row 0 }
+    {
+        self.rows + row as usize * self.sizes.width as usize
+    }
+
     fn place_at(self, page: u32, place: u32) -> usize
         requires page { page < self.sizes.versions }
         requires place { place < self.sizes.places }
