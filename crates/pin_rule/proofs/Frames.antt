@@ -5,6 +5,9 @@ use Rattle.std.proofs.lemmas.Bool.{cases_lt}
 use Rattle.std.proofs.Math.Nat.{mul-le-mul_right}
 use Rattle.pin_rule.specs.declared.sizes.Sizes.{Sizes}
 use Rattle.pin_rule.specs.Layout.{release_word, claim_word, place_word, log_word, row_word, word_count, release, claim, entry, logged, row_at}
+use Rattle.pin_rule.specs.declared.ops.Op.{Op}
+use Rattle.pin_rule.specs.declared.ops.Op.TheVariants as op
+use Rattle.pin_rule.specs.Ops.{word_of, IsIn}
 use Rattle.pin_rule.specs.Rows.{words_of, key_of, content_of}
 use Rattle.pin_rule.specs.Told.{OfKey}
 
@@ -74,6 +77,21 @@ log_in z e i h k = omega arith
 
 pub row_in : (z : Sizes) (row index : ℕ) → row < z.rows → index < z.width → row_word z row index < word_count z
 row_in z row index h k = let m = before row z.rows z.width index h k in omega arith
+
+-- each operation names a word of the table
+pub word_in : (z : Sizes) (o : Op) → IsIn z o → word_of z o < word_count z
+word_in z (op.LoadPlace page place) i = place_in z page place i.0 i.1
+word_in z (op.LoadRow row index) i = row_in z row index i.0 i.1
+word_in z (op.Claim row) i = claim_in z row i
+word_in z (op.WriteRow row index word) i = row_in z row index i.0 i.1
+word_in z (op.Publish page place row) i = place_in z page place i.0 i.1
+word_in z (op.GiveBack row) i = claim_in z row i
+word_in z op.Pin i = omega arith
+word_in z (op.Unpin page) i = release_in z page i
+word_in z (op.LoadLog entry index) i = log_in z entry index i.0 i.1
+word_in z (op.WriteLog entry index word) i = log_in z entry index i.0 i.1
+word_in z (op.WritePlace page place word) i = place_in z page place i.0 i.1
+word_in z (op.SwapCurrent version page) i = omega arith
 
 module _ (z : Sizes) (words : List ℕ) (x : ℕ) where
   other : (i j : ℕ) → j ≢ i → slice_index (set words i x) j ≡ slice_index words j

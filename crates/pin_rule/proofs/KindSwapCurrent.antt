@@ -1,5 +1,5 @@
 -- A new version keeps the rule.
-use Rattle.std.proofs.Common.{◌≡◌, ◌≢◌, ℕ, zero, suc, ◌+◌, ◌<◌, ◌≤◌, List, [], ◌∷◌, ◌++◌, ◌⊎◌, map, take, inl, inr, length, length-append, append_assoc}
+use Rattle.std.proofs.Common.{◌≡◌, ◌≢◌, ℕ, zero, suc, ◌+◌, ◌<◌, ◌≤◌, List, [], ◌∷◌, ◌++◌, map, take, inl, inr, length, length-append, append_assoc}
 use Rattle.std.proofs.Common.{append-nil, set, length-set, slice_index, sym, refl, ap, ◌∙◌, subst, arith}
 use Rattle.std.proofs.Math.Seq.{take-length}
 use Rattle.std.proofs.lemmas.List.{length-map, take-append-le}
@@ -18,15 +18,14 @@ use Rattle.pin_rule.specs.declared.view.Making.{Making}
 use Rattle.pin_rule.specs.declared.view.Role.{Role}
 use Rattle.pin_rule.specs.declared.view.EntryFact.{EntryFact}
 use Rattle.pin_rule.specs.declared.view.WordFact.{WordFact}
-use Rattle.pin_rule.specs.declared.view.KnownPlace.{KnownPlace}
 use Rattle.pin_rule.specs.declared.ops.Op.TheVariants as op
-use Rattle.pin_rule.specs.Layout.{word_count, naming, taken_named, release, claim, entry, logged, row_at}
+use Rattle.pin_rule.specs.Layout.{word_count, naming, taken_named, release, entry, logged, row_at}
 use Rattle.pin_rule.specs.Lists.{Each, In}
-use Rattle.pin_rule.specs.Views.{whole, now, EachView, lives, IsLive, given_page, pages_taken, Names, IsPrefix}
-use Rattle.pin_rule.specs.Pages.{IsPage, IsHeld, IsHeldLive, IsLeft, IsToFree}
-use Rattle.pin_rule.specs.PartCurrent.{IsCurrent, IsLogWord, KnowsLog}
-use Rattle.pin_rule.specs.PartLive.{IsEditor, IsVersions, PinsLive, HasTaken, Pins, pins_on, pinning}
-use Rattle.pin_rule.specs.PartClaims.{StandsIn, IsOwned, Claims}
+use Rattle.pin_rule.specs.Views.{whole, now, EachView, lives, IsLive, given_page, Names, IsPrefix}
+use Rattle.pin_rule.specs.Pages.{IsPage, IsHeld, IsHeldLive}
+use Rattle.pin_rule.specs.PartCurrent.{IsCurrent, KnowsLog}
+use Rattle.pin_rule.specs.PartLive.{IsEditor, IsVersions, PinsLive, Pins, pins_on, pinning}
+use Rattle.pin_rule.specs.PartClaims.{StandsIn, Claims}
 use Rattle.pin_rule.specs.PartCarried.{Carried}
 use Rattle.pin_rule.specs.PartFacts.{EntryStands, WordStands, Knows, IsKnown, KnowsWhole}
 use Rattle.pin_rule.specs.PartShares.{IsRightful}
@@ -40,10 +39,10 @@ use Rattle.pin_rule.proofs.Lists.{each_map, each_in, each_append, each_mapped, a
 use Rattle.pin_rule.proofs.Frames.{Same, wrote, cur-release, cur-claim, cur-entry, cur-logged, cur-row}
 use Rattle.pin_rule.proofs.Numbers.{taken_is}
 use Rattle.pin_rule.proofs.Moves.{page_moves}
-use Rattle.pin_rule.proofs.Seats.{none_some, same_some, each_set, each_other, here, owned_before, owned_after, claims_by}
+use Rattle.pin_rule.proofs.Seats.{none_some, each_set, each_other, here, owned_before, owned_after, claims_by}
 use Rattle.pin_rule.proofs.Counts.{pins_else}
 use Rattle.pin_rule.proofs.Versions.{newest_live, live_version, making_apart, idle, is_role, log_of_editor}
-use Rattle.pin_rule.proofs.Parts.{Kept, held_on, live_on, pages_move, carried_moves, knows_on, claims_keep}
+use Rattle.pin_rule.proofs.Parts.{Kept, held_on, pages_move, carried_moves, knows_on, claims_keep}
 use Rattle.pin_rule.proofs.Settling.{pins_stay, budget_stays}
 use Rattle.pin_rule.proofs.Telling.{few}
 use Rattle.pin_rule.proofs.Places.{each_cond, row_place, place_row, each_entry, each_fact, each_place}

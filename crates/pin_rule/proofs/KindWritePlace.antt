@@ -5,8 +5,6 @@ use Rattle.std.proofs.lemmas.Bool.{cases_lt}
 use Rattle.std.proofs.Math.ListN.{get_or-append}
 use Rattle.std.proofs.Math.Seq.{get_or-append_seam}
 use mathlib.Core.Option as maybe
-use mathlib.Core.Logic.{dite}
-use native.Mathlib.Decide.{ℕ_discrete}
 use lib.ListN.{get_elem?}
 use Rattle.std.specs.Prelude.{Some, Option}
 use Rattle.pin_rule.specs.declared.content.Entry.{Entry}
@@ -24,7 +22,6 @@ use Rattle.pin_rule.specs.PartFacts.{WordStands}
 use Rattle.pin_rule.specs.Lawful.{Lawful}
 use Rattle.pin_rule.specs.Steps.{after_write_place}
 use Rattle.pin_rule.specs.Making.{begun, next_log, with_place_word}
-use Rattle.pin_rule.specs.Told.{KnowsContent}
 use Rattle.pin_rule.specs.NextVersion.{IsKeepable, IsPlaceWord}
 use Rattle.pin_rule.specs.Keeps.{Keeps}
 use Rattle.pin_rule.proofs.Lists.{each_in}

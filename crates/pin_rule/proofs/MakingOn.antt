@@ -1,5 +1,5 @@
 -- The rule after a step of the editor that changes only what is in the making.
-use Rattle.std.proofs.Common.{◌≡◌, ◌≢◌, ℕ, suc, ◌<◌, List, inl, inr, length, set, slice_index, sym, refl, ◌∙◌, subst}
+use Rattle.std.proofs.Common.{◌≡◌, ℕ, suc, ◌<◌, List, inl, inr, length, set, slice_index, sym, ◌∙◌, subst}
 use mathlib.Core.Option as maybe
 use lib.ListN.{get_elem?}
 use Rattle.std.specs.Prelude.{Some}

@@ -1,5 +1,5 @@
 -- What is made of the words of a page's places: rows, entries, facts and places that are known.
-use Rattle.std.proofs.Common.{◌≡◌, ◌≢◌, ℕ, zero, suc, ◌+◌, ◌<◌, List, [], ◌∷◌, inl, inr, length, slice_index, eqb, eq-eqb, ne_eqb, sym, refl, ap, ◌∙◌, subst}
+use Rattle.std.proofs.Common.{◌≡◌, ℕ, zero, suc, ◌+◌, ◌<◌, List, [], ◌∷◌, inl, inr, length, slice_index, eq-eqb, ne_eqb, sym, refl, ap, subst}
 use Rattle.std.proofs.Common.{arith}
 use mathlib.Core.Bool.{cond}
 use mathlib.Core.Logic.{dite}

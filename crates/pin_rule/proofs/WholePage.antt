@@ -1,5 +1,5 @@
 -- What the editor knows of the page in the making, and what the rule says of it, make it a page of the next version.
-use Rattle.std.proofs.Common.{◌≡◌, ◌≢◌, ℕ, suc, ◌<◌, List, inl, slice_index, length, sym, refl, ap, ◌∙◌, subst, arith}
+use Rattle.std.proofs.Common.{◌≡◌, ℕ, suc, ◌<◌, List, slice_index, sym, refl, ◌∙◌, subst, arith}
 use mathlib.Core.Option as maybe
 use lib.ListN.{get_elem?}
 use Rattle.std.specs.Prelude.{Some}

@@ -19,6 +19,7 @@ mod pins;
 mod rule;
 mod seating;
 pub mod sizes;
+mod starting;
 mod starts;
 mod stepping;
 #[cfg(test)]
