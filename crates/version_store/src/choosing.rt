@@ -69,8 +69,9 @@ pub(crate) fn choose_rows<C: Content, H: Chooser<C>>(
     ensures same_leads { (first next : List Entry) → H.leads chooser.new first next ↔ H.leads chooser.old first next }
     ensures same_keeps { (words : List ℕ) → H.keeps chooser.new words ↔ H.keeps chooser.old words }
 {
+    let start = hand.page_start(current.page);
     for place in 0..current.sizes.places {
-        let met = hand.load_place(current.page, place);
+        let met = hand.load_place_at(start, current.page, place);
         if met != 0 {
             choose_row(hand, current, (met - 1) as u32, chooser, buffer, places);
         }

@@ -20,7 +20,8 @@ pub(crate) fn write_page<C: Content>(hand: &mut Hand<C>, current: Current, place
     ensures table { table_of hand.new ≡ table_of hand.old }
     ensures wrote { WritesPage current (view_of hand.old) (view_of hand.new) places.now }
 {
+    let start = hand.page_start(current.next);
     for place in 0..places.len() {
-        hand.write_place(current.next, place as u32, places[place]);
+        hand.write_place_at(start, current.next, place as u32, places[place]);
     }
 }

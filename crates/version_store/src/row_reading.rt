@@ -30,13 +30,14 @@ pub(crate) fn read_row<C: Content>(
     ensures room { length buffer.new ≡ current.sizes.width }
     ensures told { Tells C.lawful C.fits (view_of hand.new) }
 {
-    let key = hand.load_row(row, 0);
-    let payload = hand.load_row(row, 1);
+    let start = hand.row_start(row);
+    let key = hand.load_row_at(start, row, 0);
+    let payload = hand.load_row_at(start, row, 1);
     buffer[0] = key;
     buffer[1] = payload;
     let count = 2 + key as usize + payload as usize;
     for index in 2..count {
-        buffer[index] = hand.load_row(row, index as u32);
+        buffer[index] = hand.load_row_at(start, row, index as u32);
     }
     count
 }
