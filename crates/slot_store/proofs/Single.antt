@@ -23,7 +23,7 @@ word_grows : (o : Option ℕ) (ws : List WordFact) (row index n : ℕ) (x : Word
 word_grows None ws row index n x i = i
 word_grows (Some version) ws row index n x i = inr i
 
-entry_grows : (o : Option ℕ) (es : List EntryFact) (place n : ℕ) (e : EntryFact) → In e es → In e (met_entry o es place n)
+pub entry_grows : (o : Option ℕ) (es : List EntryFact) (place n : ℕ) (e : EntryFact) → In e es → In e (met_entry o es place n)
 entry_grows None es place n e i = i
 entry_grows (Some version) es place zero e i = i
 entry_grows (Some version) es place (suc row) e i = inr i
@@ -53,8 +53,9 @@ names_known v version row is = let r = names v.entries row version is in
 pub knows_row : (z : Site) (v : View) (row : ℕ) → version_of v.entries row ≡ Some z.version → KnowsRow v z.version row
 knows_row z v row is = names_known v z.version row is
 
-named : (z : Site) (es : List EntryFact) (place row : ℕ) → version_of (record { version = z.version; place = place; row = row } ∷ es) row ≡ Some z.version
-named z es place row = ap (λ b. cond b (Some z.version) (version_of es row)) (eq-eqb row row refl)
+-- the newest entry names its row
+pub names_it : (version : ℕ) (es : List EntryFact) (place row : ℕ) → version_of (record { version = version; place = place; row = row } ∷ es) row ≡ Some version
+names_it version es place row = ap (λ b. cond b (Some version) (version_of es row)) (eq-eqb row row refl)
 
 module _ (z : Site) (v : View) (work : IsAtWork z v) where
   module _ (row index n : ℕ) where
@@ -121,7 +122,7 @@ module _ (z : Site) (v : View) (work : IsAtWork z v) where
         (sym (met ∙ met_at place row)) (inl refl)
 
     pub names_row : version_of w.entries row ≡ Some z.version
-    names_row = ap (λ (es : List EntryFact). version_of es row) (met ∙ met_at place row) ∙ named z v.entries place row
+    names_row = ap (λ (es : List EntryFact). version_of es row) (met ∙ met_at place row) ∙ names_it z.version v.entries place row
 
 published_grow : (o : Option ℕ) (own : Option OwnRow) (ws : List WordFact) (n : ℕ) (x : WordFact) → In x ws → In x (published_words o own ws n)
 published_grow None own ws n x i = i

@@ -32,7 +32,7 @@ made_length : (r : Role) (page : ℕ) (xs : List ℕ) → length xs ≡ length (
 made_length r page [] = refl
 made_length r page (y ∷ ys) = refl
 
-made_is : (r : Role) (page : ℕ) (xs : List ℕ) → (making_of (with_making r (making_entry page xs))).entry ≡ xs
+pub made_is : (r : Role) (page : ℕ) (xs : List ℕ) → (making_of (with_making r (making_entry page xs))).entry ≡ xs
 made_is r page [] = refl
 made_is r page (y ∷ ys) = refl
 
@@ -44,14 +44,15 @@ module _ (c : Current) (v : View) (editor : IsEditorOf c v) where
   }
 
   module _ (w : View) (xs : List ℕ) (x : ℕ) (so_far : WritesEntry c v w xs) where
-    pub more : (u : View) → u ≡ after_write_log w c.version (length xs) x → spare_page (role_of v) ≡ c.next → WritesEntry c v u (xs ++ x ∷ [])
-    more u is spare = let same : w.sizes ≡ c.sizes = so_far.goes.stays.sizes ∙ editor.sizes in
+    pub more : (u : View) (index : ℕ) → index ≡ length xs → u ≡ after_write_log w c.version index x → spare_page (role_of v) ≡ c.next
+        → WritesEntry c v u (xs ++ x ∷ [])
+    more u index at is spare = let same : w.sizes ≡ c.sizes = so_far.goes.stays.sizes ∙ editor.sizes in
         let one : Goes w (after_write_log w c.version (length xs) x) (wrote_log c.sizes c.version (length xs) x ∷ []) = record {
           stays = record { sizes = refl; share = refl; pins_left = refl; log_words = refl; pinned = refl; own = refl };
           log = refl;
           steps = ap (λ (z : Sizes). w.steps ++ wrote_log z c.version (length xs) x ∷ []) same;
         } in
-        subst (λ (t : View). WritesEntry c v t (xs ++ x ∷ [])) (sym is) (record {
+        subst (λ (t : View). WritesEntry c v t (xs ++ x ∷ [])) (sym (is ∙ ap (λ (n : ℕ). after_write_log w c.version n x) at)) (record {
           goes = goes_as v (after_write_log w c.version (length xs) x) _ (entry_stores c.sizes c.version 0 (xs ++ x ∷ []))
               (sym (entry_next c.sizes c.version xs x))
               (goes_on v w (after_write_log w c.version (length xs) x) (entry_stores c.sizes c.version 0 xs) _ so_far.goes one);

@@ -4,3 +4,9 @@ pub mod Going
 pub mod EntryWords
 pub mod PageWords
 pub mod RowWords
+pub mod WholeRows
+pub mod RowChoice
+pub mod PageRows
+pub mod Chosen
+pub mod RowsByNumber
+pub mod NextVersions

@@ -72,8 +72,9 @@ pub(crate) fn choose_rows<C: Content, H: Chooser<C>>(
     let start = hand.page_start(current.page);
     for place in 0..current.sizes.places {
         let met = hand.load_place_at(start, current.page, place);
-        if met != 0 {
-            choose_row(hand, current, (met - 1) as u32, chooser, buffer, places);
+        if met == 0 {
+            continue;
         }
+        choose_row(hand, current, (met - 1) as u32, chooser, buffer, places);
     }
 }

@@ -20,6 +20,7 @@ pub(crate) fn write_entry<C: Content>(hand: &mut Hand<C>, current: Current, entr
     requires room { length (pages_taken (role_of (view_of hand.old))) < current.sizes.versions }
     requires lawful { C.lawful ((view_of hand.old).log ++ record { words = entry.now } ∷ []) }
     ensures table { table_of hand.new ≡ table_of hand.old }
+    ensures long { length entry.now ≡ 32 }
     ensures wrote { WritesEntry current (view_of hand.old) (view_of hand.new) entry.now }
 {
     for index in 0..32u32 {

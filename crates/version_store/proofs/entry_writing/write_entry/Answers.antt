@@ -23,6 +23,5 @@ loop-index-preserved g c =
     let u = view_of c.write_log.new.self in let v = view_of c.args.hand.now in record {
       table = c.write_log.ensures.table ∙ c.loop-index.invariant.table;
       wrote = subst (WritesEntry c.args.current v u) (sym (next_taken entry long i c.loop-index-test.true))
-          (more c.args.current v r.editor w (take i entry) x c.loop-index.invariant.wrote u (c.write_log.ensures.view
-          ∙ ap (λ (n : ℕ). after_write_log w c.args.current.version n x) (sym few)) r.next);
+          (more c.args.current v r.editor w (take i entry) x c.loop-index.invariant.wrote u i (sym few) c.write_log.ensures.view r.next);
     }
