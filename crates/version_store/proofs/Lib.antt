@@ -10,3 +10,4 @@ pub mod PageRows
 pub mod Chosen
 pub mod RowsByNumber
 pub mod NextVersions
+pub mod Downs

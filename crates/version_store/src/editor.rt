@@ -35,6 +35,7 @@ pub struct Editor<C: Content> {
     ghost newest: { (role_of (view_of hand)).newest.version ≡ version },
     ghost pages: { pages_of (role_of (view_of hand)) ≡ down (λ n. n) (version + 1) },
     ghost older: { older_of (role_of (view_of hand)) ≡ down (λ n. (n, slice_index taken n)) version },
+    ghost room_to_note: { length taken ≡ 16 },
     ghost live_in: { version < sizes.versions },
     ghost log_in: { version ≤ sizes.log },
     ghost counted: { left ≡ (view_of hand).pins_left },
