@@ -1,5 +1,5 @@
 -- The rows that are kept so far, and one place more.
-use Rattle.std.proofs.Common.{◌≡◌, ◌≢◌, ◌⊎◌, ℕ, zero, suc, ◌+◌, ◌<◌, ◌≤◌, List, [], ◌∷◌, ◌++◌, inl, inr, length, length-append, length-set, set, slice_index}
+use Rattle.std.proofs.Common.{◌≡◌, ◌≢◌, ◌⊎◌, ℕ, zero, suc, List, [], ◌∷◌, ◌++◌, inl, inr, length, length-append, length-set, slice_index}
 use Rattle.std.proofs.Common.{get_or-set_same, get_or-set_other, sym, refl, ap, ◌∙◌, subst, arith}
 use Rattle.std.specs.Prelude.{◌↔◌, Option, Some, None, replicate}
 use mathlib.Core.Option as maybe
@@ -107,7 +107,7 @@ module _ (keeps next : List ℕ → Type 0) (z : Sizes) where
               subst (IsPast z new (key_in f.words)) (sym same) (past_on (key_in f.words) at puts.4),
             ))
             (λ n. let k = h.kept p row (sym (else_ p n) ∙ is) in
-                (k.0, k.1, at_longer found (Some f ∷ []) k.0 (Some k.1) k.2, k.3, k.4, k.5, past_on (key_in k.1.words) p k.6));
+            (k.0, k.1, at_longer found (Some f ∷ []) k.0 (Some k.1) k.2, k.3, k.4, k.5, past_on (key_in k.1.words) p k.6));
         every = λ o g a keep_it. elim (at_some found f o g a) [
           | inl old ↦ let e = h.every o g old keep_it in
               (e.0, e.1, else_ e.0 (λ same. let free : slice_index places e.0 ≡ 0 = ap (slice_index places) same ∙ puts.2 in let k = e.2 in omega arith) ∙ e.2)
@@ -115,11 +115,11 @@ module _ (keeps next : List ℕ → Type 0) (z : Sizes) where
         ];
         once = λ p q row a b. dite (ℕ_discrete p at)
             (λ same. dite (ℕ_discrete q at)
-              (λ too. same ∙ sym too)
-              (λ n. let e : suc row ≡ suc f.row = sym a ∙ ap (slice_index new) same ∙ here in absurd (old_row q row n b (omega arith))))
+            (λ too. same ∙ sym too)
+            (λ n. let e : suc row ≡ suc f.row = sym a ∙ ap (slice_index new) same ∙ here in absurd (old_row q row n b (omega arith))))
             (λ n. dite (ℕ_discrete q at)
-              (λ too. let e : suc row ≡ suc f.row = sym b ∙ ap (slice_index new) too ∙ here in absurd (old_row p row n a (omega arith)))
-              (λ m. h.once p q row (sym (else_ p n) ∙ a) (sym (else_ q m) ∙ b)));
+            (λ too. let e : suc row ≡ suc f.row = sym b ∙ ap (slice_index new) too ∙ here in absurd (old_row p row n a (omega arith)))
+            (λ m. h.once p q row (sym (else_ p n) ∙ a) (sym (else_ q m) ∙ b)));
       }
 
     -- the row that was read is kept at its place, or dropped

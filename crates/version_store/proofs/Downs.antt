@@ -1,17 +1,15 @@
 -- Lists that count down: the live versions of an editor, and their pages.
-use Rattle.std.proofs.Common.{◌≡◌, ◌≢◌, ℕ, zero, suc, ◌+◌, ◌%◌, ◌^◌, ◌<◌, ◌≤◌, List, [], ◌∷◌, ◌++◌, map, inl, inr, length, set, slice_index, get_or-set_same}
+use Rattle.std.proofs.Common.{◌≡◌, ℕ, zero, suc, ◌+◌, ◌<◌, List, [], ◌∷◌, ◌++◌, inl, inr, length, set, slice_index, get_or-set_same}
 use Rattle.std.proofs.Common.{get_or-set_other, sym, refl, ap, ◌∙◌, subst, arith}
 use mathlib.Core.Logic.{dite}
 use native.Mathlib.Decide.{ℕ_discrete}
 use Rattle.std.specs.Prelude.{None}
 use Rattle.pin_rule.specs.declared.view.Role.{Role}
-use Rattle.pin_rule.specs.declared.view.Live.{Live}
-use Rattle.pin_rule.specs.declared.view.GivingUp.{GivingUp}
 use Rattle.pin_rule.specs.Lists.{In}
-use Rattle.pin_rule.specs.Views.{lives, given_page, pages_taken}
+use Rattle.pin_rule.specs.Views.{given_page, pages_taken}
 use Rattle.pin_rule.specs.Making.{spare_page}
 use Rattle.pin_rule.proofs.Spare.{spare_is}
-use Rattle.version_store.specs.Roles.{pages_of, older_of, down}
+use Rattle.version_store.specs.Roles.{pages_of, down}
 use Rattle.version_store.specs.Edits.{IsLastOf}
 
 pub down_length : {A : Type 0} (f : ℕ → A) (n : ℕ) → length (down f n) ≡ n

@@ -1,11 +1,10 @@
 -- The loop that writes an entry.
-use Rattle.std.proofs.Common.{◌≡◌, ℕ, suc, ◌+◌, ◌<◌, ◌≤◌, List, [], ◌∷◌, ◌++◌, length, length-append, take, slice_index, sym, refl, ap, ◌∙◌, subst, arith}
+use Rattle.std.proofs.Common.{◌≡◌, ℕ, ◌+◌, ◌<◌, List, [], ◌∷◌, ◌++◌, length, length-append, take, slice_index, sym, refl, ap, ◌∙◌, subst, arith}
 use Rattle.std.proofs.lemmas.List.{length-take-le, take_more, take_all}
 use Rattle.std.specs.Prelude.{Option, Some, None}
 use Rattle.pin_rule.specs.declared.sizes.Sizes.{Sizes}
 use Rattle.pin_rule.specs.declared.content.Entry.{Entry}
 use Rattle.pin_rule.specs.declared.view.View.{View}
-use Rattle.pin_rule.specs.declared.view.Step.{Step}
 use Rattle.pin_rule.specs.declared.view.Role.{Role}
 use Rattle.pin_rule.specs.declared.view.Making.{Making}
 use Rattle.pin_rule.specs.declared.ops.Op.TheVariants as op
@@ -13,14 +12,12 @@ use Rattle.pin_rule.specs.Views.{pages_taken}
 use Rattle.pin_rule.specs.Making.{making_of, spare_page, with_entry_word}
 use Rattle.pin_rule.specs.Steps.{wrote_log, after_write_log}
 use Rattle.pin_rule.specs.Keeps.{Keeps}
-use Rattle.pin_rule.specs.PartCurrent.{IsNextLog}
-use Rattle.pin_rule.specs.NextVersion.{IsEntryWord}
 use Rattle.pin_rule.proofs.KindWriteLog.{keeps_write_log}
 use Rattle.version_store.specs.declared.current.Current.{Current}
 use Rattle.version_store.specs.Roles.{role_of}
 use Rattle.version_store.specs.Edits.{entry_stores}
 use Rattle.version_store.specs.Stages.{IsEditorOf, Goes, WritesEntry, with_making, making_entry}
-use Rattle.version_store.proofs.Going.{still, goes_nowhere, goes_on, goes_as, entry_next}
+use Rattle.version_store.proofs.Going.{goes_nowhere, goes_on, goes_as, entry_next}
 
 -- the entry in the making has one word more
 more_made : (r : Role) (page : ℕ) (xs : List ℕ) (x : ℕ) → spare_page r ≡ page

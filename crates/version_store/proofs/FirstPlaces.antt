@@ -1,5 +1,5 @@
 -- The walk to the first empty place of a path.
-use Rattle.std.proofs.Common.{◌≡◌, ◌≢◌, ℕ, ◌<◌, ◌≤◌, List, length, set, slice_index, sym, refl, ap, ◌∙◌, subst, arith}
+use Rattle.std.proofs.Common.{◌≡◌, ◌≢◌, ℕ, ◌<◌, ◌≤◌, List, length, set, slice_index, sym, ap, ◌∙◌, arith}
 use Rattle.pin_rule.specs.declared.sizes.Sizes.{Sizes}
 use Rattle.pin_rule.specs.Rows.{on_path}
 use Rattle.pin_rule.proofs.Paths.{on_page, path_reaches}

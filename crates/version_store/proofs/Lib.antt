@@ -11,3 +11,4 @@ pub mod Chosen
 pub mod RowsByNumber
 pub mod NextVersions
 pub mod Downs
+pub mod Dividing

@@ -1,6 +1,6 @@
 -- The parts of an edit together make the next version.
-use Rattle.std.proofs.Common.{◌≡◌, ◌≢◌, ℕ, zero, suc, ◌+◌, ◌<◌, ◌≤◌, List, [], ◌∷◌, ◌++◌, map, length, slice_index, append_assoc, sym, refl, ap, ◌∙◌, subst, arith}
-use Rattle.std.specs.Prelude.{Option, Some, None}
+use Rattle.std.proofs.Common.{◌≡◌, ◌≢◌, ℕ, suc, ◌+◌, ◌<◌, List, [], ◌∷◌, ◌++◌, length, slice_index, append_assoc, sym, refl, ap, ◌∙◌, subst, arith}
+use Rattle.std.specs.Prelude.{Option, Some}
 use mathlib.Core.Option as maybe
 use lib.ListN.{get_elem?}
 use Rattle.pin_rule.specs.declared.sizes.Sizes.{Sizes}
@@ -13,11 +13,11 @@ use Rattle.pin_rule.specs.declared.view.WordFact.{WordFact}
 use Rattle.pin_rule.specs.declared.ops.Op.TheVariants as op
 use Rattle.pin_rule.specs.Layout.{version_named, page_named, taken_named}
 use Rattle.pin_rule.specs.Lists.{In}
-use Rattle.pin_rule.specs.Rows.{key_of, content_of, on_path}
+use Rattle.pin_rule.specs.Rows.{key_of, on_path}
 use Rattle.pin_rule.specs.Views.{now}
 use Rattle.pin_rule.specs.Making.{making_of, making_in, by_making, next_log, with_version, role_with_version}
 use Rattle.pin_rule.specs.Steps.{swapped, after_swap_current}
-use Rattle.pin_rule.specs.Told.{KnowsKey, KnowsContent}
+use Rattle.pin_rule.specs.Told.{KnowsKey}
 use Rattle.pin_rule.specs.Keeps.{Keeps}
 use Rattle.pin_rule.specs.NextVersion.{IsKeepable, IsWritten, IsWholePage}
 use Rattle.pin_rule.proofs.Lists.{in_at, at_in}
@@ -25,8 +25,8 @@ use Rattle.pin_rule.proofs.Seats.{same_some}
 use Rattle.pin_rule.proofs.KindSwapCurrent.{keeps_swap_current}
 use Rattle.version_store.specs.declared.current.Current.{Current}
 use Rattle.version_store.specs.Roles.{role_of, role_or_first, pages_of, older_of}
-use Rattle.version_store.specs.Edits.{Found, IsWholeRow, KeepsExactly, edit_steps, entry_stores, page_loads, page_stores}
-use Rattle.version_store.specs.Stages.{IsEditorOf, Stays, Goes, IsAt, key_in, next_of, with_making, making_entry, WritesEntry, FindsRows, WritesPage}
+use Rattle.version_store.specs.Edits.{Found, KeepsExactly, entry_stores, page_loads, page_stores}
+use Rattle.version_store.specs.Stages.{IsEditorOf, Stays, next_of, with_making, making_entry, WritesEntry, FindsRows, WritesPage}
 use Rattle.version_store.specs.Choices.{HasChosen, MakesNext}
 use Rattle.version_store.proofs.Going.{stays_on, editor_on}
 use Rattle.version_store.proofs.EntryWords.{made_is}

@@ -1,8 +1,7 @@
 -- The loop over the places of the page, as far as it reads.
-use Rattle.std.proofs.Common.{◌≡◌, ◌≢◌, ◌⊎◌, ℕ, zero, suc, ◌+◌, ◌-◌, ◌<◌, ◌≤◌, List, [], ◌∷◌, ◌++◌, inl, inr, length, slice_index, eq-eqb, sym, refl, ap, ◌∙◌, subst, arith}
+use Rattle.std.proofs.Common.{◌≡◌, ◌≢◌, ◌⊎◌, ℕ, zero, suc, ◌+◌, ◌<◌, List, [], ◌∷◌, ◌++◌, inl, inr, length, slice_index, eq-eqb, sym, refl, ap, ◌∙◌, subst, arith}
 use mathlib.Core.Option as maybe
 use mathlib.Core.Bool.{cond}
-use lib.ListN.{get_elem?}
 use Rattle.std.specs.Prelude.{Option, Some, None}
 use Rattle.atomic_table.proofs.Lists.{at_last}
 use Rattle.pin_rule.specs.declared.sizes.Sizes.{Sizes}
@@ -21,7 +20,7 @@ use Rattle.pin_rule.proofs.Frames.{same_key}
 use Rattle.slot_store.proofs.Single.{entry_grows, names_it, names_known}
 use Rattle.version_store.specs.declared.current.Current.{Current}
 use Rattle.version_store.specs.Roles.{role_of, role_or_first}
-use Rattle.version_store.specs.Edits.{Found, IsWholeRow, page_loads, place_loads, row_loads}
+use Rattle.version_store.specs.Edits.{Found, IsWholeRow, page_loads, row_loads}
 use Rattle.version_store.specs.Stages.{IsEditorOf, Goes, next_of, IsAt, key_in, ReadsRow, IsKnownRow, FindsRows}
 use Rattle.version_store.proofs.Going.{goes_nowhere, goes_on, goes_as, editor_on, loads_next}
 use Rattle.version_store.proofs.RowWords.{told_of}

@@ -1,5 +1,5 @@
 -- The loop that writes the page in the making.
-use Rattle.std.proofs.Common.{◌≡◌, ◌≢◌, ◌⊎◌, ℕ, zero, suc, ◌<◌, List, [], ◌∷◌, ◌++◌, inl, inr, length, slice_index, sym, refl, ap, ◌∙◌, subst}
+use Rattle.std.proofs.Common.{◌≡◌, ◌⊎◌, ℕ, zero, suc, ◌<◌, List, [], ◌∷◌, ◌++◌, inl, inr, length, sym, refl, ap, ◌∙◌, subst}
 use Rattle.std.specs.Prelude.{Option, Some}
 use Rattle.pin_rule.specs.declared.sizes.Sizes.{Sizes}
 use Rattle.pin_rule.specs.declared.content.Entry.{Entry}
@@ -10,10 +10,10 @@ use Rattle.pin_rule.specs.declared.view.WordFact.{WordFact}
 use Rattle.pin_rule.specs.declared.ops.Op.TheVariants as op
 use Rattle.pin_rule.specs.Lists.{In}
 use Rattle.pin_rule.specs.Rows.{content_of}
-use Rattle.pin_rule.specs.Making.{next_log, with_place_word}
+use Rattle.pin_rule.specs.Making.{with_place_word}
 use Rattle.pin_rule.specs.Steps.{wrote_place, after_write_place}
 use Rattle.pin_rule.specs.Keeps.{Keeps}
-use Rattle.pin_rule.specs.NextVersion.{IsKeepable, IsPlaceWord}
+use Rattle.pin_rule.specs.NextVersion.{IsKeepable}
 use Rattle.pin_rule.proofs.KindWritePlace.{keeps_write_place}
 use Rattle.version_store.specs.declared.current.Current.{Current}
 use Rattle.version_store.specs.Roles.{role_of}

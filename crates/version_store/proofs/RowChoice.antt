@@ -1,5 +1,5 @@
 -- One row is read, and kept or not.
-use Rattle.std.proofs.Common.{◌≡◌, ℕ, suc, ◌<◌, List, take, slice_index, inl, inr, sym, ap, ◌∙◌, subst}
+use Rattle.std.proofs.Common.{◌≡◌, ℕ, ◌<◌, List, slice_index, sym, subst}
 use Rattle.std.specs.Prelude.{Some}
 use Rattle.pin_rule.specs.declared.content.Entry.{Entry}
 use Rattle.pin_rule.specs.declared.view.View.{View}
@@ -17,8 +17,7 @@ pub may_ask : (L : List Entry → Type 0) (F : List Entry → List ℕ → Type 
     (words : List ℕ) (next : List Entry) → IsEditorOf c v → version_of v.entries row ≡ Some c.version → ReadsRow c v w row words → IsWholeRow words
     → Tells L F w → L next → leads v.log next → IsStepFor L F leads words w.log next
 may_ask L F leads c v w row words next e named reads whole told lawful may =
-    let t = told_of L F c w (editor_then c v row e named w words reads) told in
-    (
+    let t = told_of L F c w (editor_then c v row e named w words reads) told in (
       t.0,
       lawful,
       subst (λ (log : List Entry). leads log next) (sym reads.goes.log) may,

@@ -1,5 +1,5 @@
 -- The loop that reads a row.
-use Rattle.std.proofs.Common.{◌≡◌, ◌≢◌, ℕ, zero, suc, ◌+◌, ◌<◌, ◌≤◌, List, [], ◌∷◌, ◌++◌, inl, inr, length, length-append, length-set, take, set, slice_index}
+use Rattle.std.proofs.Common.{◌≡◌, ℕ, ◌+◌, ◌<◌, ◌≤◌, List, [], ◌∷◌, ◌++◌, inl, inr, length, length-append, length-set, take, set, slice_index}
 use Rattle.std.proofs.Common.{get_or-set_same, get_or-set_other, sym, refl, ap, ◌∙◌, subst, arith}
 use Rattle.std.proofs.Math.ListN.{get_or-append}
 use Rattle.std.proofs.Math.Seq.{get_or-append_seam}
@@ -11,7 +11,6 @@ use Rattle.pin_rule.specs.declared.content.Entry.{Entry}
 use Rattle.pin_rule.specs.declared.view.View.{View}
 use Rattle.pin_rule.specs.declared.view.WordFact.{WordFact}
 use Rattle.pin_rule.specs.Lists.{In}
-use Rattle.pin_rule.specs.Views.{now}
 use Rattle.pin_rule.specs.Steps.{version_of, met_word, loaded_row, after_load_row}
 use Rattle.pin_rule.specs.Told.{KnowsRow, KnowsWord, IsTold, Tells}
 use Rattle.slot_store.proofs.Single.{names_known}

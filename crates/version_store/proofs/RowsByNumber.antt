@@ -5,7 +5,6 @@ use mathlib.Core.Bool.{cond}
 use mathlib.Core.Logic.{dite}
 use native.Mathlib.Decide.{ℕ_discrete}
 use lib.Dec.{eqb}
-use lib.ListN.{get_elem?}
 use Rattle.std.specs.Prelude.{Option, Some, None}
 use Rattle.pin_rule.specs.Lists.{In}
 use Rattle.pin_rule.proofs.Seats.{none_some, same_some}
@@ -29,7 +28,7 @@ words_at (Some g ∷ fs) once zero f a = let same = same_some g f (maybe.some-in
 words_at (Some g ∷ fs) once (suc o) f a = dite (ℕ_discrete g.row f.row)
     (λ e. let k = once 0 (suc o) g f refl a e in absurd (omega arith))
     (λ n. ap (λ b. cond b (slice_index g.words) (words_by fs f.row)) (ne_eqb g.row f.row n)
-        ∙ words_at fs (λ i j x y p q e. let k = once (suc i) (suc j) x y p q e in omega arith) o f a)
+    ∙ words_at fs (λ i j x y p q e. let k = once (suc i) (suc j) x y p q e in omega arith) o f a)
 
 -- Members by their places
 

@@ -1,5 +1,5 @@
 -- How many places are taken, and that one is empty where not all are.
-use Rattle.std.proofs.Common.{◌≡◌, ◌≢◌, ℕ, zero, suc, ◌+◌, ◌<◌, ◌≤◌, List, [], ◌∷◌, length, slice_index, set, refl, ap, arith}
+use Rattle.std.proofs.Common.{◌≡◌, ◌≢◌, ℕ, zero, suc, ◌<◌, ◌≤◌, List, [], ◌∷◌, length, slice_index, set, refl, ap, arith}
 use Rattle.std.specs.Prelude.{replicate}
 use Rattle.version_store.specs.Choices.{count_taken}
 

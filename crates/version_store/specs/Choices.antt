@@ -1,8 +1,7 @@
 -- Where the rows that are kept stand in the page in the making.
-use Rattle.std.specs.Prelude.{◌≡◌, ◌≢◌, ◌⊎◌, ℕ, zero, suc, ◌+◌, ◌<◌, ◌≤◌, List, [], ◌∷◌, ◌++◌, length, slice_index, slice_set, Option, Some, None}
+use Rattle.std.specs.Prelude.{◌≡◌, ◌⊎◌, ℕ, zero, suc, ◌<◌, ◌≤◌, List, [], ◌∷◌, ◌++◌, length, slice_index, slice_set, Option, Some, None}
 use Rattle.pin_rule.specs.declared.sizes.Sizes.{Sizes}
 use Rattle.pin_rule.specs.declared.view.View.{View}
-use Rattle.pin_rule.specs.declared.content.Entry.{Entry}
 use Rattle.pin_rule.specs.NextVersion.{IsPast}
 use Rattle.version_store.specs.declared.current.Current.{Current}
 use Rattle.pin_rule.specs.Layout.{version_named, page_named, taken_named}

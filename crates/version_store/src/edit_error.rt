@@ -11,5 +11,7 @@ pub enum EditError {
         released: u32,
     },
     /// The log has as many entries as it has room for.
-    LogFull { entries: u32 },
+    LogFull {
+        entries: u32,
+    },
 }

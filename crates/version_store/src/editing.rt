@@ -20,7 +20,11 @@ impl<C: Content> Editor<C> {
     /// Until versions are given up, `VersionsFull` comes where as many versions
     /// as there are pages are live; `LogFull` comes where that is not so, and
     /// the log is full. After either nothing has changed.
-    pub fn edit<H: Chooser<C>>(&mut self, entry: &[u64; 32], chooser: &mut H) -> Result<u32, EditError>
+    pub fn edit<H: Chooser<C>>(
+        &mut self,
+        entry: &[u64; 32],
+        chooser: &mut H,
+    ) -> Result<u32, EditError>
         requires lawful { C.lawful ((editor_of self.old).log ++ record { words = entry.now } ∷ []) }
         requires leads { H.leads chooser.old (editor_of self.old).log ((editor_of self.old).log ++ record { words = entry.now } ∷ []) }
         ensures version { IfOk result (λ version. version ≡ length (editor_of self.new).log) }

@@ -17,7 +17,11 @@ fn tell_words(alloc: Global, told: &mut String, words: &[u64]) -> Result<(), All
 }
 
 /// Looks for the key.
-pub(crate) fn told_find(alloc: Global, page: &mut Pinned<AnyRow>, key: u64) -> Result<String, AllocError> {
+pub(crate) fn told_find(
+    alloc: Global,
+    page: &mut Pinned<AnyRow>,
+    key: u64,
+) -> Result<String, AllocError> {
     match page.find(&[key]) {
         Look::Found(payload) => {
             let mut told = String::from_str(alloc, "found")?;
@@ -41,7 +45,11 @@ pub(crate) fn told_publish(page: &mut Pinned<AnyRow>, key: u64, payload: &[u64])
 }
 
 /// The first and the last word of an entry of the log.
-pub(crate) fn told_entry(alloc: Global, page: &mut Pinned<AnyRow>, index: u32) -> Result<String, AllocError> {
+pub(crate) fn told_entry(
+    alloc: Global,
+    page: &mut Pinned<AnyRow>,
+    index: u32,
+) -> Result<String, AllocError> {
     if index >= page.version() {
         return String::from_str(alloc, "no entry");
     }
@@ -52,11 +60,13 @@ pub(crate) fn told_entry(alloc: Global, page: &mut Pinned<AnyRow>, index: u32) -
 fn told_version(alloc: Global, made: Result<u32, EditError>) -> Result<String, AllocError> {
     match made {
         Ok(version) => format!(in alloc; "version {version}"),
-        Err(EditError::VersionsFull {
-            version,
-            taken,
-            released,
-        }) => format!(in alloc; "versions full {version} {taken} {released}"),
+        Err(
+            EditError::VersionsFull {
+                version,
+                taken,
+                released,
+            },
+        ) => format!(in alloc; "versions full {version} {taken} {released}"),
         Err(EditError::LogFull { entries }) => format!(in alloc; "log full {entries}"),
     }
 }
@@ -71,7 +81,12 @@ fn entry_from(first: u64) -> [u64; 32] {
 }
 
 /// Makes a version, with all rows or with none.
-pub(crate) fn told_edit(alloc: Global, editor: &mut Editor<AnyRow>, keep: &str, first: u64) -> Result<String, AllocError> {
+pub(crate) fn told_edit(
+    alloc: Global,
+    editor: &mut Editor<AnyRow>,
+    keep: &str,
+    first: u64,
+) -> Result<String, AllocError> {
     let entry = entry_from(first);
     let made = match keep {
         "all" => editor.edit(&entry, &mut KeepAll),

@@ -52,7 +52,12 @@ fn told_unpin(alloc: Global, user: User) -> Result<(User, String), AllocError> {
 }
 
 /// What a command of a user with a pin answers.
-fn told_at(alloc: Global, pinned: &mut Pinned<AnyRow>, command: &str, words: &[u64]) -> Result<String, AllocError> {
+fn told_at(
+    alloc: Global,
+    pinned: &mut Pinned<AnyRow>,
+    command: &str,
+    words: &[u64],
+) -> Result<String, AllocError> {
     if words.is_empty() {
         return String::from_str(alloc, "no number");
     }
@@ -63,7 +68,12 @@ fn told_at(alloc: Global, pinned: &mut Pinned<AnyRow>, command: &str, words: &[u
     }
 }
 
-fn told_user(alloc: Global, user: User, command: &str, words: &[u64]) -> Result<(User, String), AllocError> {
+fn told_user(
+    alloc: Global,
+    user: User,
+    command: &str,
+    words: &[u64],
+) -> Result<(User, String), AllocError> {
     match command {
         "pin" => told_pin(alloc, user),
         "unpin" => told_unpin(alloc, user),
@@ -87,7 +97,12 @@ fn words_in(alloc: Global, text: &str) -> Result<Vec<u64>, AllocError> {
 }
 
 /// A command of the user of this number, as in `find 1 9`.
-fn told_of_user(alloc: Global, users: &mut Vec<Option<User>>, command: &str, rest: &str) -> Result<String, AllocError> {
+fn told_of_user(
+    alloc: Global,
+    users: &mut Vec<Option<User>>,
+    command: &str,
+    rest: &str,
+) -> Result<String, AllocError> {
     let words = words_in(alloc, rest)?;
     if words.is_empty() {
         return String::from_str(alloc, "no user");
@@ -105,7 +120,12 @@ fn told_of_user(alloc: Global, users: &mut Vec<Option<User>>, command: &str, res
 }
 
 /// A command of the editor or of a user.
-fn told_command(alloc: Global, editor: &mut Editor<AnyRow>, users: &mut Vec<Option<User>>, line: &str) -> Result<String, AllocError> {
+fn told_command(
+    alloc: Global,
+    editor: &mut Editor<AnyRow>,
+    users: &mut Vec<Option<User>>,
+    line: &str,
+) -> Result<String, AllocError> {
     let line = line.trim();
     let (command, rest) = match line.split_once(' ') {
         Some((command, rest)) => (command, rest),
@@ -121,7 +141,12 @@ fn told_command(alloc: Global, editor: &mut Editor<AnyRow>, users: &mut Vec<Opti
     }
 }
 
-fn told_all(alloc: Global, bench: Bench<AnyRow>, count: u32, commands: &str) -> Result<String, AllocError> {
+fn told_all(
+    alloc: Global,
+    bench: Bench<AnyRow>,
+    count: u32,
+    commands: &str,
+) -> Result<String, AllocError> {
     let (editor, passes) = match bench.part(count.max(1).min(16)) {
         Ok(parts) => parts,
         Err((_, error)) => return Err(error),

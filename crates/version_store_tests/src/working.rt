@@ -41,6 +41,7 @@ pub(crate) enum Keeping {
 }
 
 const KEYS: u64 = 12;
+
 const ROUNDS: u32 = 60;
 
 /// How often a pass was answered, how many of the answers fit the version that it had pinned, and how often that
@@ -172,7 +173,12 @@ fn make_versions(editor: Editor<AnyRow>, keeping: Keeping, times: u32) -> u32 {
 }
 
 /// Passes and an editor at the same time.
-fn together<R: Threads + Sync>(rt: &R, editor: Editor<AnyRow>, passes: Vec<Pass<AnyRow>>, keeping: Keeping) -> (u32, Report) {
+fn together<R: Threads + Sync>(
+    rt: &R,
+    editor: Editor<AnyRow>,
+    passes: Vec<Pass<AnyRow>>,
+    keeping: Keeping,
+) -> (u32, Report) {
     thread::join(
         rt,
         move || make_versions(editor, keeping, 20),
@@ -180,7 +186,12 @@ fn together<R: Threads + Sync>(rt: &R, editor: Editor<AnyRow>, passes: Vec<Pass<
     )
 }
 
-fn told_keeping<R: Threads + Sync>(rt: &R, alloc: Global, count: u32, keeping: Keeping) -> Result<String, AllocError> {
+fn told_keeping<R: Threads + Sync>(
+    rt: &R,
+    alloc: Global,
+    count: u32,
+    keeping: Keeping,
+) -> Result<String, AllocError> {
     let sizes = with_size(Sizes::full(), "places", "256");
     let bench = Bench::make(alloc, sizes)?;
     let (editor, passes) = match bench.part(count.max(1).min(16)) {
@@ -188,11 +199,18 @@ fn told_keeping<R: Threads + Sync>(rt: &R, alloc: Global, count: u32, keeping: K
         Err((_, error)) => return Err(error),
     };
     let (made, report) = together(rt, editor, passes, keeping);
-    format!(in alloc; " {made} versions, {} answers of which {} fit, {} falls;", report.answers, report.fitting, report.falls)
+    format!(in alloc;
+        " {made} versions, {} answers of which {} fit, {} falls;",
+        report.answers, report.fitting, report.falls
+    )
 }
 
 /// So many passes beside an editor that keeps all rows, no row, and every second row.
-pub(crate) fn told_together<R: Threads + Sync>(rt: &R, alloc: Global, count: &str) -> Result<String, AllocError> {
+pub(crate) fn told_together<R: Threads + Sync>(
+    rt: &R,
+    alloc: Global,
+    count: &str,
+) -> Result<String, AllocError> {
     let count = bounded(count, 1, 16);
     let mut told = told_keeping(rt, alloc, count, Keeping::All)?;
     told.push_str(&told_keeping(rt, alloc, count, Keeping::None)?)?;

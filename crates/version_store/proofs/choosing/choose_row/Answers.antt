@@ -1,4 +1,4 @@
-use Rattle.std.proofs.Common.{◌≡◌, ℕ, suc, ◌+◌, ◌-◌, List, take, drop, slice_index, inl, sym, refl, ap, ◌∙◌, subst, arith}
+use Rattle.std.proofs.Common.{◌≡◌, ℕ, suc, ◌+◌, ◌-◌, List, take, drop, slice_index, inl, sym, subst, arith}
 use Rattle.pin_rule.specs.Hands.{view_of}
 use Rattle.version_store.specs.Stages.{next_of}
 use Rattle.version_store.specs.Choices.{PutsAtFirst}

@@ -1,4 +1,4 @@
-use Rattle.std.proofs.Common.{◌≡◌, ◌+◌, ◌-◌, ◌<◌, ◌++◌, ◌∷◌, [], ℕ, suc, List, length, length-append, refl, sym, ap, ◌∙◌, subst, arith}
+use Rattle.std.proofs.Common.{◌-◌, ◌<◌, ◌++◌, ◌∷◌, [], ℕ, List, length-append, refl, sym, ◌∙◌, subst, arith}
 use Rattle.std.specs.Prelude.{Some, None}
 use Rattle.pin_rule.specs.declared.sizes.Sizes.{Sizes}
 use Rattle.pin_rule.specs.declared.content.Entry.{Entry}
@@ -7,7 +7,6 @@ use Rattle.pin_rule.proofs.KindLoads.{keeps_load_place}
 use Rattle.slot_store.proofs.Passing.{row_met}
 use Rattle.version_store.specs.Edits.{Found}
 use Rattle.version_store.specs.Stages.{next_of}
-use Rattle.version_store.specs.Choices.{PutsAtFirst}
 use Rattle.version_store.proofs.PageRows as finds
 use Rattle.version_store.proofs.Chosen as chosen
 use Rattle.version_store.proofs.choosing.choose_rows.Goals as goal

@@ -1,7 +1,5 @@
-use Rattle.std.proofs.Common.{◌≡◌, ◌+◌, ◌<◌, ◌++◌, ◌∷◌, [], ℕ, List, length, take, slice_index, refl, sym, ap, ◌∙◌, subst, arith}
-use Rattle.pin_rule.specs.declared.view.View.{View}
+use Rattle.std.proofs.Common.{◌≡◌, ◌<◌, ℕ, length, take, slice_index, refl, sym, ◌∙◌, subst, arith}
 use Rattle.pin_rule.specs.declared.ops.Op.TheVariants as op
-use Rattle.pin_rule.specs.Steps.{after_write_log}
 use Rattle.pin_rule.specs.Keeps.{Keeps}
 use Rattle.pin_rule.specs.Hands.{view_of}
 use Rattle.version_store.specs.Stages.{WritesEntry}

@@ -1,8 +1,6 @@
-use Rattle.std.proofs.Common.{◌≡◌, ◌+◌, ◌<◌, ◌++◌, ◌∷◌, [], ℕ, List, length, take, slice_index, refl, sym, ap, ◌∙◌, subst, arith}
+use Rattle.std.proofs.Common.{◌≡◌, ◌<◌, ℕ, List, length, take, slice_index, refl, sym, ◌∙◌, subst, arith}
 use Rattle.std.proofs.lemmas.List.{length-take-le, take_more}
-use Rattle.std.proofs.Math.Seq.{take-length}
-use Rattle.pin_rule.specs.declared.sizes.Sizes.{Sizes}
-use Rattle.pin_rule.specs.Hands.{view_of, sizes_of}
+use Rattle.pin_rule.specs.Hands.{view_of}
 use Rattle.version_store.specs.Stages.{WritesPage}
 use Rattle.version_store.proofs.PageWords.{begins, more, may}
 use Rattle.version_store.proofs.page_writing.write_page.Goals as goal

@@ -1,4 +1,4 @@
-use Rattle.std.proofs.Common.{◌≡◌, ◌≢◌, ◌<◌, ℕ, List, length, set, slice_index, sym, ap, ◌∙◌, subst, arith}
+use Rattle.std.proofs.Common.{◌≢◌, ◌<◌, ℕ, List, length, set, slice_index, sym, ap, ◌∙◌, subst}
 use Rattle.pin_rule.specs.Rows.{on_path}
 use Rattle.version_store.proofs.FirstPlaces.{path_inside, not_all, puts}
 use Rattle.version_store.proofs.row_placing.put_at_first.Goals as goal

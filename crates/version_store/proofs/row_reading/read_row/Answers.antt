@@ -1,7 +1,7 @@
-use Rattle.std.proofs.Common.{◌≡◌, ◌+◌, ◌≤◌, ◌<◌, ℕ, List, [], ◌∷◌, ◌++◌, length, length-set, take, set, slice_index, sym, refl, ap, ◌∙◌, subst, arith}
+use Rattle.std.proofs.Common.{◌≤◌, ◌<◌, ℕ, [], ◌∷◌, length, length-set, take, set, sym, refl, ◌∙◌, subst, arith}
 use Rattle.std.proofs.lemmas.List.{length-take-le, take_more_set}
 use Rattle.pin_rule.specs.declared.sizes.Sizes.{Sizes}
-use Rattle.pin_rule.specs.Hands.{view_of, sizes_of}
+use Rattle.pin_rule.specs.Hands.{view_of}
 use Rattle.pin_rule.proofs.KindLoads.{keeps_load_row}
 use Rattle.version_store.specs.declared.current.Current.{Current}
 use Rattle.version_store.specs.Stages.{ReadsRow}

@@ -1,9 +1,8 @@
-use Rattle.std.proofs.Common.{◌≡◌, ◌≢◌, ◌+◌, ◌<◌, ◌-◌, ◌%◌, ◌∷◌, [], ℕ, suc, List, length, length-append, length-set, slice_index, sym, refl, ap, ◌∙◌, subst, arith}
+use Rattle.std.proofs.Common.{◌≡◌, ◌≢◌, ◌+◌, ◌-◌, ◌%◌, ◌∷◌, [], ℕ, suc, List, length, length-append, length-set, slice_index, sym, refl, ap, ◌∙◌, subst, arith}
 use Rattle.std.proofs.lemmas.List.{with_items_is}
 use Rattle.pin_rule.specs.declared.sizes.Sizes.{Sizes}
-use Rattle.pin_rule.specs.declared.content.Entry.{Entry}
 use Rattle.pin_rule.specs.Hands.{view_of}
-use Rattle.version_store.specs.Roles.{role_of, pages_of, older_of, down}
+use Rattle.version_store.specs.Roles.{role_of, down}
 use Rattle.version_store.specs.Edits.{IsLastOf}
 use Rattle.version_store.proofs.Downs.{down_length, down_next, down_last, noted, spare, few_taken}
 use Rattle.version_store.proofs.editor.Editor.edit.Goals as goal
@@ -11,8 +10,7 @@ use Rattle.version_store.proofs.editor.Editor.edit.Goals as goal
 pub returns-then-self-clause-cause : goal.returns-then-self-clause-cause
 returns-then-self-clause-cause g c = let e = c.args.self.now in let n : ℕ = e.version in let z = e.sizes in
     let live : n + 1 ≡ z.versions = c.if-self.true in let some = z.versions_in in
-    let one : ℕ = n - 1 in let is : n ≡ suc one = omega arith in let f : ℕ → ℕ × ℕ = λ k. (k, slice_index e.taken k) in
-    (
+    let one : ℕ = n - 1 in let is : n ≡ suc one = omega arith in let f : ℕ → ℕ × ℕ = λ k. (k, slice_index e.taken k) in (
       ap (λ (l : List (ℕ × ℕ)). length l + 1) e.older ∙ ap (λ (k : ℕ). k + 1) (down_length f n) ∙ live ∙ ap (λ (y : Sizes). y.versions) (sym e.measured),
       subst (IsLastOf (f 0)) (sym (e.older ∙ ap (down f) is)) (down_last f one),
       refl,

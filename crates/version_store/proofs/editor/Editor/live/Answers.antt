@@ -1,4 +1,4 @@
-use Rattle.std.proofs.Common.{◌≡◌, ◌+◌, ℕ, length, sym, ap, ◌∙◌}
+use Rattle.std.proofs.Common.{◌+◌, ℕ, length, sym, ap, ◌∙◌}
 use Rattle.version_store.proofs.Downs.{down_length}
 use Rattle.version_store.proofs.editor.Editor.live.Goals as goal
 
