@@ -42,6 +42,9 @@ alike v (op.GiveBack row) n = (refl, refl)
 alike v op.Pin n = (refl, refl)
 alike v (op.Unpin page) n = (refl, refl)
 alike v (op.LoadLog entry index) n = let a = word_alike (is_next v entry index) v n in (a.0, a.1)
+alike v (op.WriteLog entry index word) n = (refl, refl)
+alike v (op.WritePlace page place word) n = (refl, refl)
+alike v (op.SwapCurrent version page) n = (refl, refl)
 
 pub exchange_is : (new n : ℕ) → exchanged new n ≡ either (eqb n 0) new n
 exchange_is new zero = refl

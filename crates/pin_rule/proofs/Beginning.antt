@@ -85,7 +85,8 @@ begins L F z first = let ws = replicate (word_count z) (let o : ℕ = 0 in o) in
         few = omega arith;
         page_in = λ l i. subst (λ (n : ℕ). n < z.versions) (sym (ap (λ (x : Live). x.page) (only l i))) (omega arith);
         pages_differ = λ a b i j _. ap (λ (x : Live). x.version) (only a i) ∙ sym (ap (λ (x : Live). x.version) (only b j));
-        making = λ m l e _. absurd (none_some m e);
+        room = λ m e. absurd (none_some m e);
+        making = λ m e. absurd (none_some m e);
         idle = refl;
       };
       pinned = each (PinsLive first_role) (λ p e. absurd (none_some p e));

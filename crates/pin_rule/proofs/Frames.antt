@@ -5,6 +5,9 @@ use Rattle.std.proofs.lemmas.Bool.{cases_lt}
 use Rattle.std.proofs.Math.Nat.{mul-le-mul_right}
 use Rattle.pin_rule.specs.declared.sizes.Sizes.{Sizes}
 use Rattle.pin_rule.specs.Layout.{release_word, claim_word, place_word, log_word, row_word, word_count, release, claim, entry, logged, row_at}
+use Rattle.pin_rule.specs.declared.ops.Op.{Op}
+use Rattle.pin_rule.specs.declared.ops.Op.TheVariants as op
+use Rattle.pin_rule.specs.Ops.{word_of, IsIn}
 use Rattle.pin_rule.specs.Rows.{words_of, key_of, content_of}
 use Rattle.pin_rule.specs.Told.{OfKey}
 
@@ -69,8 +72,26 @@ claim_in z row h = omega arith
 pub place_in : (z : Sizes) (page place : ℕ) → page < z.versions → place < z.places → place_word z page place < word_count z
 place_in z page place h k = let m = place_before z page place h k in omega arith
 
+pub log_in : (z : Sizes) (e i : ℕ) → e < z.log → i < 32 → log_word z e i < word_count z
+log_in z e i h k = omega arith
+
 pub row_in : (z : Sizes) (row index : ℕ) → row < z.rows → index < z.width → row_word z row index < word_count z
 row_in z row index h k = let m = before row z.rows z.width index h k in omega arith
+
+-- each operation names a word of the table
+pub word_in : (z : Sizes) (o : Op) → IsIn z o → word_of z o < word_count z
+word_in z (op.LoadPlace page place) i = place_in z page place i.0 i.1
+word_in z (op.LoadRow row index) i = row_in z row index i.0 i.1
+word_in z (op.Claim row) i = claim_in z row i
+word_in z (op.WriteRow row index word) i = row_in z row index i.0 i.1
+word_in z (op.Publish page place row) i = place_in z page place i.0 i.1
+word_in z (op.GiveBack row) i = claim_in z row i
+word_in z op.Pin i = omega arith
+word_in z (op.Unpin page) i = release_in z page i
+word_in z (op.LoadLog entry index) i = log_in z entry index i.0 i.1
+word_in z (op.WriteLog entry index word) i = log_in z entry index i.0 i.1
+word_in z (op.WritePlace page place word) i = place_in z page place i.0 i.1
+word_in z (op.SwapCurrent version page) i = omega arith
 
 module _ (z : Sizes) (words : List ℕ) (x : ℕ) where
   other : (i j : ℕ) → j ≢ i → slice_index (set words i x) j ≡ slice_index words j
@@ -152,6 +173,25 @@ module _ (z : Sizes) (words : List ℕ) (x : ℕ) where
 
   pub place-logged : (page place e i : ℕ) → page < z.versions → place < z.places → logged z (set words (place_word z page place) x) e i ≡ logged z words e i
   place-logged page place e i v h = let m = place_before z page place v h in other (place_word z page place) (log_word z e i) (λ e. omega arith)
+
+  -- a word of the log is written
+  pub log-cur : (e i : ℕ) → slice_index (set words (log_word z e i) x) 0 ≡ slice_index words 0
+  log-cur e i = other (log_word z e i) 0 (λ q. omega arith)
+
+  pub log-release : (e i page : ℕ) → page < z.versions → release z (set words (log_word z e i) x) page ≡ release z words page
+  log-release e i page h = other (log_word z e i) (release_word z page) (λ q. omega arith)
+
+  pub log-claim : (e i r : ℕ) → r < z.rows → claim z (set words (log_word z e i) x) r ≡ claim z words r
+  log-claim e i r h = other (log_word z e i) (claim_word z r) (λ q. omega arith)
+
+  pub log-entry : (e i page p : ℕ) → page < z.versions → p < z.places → entry z (set words (log_word z e i) x) page p ≡ entry z words page p
+  log-entry e i page p v h = let m = place_before z page p v h in other (log_word z e i) (place_word z page p) (λ q. omega arith)
+
+  pub log-logged : (e i d j : ℕ) → i < 32 → j < 32 → (d ≡ e → j ≢ i) → logged z (set words (log_word z e i) x) d j ≡ logged z words d j
+  log-logged e i d j h k n = other (log_word z e i) (log_word z d j) (λ q. let same : d ≡ e = omega arith in n same (omega arith))
+
+  pub log-row : (e i r index : ℕ) → e < z.log → i < 32 → row_at z (set words (log_word z e i) x) r index ≡ row_at z words r index
+  log-row e i r index h k = other (log_word z e i) (row_word z r index) (λ q. omega arith)
 
   -- a word of a row is written
   pub row-claim : (row index r : ℕ) → r < z.rows → claim z (set words (row_word z row index) x) r ≡ claim z words r

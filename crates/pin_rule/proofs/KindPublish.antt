@@ -35,7 +35,7 @@ use Rattle.pin_rule.proofs.Frames.{Same, key_same, content_same, same_key, place
 use Rattle.pin_rule.proofs.Frames.{place-release, place-logged}
 use Rattle.pin_rule.proofs.Moves.{entry_moves, page_moves}
 use Rattle.pin_rule.proofs.Paths.{on_page}
-use Rattle.pin_rule.proofs.Versions.{Speaks, speaks, same_live, my_log, newest_live, idle}
+use Rattle.pin_rule.proofs.Versions.{Speaks, speaks, same_live, my_log, newest_live, making_apart, idle}
 use Rattle.pin_rule.proofs.KindLoads.{learns_met, met_stands}
 use Rattle.pin_rule.proofs.Settling.{settles_with, right_free}
 use Rattle.pin_rule.proofs.Seats.{IsAlike, none_some, owner_row, each_set, each_other, owns_cases, owns_else}
@@ -354,7 +354,7 @@ module _ (L : List Entry → Type 0) (F : List Entry → List ℕ → Type 0) (v
           log = record {
             logs = λ e i _ _. place-logged z words (suc row) page place e i page_in inside;
             made =
-                λ m p is _ pi. place-page z words (suc row) page place m.page p inside pi (λ e. h.live.making m l is live (sym e));
+                λ m p is _ pi. place-page z words (suc row) page place m.page p inside pi (λ e. making_apart z role h.live m l is live (sym e));
           };
         })
         claims' pages' carried'

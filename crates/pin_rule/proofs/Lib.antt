@@ -6,6 +6,8 @@ pub mod Versions
 pub mod Moves
 pub mod Parts
 pub mod Settling
+pub mod Spare
+pub mod MakingOn
 pub mod KindLoads
 pub mod KindClaim
 pub mod KindWriteRow
@@ -18,4 +20,9 @@ pub mod Allowed
 pub mod Parting
 pub mod KindPin
 pub mod KindLoadLog
+pub mod KindWriteLog
+pub mod KindWritePlace
+pub mod Places
+pub mod WholePage
+pub mod KindSwapCurrent
 pub mod Beginning

@@ -1,5 +1,5 @@
 -- Lists, and numbers that clash.
-use Rattle.std.proofs.Common.{◌≡◌, ◌≢◌, ℕ, zero, suc, ◌+◌, ◌<◌, ◌≤◌, List, [], ◌∷◌, ◌++◌, map, take, inl, inr, length, set, sym, refl, ap, subst, arith}
+use Rattle.std.proofs.Common.{◌≡◌, ◌≢◌, ℕ, zero, suc, ◌+◌, ◌<◌, ◌≤◌, List, [], ◌∷◌, ◌++◌, ◌⊎◌, map, take, inl, inr, length, set, sym, refl, ap, subst, arith}
 use Rattle.std.proofs.lemmas.Bool.{cases_lt}
 use mathlib.Core.Option as maybe
 use lib.ListN.{get_elem?}
@@ -75,6 +75,17 @@ module _ {A : Type 0} where
   pub total_le : (f g : A → ℕ) → ((x : A) → f x ≤ g x) → (l : List A) → total f l ≤ total g l
   total_le f g h [] = omega arith
   total_le f g h (x ∷ xs) = let a = h x in let b = total_le f g h xs in omega arith
+
+  pub total_zero : (f : A → ℕ) (l : List A) → ((i : ℕ) (x : A) → get_elem? l i ≡ maybe.some x → f x ≡ 0) → total f l ≡ 0
+  total_zero f [] h = refl
+  total_zero f (x ∷ xs) h = let a = h 0 x refl in let b = total_zero f xs (λ i y e. h (suc i) y e) in omega arith
+
+  -- the last of a list, or one of those before it
+  pub at_end : (l : List A) (a b : A) (i : ℕ) → get_elem? (l ++ a ∷ []) i ≡ maybe.some b → (get_elem? l i ≡ maybe.some b) ⊎ ((i ≡ length l) × (a ≡ b))
+  at_end [] a b zero e = inr (refl, maybe.some-injective a b e)
+  at_end [] a b (suc i) e = absurd (maybe.some-ne-none b (sym e))
+  at_end (x ∷ xs) a b zero e = inl e
+  at_end (x ∷ xs) a b (suc i) e = elim (at_end xs a b i e) [ inl t ↦ inl t | inr t ↦ inr (ap suc t.0, t.1) ]
 
   pub total_append : (f : A → ℕ) (l : List A) (a : A) → total f (l ++ a ∷ []) ≡ total f l + f a
   total_append f [] a = omega arith

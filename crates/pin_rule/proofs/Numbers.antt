@@ -1,11 +1,17 @@
 -- Word 0 put together and taken apart.
 use Rattle.std.proofs.Common.{◌≡◌, ℕ, ◌+◌, ◌*◌, ◌/◌, ◌%◌, ◌^◌, ◌<◌, ap, ◌∙◌, arith}
 use Rattle.std.proofs.Math.Nat.{mod-eq_of_lt}
-use Rattle.pin_rule.specs.Layout.{version_named, page_named}
+use Rattle.pin_rule.specs.Layout.{naming, version_named, page_named, taken_named}
 use Rattle.pin_rule.specs.Ops.{one_more}
 
 high : (n taken : ℕ) → taken < 4294967296 → (4294967296 * n + taken) / 4294967296 ≡ n
 high n taken h = omega arith
+
+low : (n taken : ℕ) → taken < 4294967296 → (4294967296 * n + taken) % 4294967296 ≡ taken
+low n taken h = omega arith
+
+pub taken_is : (version page taken : ℕ) → taken < 4294967296 → taken_named (naming version page + taken) ≡ taken
+taken_is version page taken t = low (16 * version + page) taken t
 
 pub version_is : (version page taken : ℕ) → page < 16 → taken < 4294967296 → version_named (2 ^ 32 * (16 * version + page) + taken) ≡ version
 version_is version page taken p t = ap (λ (n : ℕ). n / 16) (high (16 * version + page) taken t) ∙ (let r : (16 * version + page) / 16 ≡ version =

@@ -50,6 +50,7 @@ module _ (z : Sizes) (words words' : List ℕ) (role : Role) where
       entry_in = k.entry_in;
       entry_is = λ index lt. let few = k.entry_in in q.logs (length log) index k.room (omega arith) ∙ k.entry_is index lt;
       places_in = k.places_in;
+      places_after = k.places_after;
       places_are = λ place lt. let few = k.places_in in q.made m place is k.page_in (omega arith) ∙ k.places_are place lt;
     };
     next_log = h.next_log;

@@ -1,5 +1,5 @@
 -- The rule after a step of one seat, from what the step left and from what it changed.
-use Rattle.std.proofs.Common.{◌≡◌, ◌≢◌, ℕ, ◌+◌, List, length, set, sym, ap, ◌∙◌, subst, arith}
+use Rattle.std.proofs.Common.{◌≡◌, ◌≢◌, ℕ, ◌+◌, ◌<◌, List, length, set, sym, ap, ◌∙◌, subst, arith}
 use mathlib.Core.Option as maybe
 use lib.ListN.{get_elem?}
 use Rattle.std.specs.Prelude.{Some, None}
@@ -26,6 +26,21 @@ use Rattle.pin_rule.proofs.Parts.{Quiet, Kept, current_moves, pages_move, carrie
 pub knows_log : (log : List Entry) (v w : View) → w.log ≡ v.log → w.log_words ≡ v.log_words → KnowsLog log v → KnowsLog log w
 knows_log log v w a b h = subst (λ (l : List Entry × List ℕ). KnowsLog log (record w { log = l.0; log_words = l.1 })) (λ i. (sym a i, sym b i))
     (record { prefix = h.prefix; few = h.few; words = h.words })
+
+-- pins where a seat keeps its own and the release words stay
+module _ (L : List Entry → Type 0) (F : List Entry → List ℕ → Type 0) (z : Sizes) (words words' : List ℕ) (views : List View) (id : ℕ) (v w : View)
+    (at : get_elem? views id ≡ maybe.some v) (h : Lawful L F z words views) (pinned : w.pinned ≡ v.pinned)
+    (releases : (page : ℕ) → page < z.versions → release z words' page ≡ release z words page) where
+  pub pins_stay : Pins z words' (set views id w) h.role h.taken
+  pins_stay = record {
+    counted = λ l t k. let c = h.pins.counted l t k in let r = releases l.page (h.live.page_in l (taken_live z h.role h.live h.taken l t k)) in
+        let n = total_alike (λ (u : View). pins_on l.version u.pinned) views id v w at (ap (pins_on l.version) pinned) in omega arith;
+    released = λ page inside none. releases page inside ∙ h.pins.released page inside none;
+  }
+
+  pub budget_stays : w.pins_left ≡ v.pins_left → Budget z words' (set views id w)
+  budget_stays left = let b = h.budget in let r = sum_same z.versions (release z words') (release z words) releases in
+      let n = total_alike pins_of views id v w at (λ i. one_pin (pinned i) + left i) in omega arith
 
 module _ (L : List Entry → Type 0) (F : List Entry → List ℕ → Type 0) (z : Sizes) (words words' : List ℕ) (views : List View) (id : ℕ) (v w : View)
     (at : get_elem? views id ≡ maybe.some v)
@@ -61,22 +76,12 @@ module _ (L : List Entry → Type 0) (F : List Entry → List ℕ → Type 0) (z
 
   -- a seat that keeps its log and its pin too, where CUR, the release words and the log stay
   module _ (same : IsSteady v w) (quiet : Quiet z words words' h.role) where
-    pins_stay : Pins z words' (set views id w) h.role h.taken
-    pins_stay = record {
-      counted = λ l t k. let c = h.pins.counted l t k in let r = quiet.releases l.page (h.live.page_in l (taken_live z h.role h.live h.taken l t k)) in
-          let n = total_alike (λ (u : View). pins_on l.version u.pinned) views id v w at (ap (pins_on l.version) same.pinned) in omega arith;
-      released = λ page inside none. quiet.releases page inside ∙ h.pins.released page inside none;
-    }
-
-    budget_stays : Budget z words' (set views id w)
-    budget_stays = let b = h.budget in let r = sum_same z.versions (release z words') (release z words) quiet.releases in
-        let n = total_alike pins_of views id v w at (λ i. one_pin (same.pinned i) + same.pins_left i) in omega arith
-
     pub settles_with : Claims z words' (set views id w) h.role → ArePages F z words' h.log h.role → Carried F z words' h.log h.role
         → EachView (set views id w) (Knows z words' h.role) → EachView (set views id w) (KnowsWhole z words' h.role) → Lawful L F z words' (set views id w)
     settles_with claims pages carried facts known = builds h.taken (λ _ _. same.log) (current_moves z words words' h.role L h.log h.taken h.taken quiet.log
         (quiet.cur ∙ h.current.cur) h.current) (knows_log h.log v w same.log same.log_words (h.logs id v at))
-        (λ p e. h.pinned id v at p (sym same.pinned ∙ e)) pins_stay budget_stays claims pages carried facts known
+        (λ p e. h.pinned id v at p (sym same.pinned ∙ e)) (pins_stay L F z words words' views id v w at h same.pinned quiet.releases)
+        (budget_stays L F z words words' views id v w at h same.pinned quiet.releases same.pins_left) claims pages carried facts known
 
     -- the live pages and their rows are as they were
     pub settles : Claims z words' (set views id w) h.role → Kept z words words' h.role → Knows z words h.role w → KnowsWhole z words h.role w

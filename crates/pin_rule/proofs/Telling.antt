@@ -7,6 +7,7 @@ use Rattle.pin_rule.specs.declared.content.Entry.{Entry}
 use Rattle.pin_rule.specs.declared.view.View.{View}
 use Rattle.pin_rule.specs.declared.view.Live.{Live}
 use Rattle.pin_rule.specs.declared.view.KnownPlace.{KnownPlace}
+use Rattle.pin_rule.specs.declared.view.Role.{Role}
 use Rattle.pin_rule.specs.declared.ops.Op.{Op}
 use Rattle.pin_rule.specs.declared.ops.Op.TheVariants as op
 use Rattle.atomic_table.proofs.Lists.{at_longer}
@@ -22,7 +23,7 @@ use Rattle.pin_rule.specs.Lawful.{Lawful}
 use Rattle.pin_rule.specs.Told.{KnowsPlace, KnowsRow, KnowsWord, OfKey, KnowsKey, IsReached, IsTold, Tells, IsCurrentFor, Meets}
 use Rattle.pin_rule.proofs.Frames.{Same, key_alike, content_same}
 use Rattle.pin_rule.proofs.Lists.{each_in}
-use Rattle.pin_rule.proofs.Versions.{newest_live, my_log, caught_up}
+use Rattle.pin_rule.proofs.Versions.{newest_live, is_role, my_log, caught_up}
 use Rattle.pin_rule.proofs.Numbers.{version_is, page_is}
 use Rattle.pin_rule.proofs.Counts.{few_taken}
 
@@ -54,7 +55,7 @@ module _ (L : List Entry → Type 0) (F : List Entry → List ℕ → Type 0) (z
     read : (row index word : ℕ) → KnowsWord v (now v) row index word → row_at z words row index ≡ word
     read row index word k = ((each_in (WordStands z words h.role) _ v.words (h.facts id v at).1 k).live l live version_is).1.1
 
-    key_is : (row : ℕ) (g : ℕ → ℕ) → KnowsKey v (now v) row g → key_of (row_at z words row) ≡ key_of g
+    pub key_is : (row : ℕ) (g : ℕ → ℕ) → KnowsKey v (now v) row g → key_of (row_at z words row) ≡ key_of g
     key_is row g k = key_alike (row_at z words row) g (λ index of. read row index (g index) (k index of))
 
     told : v.share ≢ 0 → IsTold (F v.log) v (now v)
@@ -78,7 +79,7 @@ module _ (L : List Entry → Type 0) (F : List Entry → List ℕ → Type 0) (z
 
 -- CUR names the newest version and its page
 module _ (L : List Entry → Type 0) (F : List Entry → List ℕ → Type 0) (z : Sizes) (words : List ℕ) (views : List View) (h : Lawful L F z words views) where
-  few : h.taken < 4294967296
+  pub few : h.taken < 4294967296
   few = let t = few_taken L F z words views h h.role.newest h.taken (inl (refl, refl)) in let most = z.pins_in in omega arith
 
   page_few : h.role.newest.page < 16
@@ -112,3 +113,8 @@ module _ (L : List Entry → Type 0) (F : List Entry → List ℕ → Type 0) (v
   meets op.Pin i = current
   meets (op.Unpin page) i = tt
   meets (op.LoadLog entry index) i = λ e is. (h.current.log_is entry index e (in_log entry e is) i.1, h.current.log_wide entry e (in_log entry e is))
+  meets (op.WriteLog entry index word) i = tt
+  meets (op.WritePlace page place word) i = tt
+  meets (op.SwapCurrent version page) i = λ r is. let n = names_newest L F v.sizes words views h in
+      subst (λ (x : Role). (version_named (slice_index words 0) ≡ x.newest.version) × (page_named (slice_index words 0) ≡ x.newest.page))
+      (sym (is_role L F v.sizes words views id v at h r is)) n

@@ -1,5 +1,5 @@
 -- The live versions by their numbers and pages.
-use Rattle.std.proofs.Common.{◌≡◌, ℕ, ◌≤◌, List, length, map, take, inl, inr, ◌⊎◌, ne_eqb, eq-eqb, sym, refl, ap, ◌∙◌, subst, arith}
+use Rattle.std.proofs.Common.{◌≡◌, ◌≢◌, ℕ, ◌≤◌, List, length, map, take, inl, inr, ◌⊎◌, ne_eqb, eq-eqb, sym, refl, ap, ◌∙◌, subst, arith}
 use mathlib.Core.Option as maybe
 use mathlib.Core.Bool.{cond}
 use mathlib.Core.Logic.{dite}
@@ -14,11 +14,12 @@ use Rattle.pin_rule.specs.declared.view.Live.{Live}
 use Rattle.pin_rule.specs.declared.view.Older.{Older}
 use Rattle.pin_rule.specs.declared.view.Role.{Role}
 use Rattle.pin_rule.specs.declared.view.GivingUp.{GivingUp}
+use Rattle.pin_rule.specs.declared.view.Making.{Making}
 use Rattle.pin_rule.specs.Lists.{In}
-use Rattle.pin_rule.specs.Views.{lives, IsLive, Names, IsCaughtUp, now, if_at, version_given_up, version_of_role, version_pinned, version_at}
+use Rattle.pin_rule.specs.Views.{lives, IsLive, given_page, pages_taken, Names, IsCaughtUp, now, if_at, version_given_up, version_of_role, version_pinned, version_at}
 use Rattle.pin_rule.specs.PartLive.{IsVersions, HasTaken}
 use Rattle.pin_rule.specs.Lawful.{Lawful}
-use Rattle.pin_rule.proofs.Lists.{in_at, in_mapped, take_prefix}
+use Rattle.pin_rule.proofs.Lists.{in_at, in_mapped, in_right, take_prefix}
 use Rattle.pin_rule.proofs.Seats.{none_some, same_some}
 
 pub newest_live : (role : Role) → IsLive role role.newest
@@ -40,6 +41,11 @@ module _ (z : Sizes) (role : Role) (h : IsVersions z role) where
     | inr x ↦ inr (subst (λ (m : Live). In m (map (λ (o : Older). o.live) role.older)) x.2
         (in_mapped (λ (o : Older). o.live) x.0 role.older x.1))
   ]
+
+  -- the page in the making is that of no live version
+  pub making_apart : (m : Making) (l : Live) → role.making ≡ Some m → IsLive role l → l.page ≢ m.page
+  making_apart m l is i e = h.making m is (subst (λ (page : ℕ). In page (pages_taken role)) e
+      (in_right l.page (given_page role.giving_up) (map (λ (x : Live). x.page) (lives role)) (in_mapped (λ (x : Live). x.page) l (lives role) i)))
 
   pub idle : (g : GivingUp) → role.giving_up ≡ Some g → ⊥
   idle g e = none_some g (sym h.idle ∙ e)
@@ -93,11 +99,14 @@ module _ (L : List Entry → Type 0) (F : List Entry → List ℕ → Type 0) (z
       let same : v ≡ k.view = maybe.some-injective v k.view (sym at ∙ ap (get_elem? views) seat ∙ k.at) in
       same_some r h.role (sym e ∙ ap (λ (u : View). u.role) same ∙ k.has)
 
-  -- the editor's log is the log
-  pub editor_log : (r : Role) → v.role ≡ Some r → now v ≡ length h.log
-  editor_log r e = let k = h.editor in let seat = k.one id v r at e in
+  pub log_of_editor : (r : Role) → v.role ≡ Some r → v.log ≡ h.log
+  log_of_editor r e = let k = h.editor in let seat = k.one id v r at e in
       let same : v ≡ k.view = maybe.some-injective v k.view (sym at ∙ ap (get_elem? views) seat ∙ k.at) in
-      ap (λ (u : View). length u.log) same ∙ ap length k.log_is
+      ap (λ (u : View). u.log) same ∙ k.log_is
+
+  -- the editor's log is as long as the log
+  pub editor_log : (r : Role) → v.role ≡ Some r → now v ≡ length h.log
+  editor_log r e = ap length (log_of_editor r e)
 
   pub speaks : (page m : ℕ) → version_at v page ≡ Some m → Speaks h.role page m
   speaks page m e = pinned_speaks z h.role h.live v.pinned v.role page m (h.pinned id v at) is_role e

@@ -55,13 +55,19 @@ full_sizes = record {
   pins_in = lit≤ tt;
 }
 
--- What CUR says: the version and the page in its high half
+-- What CUR says: the version and the page in its high half, and the pins taken on that version in its low half
+
+abbrev pub naming : ℕ → ℕ → ℕ
+naming version page = 2 ^ 32 * (16 * version + page)
 
 abbrev pub version_named : ℕ → ℕ
 version_named n = n / 2 ^ 32 / 16
 
 abbrev pub page_named : ℕ → ℕ
 page_named n = n / 2 ^ 32 % 16
+
+abbrev pub taken_named : ℕ → ℕ
+taken_named n = n % 2 ^ 32
 
 -- What stands in a table of these words. Word 0 is CUR, which has no function of its own
 

@@ -3,10 +3,11 @@ pub mod Ops
 pub mod Rows
 pub mod Lists
 pub mod Views
+pub mod PartLive
+pub mod Making
 pub mod Steps
 pub mod Pages
 pub mod PartCurrent
-pub mod PartLive
 pub mod PartClaims
 pub mod PartCarried
 pub mod PartFacts
@@ -15,5 +16,6 @@ pub mod Lawful
 pub mod Keeps
 pub mod Told
 pub mod Ready
+pub mod NextVersion
 pub mod Hands
 pub mod Choosing

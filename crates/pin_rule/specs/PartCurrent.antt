@@ -1,5 +1,5 @@
 -- The parts of the rule on CUR, the log and what is in the making, and on the views' logs.
-use Rattle.std.specs.Prelude.{◌≡◌, ℕ, ◌+◌, ◌*◌, ◌^◌, ◌<◌, ◌≤◌, List, [], ◌∷◌, ◌++◌, length, take, slice_index, Some}
+use Rattle.std.specs.Prelude.{◌≡◌, ℕ, ◌+◌, ◌<◌, ◌≤◌, List, [], ◌∷◌, ◌++◌, length, take, slice_index, Some}
 use mathlib.Core.Option as maybe
 use lib.ListN.{get_elem?}
 use Rattle.pin_rule.specs.declared.sizes.Sizes.{Sizes}
@@ -8,14 +8,14 @@ use Rattle.pin_rule.specs.declared.view.View.{View}
 use Rattle.pin_rule.specs.declared.view.Live.{Live}
 use Rattle.pin_rule.specs.declared.view.Role.{Role}
 use Rattle.pin_rule.specs.declared.view.Making.{Making}
-use Rattle.pin_rule.specs.Layout.{logged, entry}
+use Rattle.pin_rule.specs.Layout.{logged, entry, naming}
 use Rattle.pin_rule.specs.Views.{IsLive, IsPrefix}
 
 -- CUR names the newest version and its page, and counts the pins taken on it
 abbrev pub current_of : Role → ℕ → ℕ
-current_of role taken = 2 ^ 32 * (16 * role.newest.version + role.newest.page) + taken
+current_of role taken = naming role.newest.version role.newest.page + taken
 
--- the log with these words as one more entry
+-- the log with these words as one more entry, where they are so many as an entry has
 abbrev pub IsNextLog : List Entry → List ℕ → List Entry → Type 0
 IsNextLog log words next = (length words ≡ 32) × (e : Entry) × (e.words ≡ words) × (next ≡ log ++ e ∷ [])
 
@@ -26,6 +26,8 @@ pub record IsMaking (z : Sizes) (words : List ℕ) (log : List Entry) (m : Makin
   pub entry_in : length m.entry ≤ 32
   pub entry_is : (index : ℕ) → index < length m.entry → logged z words (length log) index ≡ slice_index m.entry index
   pub places_in : length m.places ≤ z.places
+  -- places are written once the entry is whole
+  pub places_after : 0 < length m.places → length m.entry ≡ 32
   pub places_are : (place : ℕ) → place < length m.places → entry z words m.page place ≡ slice_index m.places place
 
 pub record IsCurrent (lawful : List Entry → Type 0) (z : Sizes) (words : List ℕ) (log : List Entry) (role : Role) (taken : ℕ) : Type 0 where

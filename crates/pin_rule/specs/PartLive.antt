@@ -13,7 +13,7 @@ use Rattle.pin_rule.specs.declared.view.Making.{Making}
 use Rattle.pin_rule.specs.declared.view.Role.{Role}
 use Rattle.pin_rule.specs.Layout.{release}
 use Rattle.pin_rule.specs.Lists.{In, total, sum_to}
-use Rattle.pin_rule.specs.Views.{lives, IsLive, Names}
+use Rattle.pin_rule.specs.Views.{lives, IsLive, pages_taken, Names}
 
 -- one view has the editor's role, and its log is the log
 pub record IsEditor (views : List View) (log : List Entry) (role : Role) : Type 0 where
@@ -30,7 +30,9 @@ pub record IsVersions (z : Sizes) (role : Role) : Type 0 where
   pub few : length (lives role) ≤ z.versions
   pub page_in : (l : Live) → IsLive role l → l.page < z.versions
   pub pages_differ : (a b : Live) → IsLive role a → IsLive role b → a.page ≡ b.page → a.version ≡ b.version
-  pub making : (m : Making) (l : Live) → role.making ≡ Some m → IsLive role l → l.page ≢ m.page
+  -- while a version is in the making there is room for it, and its page is none of those taken
+  pub room : (m : Making) → role.making ≡ Some m → length (pages_taken role) < z.versions
+  pub making : (m : Making) → role.making ≡ Some m → ¬ (In m.page (pages_taken role))
   -- no version is being given up yet
   pub idle : role.giving_up ≡ None
 

@@ -6,6 +6,7 @@ use Rattle.pin_rule.specs.declared.view.View.{View}
 use Rattle.pin_rule.specs.declared.view.OwnRow.{OwnRow}
 use Rattle.pin_rule.specs.declared.view.Pin.{Pin}
 use Rattle.pin_rule.specs.declared.view.Role.{Role}
+use Rattle.pin_rule.specs.declared.view.Making.{Making}
 use Rattle.pin_rule.specs.declared.view.EntryFact.{EntryFact}
 use Rattle.pin_rule.specs.declared.view.WordFact.{WordFact}
 use Rattle.pin_rule.specs.declared.view.Step.{Step}
@@ -14,9 +15,11 @@ use Rattle.pin_rule.specs.declared.view.Kind.TheVariants as kind
 use Rattle.pin_rule.specs.declared.view.KnownPlace.{KnownPlace}
 use Rattle.pin_rule.specs.declared.ops.Op.{Op}
 use Rattle.pin_rule.specs.declared.ops.Op.TheVariants as op
-use Rattle.pin_rule.specs.Layout.{release_word, claim_word, place_word, log_word, row_word, version_named, page_named, full_sizes}
+use Rattle.pin_rule.specs.Layout.{release_word, claim_word, place_word, log_word, row_word, naming, version_named, page_named, full_sizes}
 use Rattle.pin_rule.specs.Ops.{exchanged, one_more}
 use Rattle.pin_rule.specs.Views.{whole, now, version_at}
+use Rattle.pin_rule.specs.Making.{with_entry_word, with_place_word, making_in, by_making, next_log, rows_of, role_with_version, entries_of, facts_carried}
+use Rattle.pin_rule.specs.Making.{places_known}
 
 -- The steps as they stand in a view's list
 
@@ -49,6 +52,15 @@ unpinned z page met = step_of kind.Unpin (release_word z page) (Some met) (Some 
 
 abbrev pub loaded_log : Sizes → ℕ → ℕ → ℕ → Step
 loaded_log z entry index met = step_of kind.LoadLog (log_word z entry index) (Some met) (Some met)
+
+abbrev pub wrote_log : Sizes → ℕ → ℕ → ℕ → Step
+wrote_log z entry index word = step_of kind.WriteLog (log_word z entry index) None (Some word)
+
+abbrev pub wrote_place : Sizes → ℕ → ℕ → ℕ → Step
+wrote_place z page place word = step_of kind.WritePlace (place_word z page place) None (Some word)
+
+abbrev pub swapped : ℕ → ℕ → ℕ → Step
+swapped version page met = step_of kind.SwapCurrent 0 (Some met) (Some (naming version page))
 
 -- they load word 0, and the table does not tell what they met
 abbrev pub was_split : Step
@@ -170,6 +182,27 @@ with_word true v met = with_words v (v.log_words ++ met ∷ [])
 abbrev pub after_load_log : View → ℕ → ℕ → ℕ → View
 after_load_log v entry index met = noted (with_word (is_next v entry index) v met) (loaded_log v.sizes entry index met)
 
+abbrev pub after_write_log : View → ℕ → ℕ → ℕ → View
+after_write_log v entry index word = noted (record v { role = with_entry_word v.role word }) (wrote_log v.sizes entry index word)
+
+abbrev pub after_write_place : View → ℕ → ℕ → ℕ → View
+after_write_place v page place word = noted (record v { role = with_place_word v.role word }) (wrote_place v.sizes page place word)
+
+-- with the whole share each place of the new page is known
+abbrev pub known_after : View → Making → List KnownPlace
+known_after v m = cond (eqb v.share whole) (places_known (now v) v.words 0 m.places) []
+
+abbrev pub after_swap_current : View → ℕ → ℕ → ℕ → View
+after_swap_current v version page met = noted
+    (record v {
+      log = by_making (making_in v.role) v.log (λ m. next_log v.log m);
+      entries = by_making (making_in v.role) v.entries (λ m. entries_of version 0 m.places ++ v.entries);
+      words = by_making (making_in v.role) v.words (λ m. facts_carried (now v) version (rows_of m.places) v.words ++ v.words);
+      known = by_making (making_in v.role) [] (known_after v);
+      role = role_with_version v.role version page met;
+    })
+    (swapped version page met)
+
 -- The view after an operation that met a word
 
 abbrev pub after : View → Op → ℕ → View
@@ -182,6 +215,9 @@ after v (op.GiveBack row) met = after_give_back v row
 after v op.Pin met = after_pin v met
 after v (op.Unpin page) met = after_unpin v page met
 after v (op.LoadLog entry index) met = after_load_log v entry index met
+after v (op.WriteLog entry index word) met = after_write_log v entry index word
+after v (op.WritePlace page place word) met = after_write_place v page place word
+after v (op.SwapCurrent version page) met = after_swap_current v version page met
 
 -- what is left to a seat that is split, and what the new seat has
 abbrev pub after_split : View → ℕ → View

@@ -1,5 +1,5 @@
 -- What the rule says of one view that has a share, whatever else stands in the table.
-use Rattle.std.specs.Prelude.{◌≡◌, ◌≢◌, ℕ, suc, ◌+◌, ◌<◌, ◌≤◌, List, length, slice_index}
+use Rattle.std.specs.Prelude.{◌≡◌, ◌≢◌, ℕ, suc, ◌+◌, ◌<◌, ◌≤◌, List, length, slice_index, Some}
 use mathlib.Core.Option as maybe
 use lib.ListN.{get_elem?}
 use Rattle.pin_rule.specs.declared.content.Entry.{Entry}
@@ -7,9 +7,10 @@ use Rattle.pin_rule.specs.declared.view.View.{View}
 use Rattle.pin_rule.specs.declared.view.EntryFact.{EntryFact}
 use Rattle.pin_rule.specs.declared.view.WordFact.{WordFact}
 use Rattle.pin_rule.specs.declared.view.KnownPlace.{KnownPlace}
+use Rattle.pin_rule.specs.declared.view.Role.{Role}
 use Rattle.pin_rule.specs.declared.sizes.Sizes.{Sizes}
 use Rattle.pin_rule.specs.declared.ops.Op.{Op}
-use Rattle.pin_rule.specs.declared.ops.Op.TheVariants.{LoadPlace, LoadRow, Claim, WriteRow, Publish, GiveBack, Pin, Unpin, LoadLog}
+use Rattle.pin_rule.specs.declared.ops.Op.TheVariants.{LoadPlace, LoadRow, Claim, WriteRow, Publish, GiveBack, Pin, Unpin, LoadLog, WriteLog, WritePlace, SwapCurrent}
 use Rattle.pin_rule.specs.Layout.{version_named, page_named}
 use Rattle.pin_rule.specs.Lists.{In}
 use Rattle.pin_rule.specs.Rows.{key_of, content_of, on_path}
@@ -34,6 +35,10 @@ OfKey g index = (index < 2 + g 0) × (index ≢ 1)
 abbrev pub KnowsKey : View → ℕ → ℕ → (ℕ → ℕ) → Type 0
 KnowsKey v version row g = (index : ℕ) → OfKey g index → KnowsWord v version row index (g index)
 
+-- the view knows all words of the row, which are those of g
+abbrev pub KnowsContent : View → ℕ → ℕ → (ℕ → ℕ) → Type 0
+KnowsContent v version row g = (index : ℕ) → index < 2 + (g 0 + g 1) → KnowsWord v version row index (g index)
+
 -- the place is on the path of the key, and of the places before it there none is known to be empty
 abbrev pub IsReached : Sizes → List KnownPlace → List ℕ → ℕ → Type 0
 IsReached z known key place = (step : ℕ) × (step < z.places) × (on_path z key step ≡ place) ×
@@ -47,8 +52,7 @@ pub record IsTold (fits : List ℕ → Type 0) (v : View) (version : ℕ) : Type
   pub room : (row key payload : ℕ) → KnowsRow v version row → KnowsWord v version row 0 key → KnowsWord v version row 1 payload
       → 2 + (key + payload) ≤ v.sizes.width
   -- a row whose words are known fits the log
-  pub fitting : (row : ℕ) (g : ℕ → ℕ) → KnowsRow v version row → ((index : ℕ) → index < 2 + (g 0 + g 1) → KnowsWord v version row index (g index))
-      → fits (content_of g)
+  pub fitting : (row : ℕ) (g : ℕ → ℕ) → KnowsRow v version row → KnowsContent v version row g → fits (content_of g)
   -- no key stands twice
   pub keys_once : (p q a b : ℕ) (g : ℕ → ℕ) → KnowsPlace v version p a → KnowsPlace v version q b → KnowsKey v version a g → KnowsKey v version b g → p ≡ q
   -- what is known with the whole share: a row stands on the path of its key, past places that are not empty
@@ -74,3 +78,6 @@ Meets v (GiveBack row) n = Unit {0}
 Meets v Pin n = IsCurrentFor v n
 Meets v (Unpin page) n = Unit {0}
 Meets v (LoadLog entry index) n = (e : Entry) → get_elem? v.log entry ≡ maybe.some e → (n ≡ slice_index e.words index) × (length e.words ≡ 32)
+Meets v (WriteLog entry index word) n = Unit {0}
+Meets v (WritePlace page place word) n = Unit {0}
+Meets v (SwapCurrent version page) n = (r : Role) → v.role ≡ Some r → (version_named n ≡ r.newest.version) × (page_named n ≡ r.newest.page)

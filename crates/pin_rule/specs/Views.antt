@@ -1,5 +1,5 @@
 -- What a view has.
-use Rattle.std.specs.Prelude.{◌≡◌, ◌⊎◌, ℕ, List, ◌∷◌, ◌++◌, map, length, Some, None, Option, cond}
+use Rattle.std.specs.Prelude.{◌≡◌, ◌⊎◌, ℕ, List, [], ◌∷◌, ◌++◌, map, length, Some, None, Option, cond}
 use mathlib.Core.Option as maybe
 use lib.Dec.{eqb}
 use lib.ListN.{get_elem?}
@@ -38,6 +38,14 @@ lives r = r.newest ∷ map (λ (o : Older). o.live) r.older
 
 abbrev pub IsLive : Role → Live → Type 0
 IsLive r l = In l (lives r)
+
+abbrev pub given_page : Option GivingUp → List ℕ
+given_page None = []
+given_page (Some g) = g.page ∷ []
+
+-- the pages of the live versions and of the one that is being given up
+abbrev pub pages_taken : Role → List ℕ
+pages_taken r = given_page r.giving_up ++ map (λ (l : Live). l.page) (lives r)
 
 -- a pin names a live version and its page
 abbrev pub Names : Role → Pin → Type 0

@@ -8,6 +8,7 @@
 
 pub mod choosers;
 pub mod content;
+mod editing;
 pub mod hand;
 pub mod laws;
 pub mod limits;
@@ -15,15 +16,16 @@ mod opening;
 mod operations;
 pub mod ops;
 mod pins;
-mod plays;
 mod rule;
 mod seating;
 pub mod sizes;
+mod starting;
 mod starts;
 mod stepping;
 #[cfg(test)]
 mod tests;
 pub mod view;
+mod view_changes;
 
 /// There was no memory.
 pub type NoMemory = std::alloc::AllocError;

@@ -18,6 +18,9 @@ pub enum Op {
     Pin,
     Unpin { page: u32 },
     LoadLog { entry: u32, index: u32 },
+    WriteLog { entry: u32, index: u32, word: u64 },
+    WritePlace { page: u32, place: u32, word: u64 },
+    SwapCurrent { version: u32, page: u32 },
 }
 
 impl Sizes {

@@ -7,7 +7,7 @@ ghost use Rattle.pin_rule.specs.Hands.{view_of, table_of};
 
 use crate::content::Content;
 use crate::hand::Hand;
-use crate::plays::Both;
+use crate::view_changes::Both;
 use std::marker::Brand;
 
 impl<C: Content> Hand<C> {

@@ -43,6 +43,22 @@ impl Starts {
         self.claims + row as usize
     }
 
+    /// The index of the page's first place.
+    pub(crate) fn page_at(self, page: u32) -> usize
+        requires { page < self.sizes.versions }
+        ensures { result ≡ place_word self.sizes page 0 }
+    {
+        self.pages + page as usize * self.sizes.places as usize
+    }
+
+    /// The index of the row's first word.
+    pub(crate) fn row_from(self, row: u32) -> usize
+        requires { row < self.sizes.rows }
+        ensures { result ≡ row_word self.sizes row 0 }
+    {
+        self.rows + row as usize * self.sizes.width as usize
+    }
+
     fn place_at(self, page: u32, place: u32) -> usize
         requires page { page < self.sizes.versions }
         requires place { place < self.sizes.places }
@@ -51,6 +67,15 @@ impl Starts {
     {
         let at = page as usize * self.sizes.places as usize + place as usize;
         self.pages + at
+    }
+
+    fn log_at(self, entry: u32, index: u32) -> usize
+        requires entry { entry < self.sizes.log }
+        requires index { index < 32 }
+        ensures index { result ≡ log_word self.sizes entry index }
+        ensures inside { result < word_count self.sizes }
+    {
+        self.log + 32 * entry as usize + index as usize
     }
 
     fn row_at(self, row: u32, index: u32) -> usize
@@ -86,7 +111,21 @@ impl Starts {
             Op::GiveBack { row } => self.claim_at(row),
             Op::Pin => 0,
             Op::Unpin { page } => 1 + page as usize,
-            Op::LoadLog { entry, index } => self.log + 32 * entry as usize + index as usize,
+            Op::LoadLog { entry, index } => self.log_at(entry, index),
+            Op::WriteLog {
+                entry,
+                index,
+                word: _,
+            } => self.log_at(entry, index),
+            Op::WritePlace {
+                page,
+                place,
+                word: _,
+            } => self.place_at(page, place),
+            Op::SwapCurrent {
+                version: _,
+                page: _,
+            } => 0,
         }
     }
 }

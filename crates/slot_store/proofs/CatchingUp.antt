@@ -36,6 +36,7 @@ stays v = record {
   pinned = refl;
   pins_left = refl;
   own = refl;
+  role = refl;
   steps = sym (append-nil v.steps);
   loads = tt;
   log =
@@ -49,6 +50,7 @@ moves_on u v w a b h k = record {
   pinned = k.pinned ∙ h.pinned;
   pins_left = k.pins_left ∙ h.pins_left;
   own = k.own ∙ h.own;
+  role = k.role ∙ h.role;
   steps = k.steps ∙ ap (λ (l : List Step). l ++ b) h.steps ∙ append_assoc u.steps a b;
   loads = each_append IsLogLoad a b h.loads k.loads;
   log = prefix_on u.log v.log w.log h.log k.log;
@@ -87,7 +89,7 @@ module _ (z : Site) (w : View) (entry index n : ℕ) (pinned : w.pinned ≡ Some
   more_words u is few = subst (λ (x : View). ReadsNext z w x entry (index + 1)) (sym (is ∙ with_next false (ne_eqb _ 32 (λ e. let l = long in omega arith))))
       (record {
         added = loaded_log w.sizes entry index n ∷ [];
-        moves = record { sizes = refl; share = refl; pinned = refl; pins_left = refl; own = refl; steps = refl; loads = (refl, tt); log = prefix_self w.log };
+        moves = record { sizes = refl; share = refl; pinned = refl; pins_left = refl; own = refl; role = refl; steps = refl; loads = (refl, tt); log = prefix_self w.log };
         at = at;
         words = long;
       })
@@ -101,6 +103,7 @@ module _ (z : Site) (w : View) (entry index n : ℕ) (pinned : w.pinned ≡ Some
       pinned = refl;
       pins_left = refl;
       own = refl;
+      role = refl;
       steps = refl;
       loads = (refl, tt);
       log =
@@ -170,7 +173,7 @@ knows_more v w u entry index n k below is = let below_w : entry < now w = (let e
     subst (λ (x : View). ReadsKnown v x) (sym (known_entry w u entry index n below_w is)) (let b = loaded_log w.sizes entry index n ∷ [] in record {
       added = k.added ++ b;
       moves = moves_on v w (noted w (loaded_log w.sizes entry index n)) k.added b k.moves
-          (record { sizes = refl; share = refl; pinned = refl; pins_left = refl; own = refl; steps = refl; loads = (refl, tt); log = prefix_self w.log });
+          (record { sizes = refl; share = refl; pinned = refl; pins_left = refl; own = refl; role = refl; steps = refl; loads = (refl, tt); log = prefix_self w.log });
       log = k.log;
       log_words = k.log_words;
     })

@@ -1,17 +1,22 @@
 -- What stays true of a view and of the steps that were added as more steps follow.
-use Rattle.std.proofs.Common.{ℕ, List, [], ◌++◌, length, subst, inl, inr, append_assoc, append-nil, sym, refl, ap, ◌∙◌}
+use Rattle.std.proofs.Common.{ℕ, List, [], ◌∷◌, ◌++◌, length, subst, inl, inr, append_assoc, append-nil, sym, refl, ap, ◌∙◌}
 use Rattle.slot_store.specs.declared.site.Site.{Site}
 use Rattle.pin_rule.specs.declared.content.Entry.{Entry}
+use Rattle.pin_rule.specs.declared.sizes.Sizes.{Sizes}
 use Rattle.pin_rule.specs.declared.view.View.{View}
 use Rattle.pin_rule.specs.declared.view.EntryFact.{EntryFact}
 use Rattle.pin_rule.specs.declared.view.WordFact.{WordFact}
 use Rattle.pin_rule.specs.declared.view.Step.{Step}
-use Rattle.pin_rule.specs.Lists.{In}
+use Rattle.pin_rule.specs.Lists.{Each, In}
 use Rattle.pin_rule.specs.Told.{IsTold, Tells}
 use Rattle.pin_rule.proofs.Lists.{each_map, each_append, in_left, in_right}
 use Rattle.slot_store.specs.Quiet.{IsQuiet, IsPlain}
-use Rattle.slot_store.specs.Answers.{MetRow}
-use Rattle.slot_store.specs.Walks.{IsAtWork, MovesBy, Moves, Reads, ReadsKey, ReadsOther, MeetsOther, Passed}
+use Rattle.slot_store.specs.Answers.{IsWordOf, MetRow}
+use Rattle.slot_store.specs.Walks.{IsAtWork, MovesBy, Moves, Reads, ReadsKey, ReadsOther, MeetsOther, Passed, WritesRow, IsRowStep}
+
+each_both : {A : Type 0} (P Q : A → Type 0) (l : List A) → Each P l → Each Q l → Each (λ x. P x × Q x) l
+each_both P Q [] h k = tt
+each_both P Q (x ∷ l) h k = ((h.0, k.0), each_both P Q l h.1 k.1)
 
 module _ {P : Step → Type 0} where
   pub stays : (v : View) → MovesBy P v v []
@@ -23,6 +28,7 @@ module _ {P : Step → Type 0} where
     log_words = refl;
     quiet = tt;
     pinned = refl;
+    role = refl;
     steps = sym (append-nil v.steps);
     entries = λ _ i. i;
     words = λ _ i. i;
@@ -37,6 +43,7 @@ module _ {P : Step → Type 0} where
     log_words = k.log_words ∙ h.log_words;
     quiet = each_append P a b h.quiet k.quiet;
     pinned = k.pinned ∙ h.pinned;
+    role = k.role ∙ h.role;
     steps = k.steps ∙ ap (λ (l : List Step). l ++ b) h.steps ∙ append_assoc u.steps a b;
     entries = λ e i. k.entries e (h.entries e i);
     words = λ x i. k.words x (h.words x i);
@@ -51,19 +58,48 @@ module _ {P : Step → Type 0} where
         h.caught_up ∙ ap length (sym k.log);
   }
 
--- steps that write no row are quiet
-pub quietly : (v w : View) (a : List Step) → Moves v w a → MovesBy IsQuiet v w a
-quietly v w a k = record {
+-- the steps are of a wider kind too
+pub moves_as : (P Q : Step → Type 0) → ((s : Step) → P s → Q s) → (v w : View) (a : List Step) → MovesBy P v w a → MovesBy Q v w a
+moves_as P Q f v w a k = record {
   sizes = k.sizes;
   log = k.log;
   share = k.share;
   pins_left = k.pins_left;
   log_words = k.log_words;
-  quiet = each_map IsPlain IsQuiet (λ s p. p.0) a k.quiet;
+  quiet = each_map P Q f a k.quiet;
   pinned = k.pinned;
+  role = k.role;
   steps = k.steps;
   entries = k.entries;
   words = k.words;
+}
+
+-- steps that write no row are quiet
+pub quietly : (v w : View) (a : List Step) → Moves v w a → MovesBy IsQuiet v w a
+quietly v w a k = moves_as IsPlain IsQuiet (λ s p. p.0) v w a k
+
+-- and they write no other word of a row than they may
+pub plain_row : (z : Sizes) (row : ℕ) (words : List ℕ) (s : Step) → IsPlain s → IsRowStep z row words s
+plain_row z row words s p = (p.0, λ e. absurd (p.1 e))
+
+pub row_moves : (z : Sizes) (row : ℕ) (words : List ℕ) (v w : View) (a : List Step) → Moves v w a → MovesBy (IsRowStep z row words) v w a
+row_moves z row words v w a k = moves_as IsPlain (IsRowStep z row words) (plain_row z row words) v w a k
+
+-- the words of a row were written, and no other
+pub wrote_moves : (z : Site) (v w : View) (row : ℕ) (words : List ℕ) (k : WritesRow z v w row words)
+    → MovesBy (IsRowStep z.sizes row words) v w k.added
+wrote_moves z v w row words k = record {
+  sizes = k.moves.sizes;
+  log = k.moves.log;
+  share = k.moves.share;
+  pins_left = k.moves.pins_left;
+  log_words = k.moves.log_words;
+  quiet = each_both IsQuiet (IsWordOf z.sizes row words) k.added k.moves.quiet k.only;
+  pinned = k.moves.pinned;
+  role = k.moves.role;
+  steps = k.moves.steps;
+  entries = k.moves.entries;
+  words = k.moves.words;
 }
 
 -- a user at work is told of the rows of its version
@@ -76,7 +112,7 @@ pub record Grows (v w : View) (a b : List Step) : Type 0 where
   pub entries : (e : EntryFact) → In e v.entries → In e w.entries
   pub words : (x : WordFact) → In x v.words → In x w.words
 
-pub earlier : (v w : View) (a b : List Step) → Moves v w b → Grows v w a (a ++ b)
+pub earlier : {P : Step → Type 0} (v w : View) (a b : List Step) → MovesBy P v w b → Grows v w a (a ++ b)
 earlier v w a b k = record { steps = λ s i. in_left s a b i; entries = k.entries; words = k.words }
 
 pub later : (w : View) (a b : List Step) → Grows w w b (a ++ b)

@@ -13,4 +13,3 @@ pub mod Settling
 pub mod Extending
 pub mod Concluding
 pub mod CatchingUp
-pub mod Dividing

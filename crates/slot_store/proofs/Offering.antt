@@ -18,9 +18,10 @@ use Rattle.pin_rule.proofs.Seats.{same_some}
 use Rattle.pin_rule.proofs.Paths.{on_page}
 use Rattle.pin_rule.proofs.KindPublish.{keeps_publish}
 use Rattle.slot_store.specs.Keys.{row_of}
-use Rattle.slot_store.specs.Walks.{IsAtWork, Moves, IsPlaceable, Offers}
+use Rattle.slot_store.specs.Quiet.{IsQuiet}
+use Rattle.slot_store.specs.Walks.{IsAtWork, MovesBy, OwnsRow, WritesRow, IsRowStep, IsPlaceable, Offers}
 use Rattle.slot_store.proofs.ByWord.{length_row, key_is, content_is}
-use Rattle.slot_store.proofs.Growing.{moves_on, work_on}
+use Rattle.slot_store.proofs.Growing.{moves_on, moves_as, row_moves, wrote_moves, work_on}
 use Rattle.slot_store.proofs.Passing.{loads, meets, range}
 use Rattle.slot_store.proofs.Single.{moves_publish, knows_at, names_row}
 
@@ -28,82 +29,106 @@ pub inside : (F : List ℕ → Type 0) (z : Site) (v : View) (row : ℕ) (key pa
     → place < z.sizes.places
 inside F z v row key payload step place p = let n = p.inside in subst (λ (q : ℕ). q < z.sizes.places) p.at (on_page z.sizes key (omega arith) step)
 
-knows_other : (z : Site) (v u : View) (b : List Step) (g : ℕ → ℕ) (place : ℕ) → Moves v u b → KnowsOther v z.version g place → KnowsOther u z.version g place
+knows_other : (z : Site) (v u : View) (b : List Step) (g : ℕ → ℕ) (place : ℕ) → MovesBy IsQuiet v u b → KnowsOther v z.version g place
+    → KnowsOther u z.version g place
 knows_other z v u b g place m k = (k.0, k.1, k.2, m.entries _ k.3, m.words _ k.4, k.5, k.6, k.7)
 
-module _ (F : List Entry → List ℕ → Type 0) (z : Site) (v u : View) (b : List Step) (row : ℕ) (key payload : List ℕ) (step place : ℕ) (moves : Moves v u b)
-    (own : u.own ≡ v.own) (p : IsPlaceable (F v.log) z v row key payload step place) where
+-- the row was written, and the steps since it was placeable are quiet
+module _ (F : List Entry → List ℕ → Type 0) (z : Site) (v u x : View) (b : List Step) (row : ℕ) (key payload : List ℕ) (step place : ℕ)
+    (moves : MovesBy IsQuiet v x b) (p : IsPlaceable (F v.log) z v row key payload step place) (w : WritesRow z u x row (row_of key payload)) where
   abbrev g : ℕ → ℕ
   g = slice_index (row_of key payload)
 
   abbrev o : OwnRow
-  o = p.owns.0
+  o = w.owns.0
 
-  ready : IsReady (F u.log) z.sizes u z.version p.owns.0 (slice_index (row_of key payload)) place
+  ready : IsReady (F x.log) z.sizes x z.version w.owns.0 (slice_index (row_of key payload)) place
   ready = record {
-    owns = own ∙ p.owns.1;
+    owns = w.owns.1;
     room = p.room;
-    wrote = λ index lt. let long = length_row key payload in let h = p.wrote index (omega arith) in
-        subst (λ (q : OwnRow). In (index, g index) q.wrote) (same_some h.0 o (sym h.1 ∙ p.owns.1)) h.3;
+    wrote = λ index lt. let long = length_row key payload in let h = w.wrote index (omega arith) in
+        subst (λ (q : OwnRow). In (index, g index) q.wrote) (same_some h.0 o (sym h.1 ∙ w.owns.1)) h.3;
     fitting = subst (λ (log : List Entry). F log (content_of (slice_index (row_of key payload)))) (sym moves.log)
         (subst (F v.log) (sym (content_is key payload)) p.fitting);
     step = step;
     step_in = p.inside;
     at = ap (λ (k : List ℕ). on_path z.sizes k step) (key_is key payload) ∙ p.at;
-    passed = λ before lt. subst (λ (k : List ℕ). KnowsOther u z.version g (on_path z.sizes k before)) (sym (key_is key payload))
-        (knows_other z v u b g _ moves (p.passed before lt));
+    passed = λ before lt. subst (λ (k : List ℕ). KnowsOther x z.version g (on_path z.sizes k before)) (sym (key_is key payload))
+        (knows_other z v x b g _ moves (p.passed before lt));
   }
 
-  pub may_publish : (L : List Entry → Type 0) → IsAtWork z u → Keeps L F u (op.Publish z.page place row)
-  may_publish L work = subst (λ (r : ℕ). Keeps L F u (op.Publish z.page place r)) p.owns.2
-      (keeps_publish L F u o g place (subst (λ (t : Sizes × ℕ). IsReady (F u.log) t.0 u t.1 o g place) (λ i. (
+  pub may_publish : (L : List Entry → Type 0) → IsAtWork z x → Keeps L F x (op.Publish z.page place row)
+  may_publish L work = subst (λ (r : ℕ). Keeps L F x (op.Publish z.page place r)) w.owns.2
+      (keeps_publish L F x o g place (subst (λ (t : Sizes × ℕ). IsReady (F x.log) t.0 x t.1 o g place) (λ i. (
         sym work.sizes i,
         work.caught_up i,
       )) ready) work.share _ work.pinned work.caught_up)
 
-module _ (F : List ℕ → Type 0) (z : Site) (v u : View) (place row n : ℕ) (work : IsAtWork z v) (is : u ≡ after_load_place v z.page place n) where
+module _ (F : List ℕ → Type 0) (z : Site) (v u : View) (place row n : ℕ) (words : List ℕ) (work : IsAtWork z v)
+    (is : u ≡ after_load_place v z.page place n) where
+  abbrev a : List Step
+  a = loaded_place z.sizes z.page place n ∷ []
+
   -- a row stands there
-  pub taken : n ≢ 0 → IsTold F u z.version → Offers z v u place row n
-  taken some told = record {
+  pub taken : n ≢ 0 → OwnsRow v row → IsTold F u z.version → Offers z v u place row words n
+  taken some owns told = record {
     added = loaded_place z.sizes z.page place n ∷ [];
-    moves = loads z v u work place n is;
+    moves = row_moves z.sizes row words v u a (loads z v u work place n is);
     won = λ e. absurd (some e);
-    lost = λ other e. let m = meets z v u work place n is F told other e in
-        (m.own, (m.met.0, inl (inl (ap (loaded_place z.sizes z.page place) (sym e)))), m.at, m.version);
+    lost = λ other e. let m = meets z v u work place n is F told other e in (
+      (owns.0, ap (λ (y : View). y.own) is ∙ owns.1, owns.2),
+      (m.met.0, inl (inl (ap (loaded_place z.sizes z.page place) (sym e)))),
+      m.at,
+      m.version,
+    );
   }
 
-  module _ (x : View) (m : ℕ) (to : x ≡ after_publish u z.page place row m) where
-    abbrev a : List Step
-    a = loaded_place z.sizes z.page place n ∷ []
+  -- the place was empty, so the row was written
+  module _ (x : View) (w : WritesRow z u x row words) where
+    abbrev before : List Step
+    before = loaded_place z.sizes z.page place n ∷ w.added
 
-    abbrev b : List Step
-    b = published z.sizes z.page place row m ∷ []
+    pub so_far : MovesBy (IsRowStep z.sizes row words) v x (loaded_place z.sizes z.page place n ∷ w.added)
+    so_far = moves_on v u x (loaded_place z.sizes z.page place n ∷ []) w.added
+        (row_moves z.sizes row words v u (loaded_place z.sizes z.page place n ∷ []) (loads z v u work place n is)) (wrote_moves z u x row words w)
 
-    at_work : IsAtWork z u
-    at_work = work_on z v u a work (loads z v u work place n is)
+    pub at_work : IsAtWork z x
+    at_work = work_on z v x before work so_far
 
-    on : Moves u x b
-    on = subst (λ (y : View). Moves u y b) (sym to) (moves_publish z u place row m at_work.sizes)
+    pub quiet_so_far : MovesBy IsQuiet v x (loaded_place z.sizes z.page place n ∷ w.added)
+    quiet_so_far = moves_as (IsRowStep z.sizes row words) IsQuiet (λ _ p. p.0) v x (loaded_place z.sizes z.page place n ∷ w.added) so_far
 
-    pub after_it : IsAtWork z x
-    after_it = work_on z u x b at_work on
+    module _ (y : View) (m : ℕ) (to : y ≡ after_publish x z.page place row m) where
+      abbrev b : List Step
+      b = published z.sizes z.page place row m ∷ []
 
-    pub offered : IsTold F x z.version → Offers z v x place row m
-    offered told = record {
-      added = a ++ b;
-      moves = moves_on v u x a b (loads z v u work place n is) on;
-      won = λ e. (
-        ap (λ (y : View). y.own) (to ∙ ap (after_publish u z.page place row) e),
-        (a, ap (λ (k : ℕ). a ++ published z.sizes z.page place row k ∷ []) e),
-      );
-      lost = λ other e. let t = to ∙ ap (after_publish u z.page place row) e in let entries = ap (λ (y : View). y.entries) t in
-          let version = names_row z u at_work x place other entries in (
-            ap (λ (y : View). y.own) t ∙ ap (λ (y : View). y.own) is,
-            (
-              range F z x other (on.sizes ∙ at_work.sizes) version told,
-              inr (row, in_right _ a b (inl (ap (published z.sizes z.page place row) (sym e)))),
-            ),
-            knows_at z u at_work x place other entries,
-            version,
-          );
-    }
+      on : MovesBy (IsRowStep z.sizes row words) x y (published z.sizes z.page place row m ∷ [])
+      on = subst (λ (t : View). MovesBy (IsRowStep z.sizes row words) x t b) (sym to)
+          (row_moves z.sizes row words x (after_publish x z.page place row m) b (moves_publish z x place row m at_work.sizes))
+
+      pub after_it : IsAtWork z y
+      after_it = work_on z x y b at_work on
+
+      pub offered : IsTold F y z.version → Offers z v y place row words m
+      offered told = record {
+        added = before ++ b;
+        moves = moves_on v x y before b so_far on;
+        won = λ e. (
+          ap (λ (t : View). t.own) (to ∙ ap (after_publish x z.page place row) e),
+          record {
+            before = before;
+            stores = λ index lt. inr (w.stores index lt);
+            entry = ap (λ (k : ℕ). before ++ published z.sizes z.page place row k ∷ []) e;
+          },
+        );
+        lost = λ other e. let t = to ∙ ap (after_publish x z.page place row) e in let entries = ap (λ (s : View). s.entries) t in
+            let version = names_row z x at_work y place other entries in (
+              (w.owns.0, ap (λ (s : View). s.own) t ∙ w.owns.1, w.owns.2),
+              (
+                range F z y other (on.sizes ∙ at_work.sizes) version told,
+                inr (row, in_right _ before b (inl (ap (published z.sizes z.page place row) (sym e)))),
+              ),
+              knows_at z x at_work y place other entries,
+              version,
+            );
+      }

@@ -23,7 +23,7 @@ word_grows : (o : Option ℕ) (ws : List WordFact) (row index n : ℕ) (x : Word
 word_grows None ws row index n x i = i
 word_grows (Some version) ws row index n x i = inr i
 
-entry_grows : (o : Option ℕ) (es : List EntryFact) (place n : ℕ) (e : EntryFact) → In e es → In e (met_entry o es place n)
+pub entry_grows : (o : Option ℕ) (es : List EntryFact) (place n : ℕ) (e : EntryFact) → In e es → In e (met_entry o es place n)
 entry_grows None es place n e i = i
 entry_grows (Some version) es place zero e i = i
 entry_grows (Some version) es place (suc row) e i = inr i
@@ -46,12 +46,16 @@ pub claim_apart : kind.Claim ≢ kind.WriteRow
 claim_apart e = cc
 
 -- a view that names a row knows it
-pub knows_row : (z : Site) (v : View) (row : ℕ) → version_of v.entries row ≡ Some z.version → KnowsRow v z.version row
-knows_row z v row is = let r = names v.entries row z.version is in
+pub names_known : (v : View) (version row : ℕ) → version_of v.entries row ≡ Some version → KnowsRow v version row
+names_known v version row is = let r = names v.entries row version is in
     (r.0.place, subst (λ (t : ℕ × ℕ). In (let e : EntryFact = record { version = t.0; place = r.0.place; row = t.1 } in e) v.entries) (λ i. (r.3 i, r.2 i)) r.1)
 
-named : (z : Site) (es : List EntryFact) (place row : ℕ) → version_of (record { version = z.version; place = place; row = row } ∷ es) row ≡ Some z.version
-named z es place row = ap (λ b. cond b (Some z.version) (version_of es row)) (eq-eqb row row refl)
+pub knows_row : (z : Site) (v : View) (row : ℕ) → version_of v.entries row ≡ Some z.version → KnowsRow v z.version row
+knows_row z v row is = names_known v z.version row is
+
+-- the newest entry names its row
+pub names_it : (version : ℕ) (es : List EntryFact) (place row : ℕ) → version_of (record { version = version; place = place; row = row } ∷ es) row ≡ Some version
+names_it version es place row = ap (λ b. cond b (Some version) (version_of es row)) (eq-eqb row row refl)
 
 module _ (z : Site) (v : View) (work : IsAtWork z v) where
   module _ (row index n : ℕ) where
@@ -64,6 +68,7 @@ module _ (z : Site) (v : View) (work : IsAtWork z v) where
       log_words = refl;
       quiet = ((tt, load_row_apart), tt);
       pinned = refl;
+      role = refl;
       steps = ap (λ (y : Sizes). v.steps ++ loaded_row y row index n ∷ []) work.sizes;
       entries = λ _ i. i;
       words = λ x i. word_grows (version_of v.entries row) v.words row index n x i;
@@ -96,6 +101,7 @@ module _ (z : Site) (v : View) (work : IsAtWork z v) where
       log_words = refl;
       quiet = ((tt, load_place_apart), tt);
       pinned = refl;
+      role = refl;
       steps = ap (λ (y : Sizes). v.steps ++ loaded_place y z.page place n ∷ []) work.sizes;
       entries = λ e i. entry_grows (version_at v z.page) v.entries place n e i;
       words = λ _ i. i;
@@ -116,7 +122,7 @@ module _ (z : Site) (v : View) (work : IsAtWork z v) where
         (sym (met ∙ met_at place row)) (inl refl)
 
     pub names_row : version_of w.entries row ≡ Some z.version
-    names_row = ap (λ (es : List EntryFact). version_of es row) (met ∙ met_at place row) ∙ named z v.entries place row
+    names_row = ap (λ (es : List EntryFact). version_of es row) (met ∙ met_at place row) ∙ names_it z.version v.entries place row
 
 published_grow : (o : Option ℕ) (own : Option OwnRow) (ws : List WordFact) (n : ℕ) (x : WordFact) → In x ws → In x (published_words o own ws n)
 published_grow None own ws n x i = i
@@ -133,6 +139,7 @@ moves_publish z v place row n sizes = record {
   log_words = refl;
   quiet = ((tt, publish_apart), tt);
   pinned = refl;
+  role = refl;
   steps = ap (λ (y : Sizes). v.steps ++ published y z.page place row n ∷ []) sizes;
   entries = λ e i. entry_grows (version_at v z.page) v.entries place (exchanged (suc row) n) e i;
   words = λ x i. published_grow (version_at v z.page) v.own v.words n x i;
@@ -147,6 +154,7 @@ moves_give_back z v row sizes = record {
   log_words = refl;
   quiet = ((tt, give_back_apart), tt);
   pinned = refl;
+  role = refl;
   steps = ap (λ (y : Sizes). v.steps ++ gave_back y row ∷ []) sizes;
   entries = λ _ i. i;
   words = λ _ i. i;

@@ -85,6 +85,7 @@ module _ (z : Site) (v w u : View) (work : IsAtWork z v) (row from : ℕ) (words
           log_words = refl;
           quiet = (tt, tt);
           pinned = refl;
+          role = refl;
           steps = ap (λ (y : Sizes). w.steps ++ wrote_row y row (from + i) x ∷ []) sizes;
           entries = λ _ e. e;
           words = λ _ e. e;

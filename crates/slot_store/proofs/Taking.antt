@@ -36,6 +36,7 @@ module _ (z : Site) (v w u : View) (work : IsAtWork z v) (from at n : ℕ) (is :
         log_words = refl;
         quiet = ((tt, claim_apart), tt);
         pinned = refl;
+        role = refl;
         steps = ap (λ (y : Sizes). w.steps ++ claimed y at n ∷ []) same;
         entries = λ _ i. i;
         words = λ _ i. i;

@@ -1,4 +1,5 @@
 pub mod Meaning
+pub mod Idle
 pub mod Keys
 pub mod Quiet
 pub mod Logs

@@ -20,6 +20,7 @@ pub record LogMoves (v w : View) (added : List Step) : Type 0 where
   pub pinned : w.pinned ≡ v.pinned
   pub pins_left : w.pins_left ≡ v.pins_left
   pub own : w.own ≡ v.own
+  pub role : w.role ≡ v.role
   pub steps : w.steps ≡ v.steps ++ added
   pub loads : Each IsLogLoad added
   pub log : IsPrefix v.log w.log

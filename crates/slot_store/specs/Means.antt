@@ -1,7 +1,4 @@
 -- What users mean, with a pinned page and without one.
-use Rattle.std.specs.Prelude.{◌≡◌, ◌≢◌, ℕ, []}
-use Rattle.atomic_table.specs.Seated.{TableId}
-use Rattle.pin_rule.specs.declared.sizes.Sizes.{Sizes}
 use Rattle.pin_rule.specs.Hands.{view_of, table_of}
 use Rattle.slot_store.specs.declared.pinned.Pinned.{Pinned}
 use Rattle.slot_store.specs.declared.pass.Pass.{Pass}
@@ -12,10 +9,3 @@ means_of p = meaning_of (view_of p.hand) p.site.page (table_of p.hand)
 
 abbrev pub pass_of : {C : Type 0} → Pass C → PassMeaning
 pass_of p = pass_meaning (view_of p.hand) (table_of p.hand)
-
--- a new user of this table, at version 0, with a share
-pub record IsUserOf {C : Type 0} (z : Sizes) (table : TableId × ℕ) (p : Pass C) : Type 0 where
-  pub sizes : (pass_of p).sizes ≡ z
-  pub table_is : (pass_of p).table ≡ table
-  pub log : (pass_of p).log ≡ []
-  pub share : (pass_of p).share ≢ 0

@@ -39,6 +39,7 @@ pub record MovesBy (P : Step → Type 0) (v w : View) (added : List Step) : Type
   pub pins_left : w.pins_left ≡ v.pins_left
   pub log_words : w.log_words ≡ v.log_words
   pub pinned : w.pinned ≡ v.pinned
+  pub role : w.role ≡ v.role
   pub steps : w.steps ≡ v.steps ++ added
   pub quiet : Each P added
   pub entries : (e : EntryFact) → In e v.entries → In e w.entries
@@ -79,10 +80,9 @@ pub record Compares (z : Site) (v w : View) (row : ℕ) (key : List ℕ) (same :
   pub no : ¬ same → ReadsOther z w added row key
 
 -- so many places of the path held other keys
-pub record Walking (z : Site) (v w : View) (key : List ℕ) (steps place : ℕ) : Type 0 where
+pub record Walking (P : Step → Type 0) (z : Site) (v w : View) (key : List ℕ) (steps place : ℕ) : Type 0 where
   pub added : List Step
-  pub moves : Moves v w added
-  pub own : w.own ≡ v.own
+  pub moves : MovesBy P v w added
   pub passed : Passed z w added key steps
   pub at : place ≡ on_path z.sizes key steps
 
@@ -162,32 +162,40 @@ pub record WritesRow (z : Site) (v w : View) (row : ℕ) (words : List ℕ) : Ty
   pub stores : (index : ℕ) → index < length words → In (wrote_row z.sizes row index (slice_index words index)) added
   pub only : Each (IsWordOf z.sizes row words) added
 
--- the own row may be published at this place
+-- a quiet step that, if it writes a row, writes one of these words to its place in this row
+abbrev pub IsRowStep : Sizes → ℕ → List ℕ → Step → Type 0
+IsRowStep z row words s = IsQuiet s × IsWordOf z row words s
+
+-- the own row, once it is written, may be published at this place
 pub record IsPlaceable (fits : List ℕ → Type 0) (z : Site) (v : View) (row : ℕ) (key payload : List ℕ) (step place : ℕ) : Type 0 where
   pub owns : OwnsRow v row
-  pub wrote : HasWrittenAll v row (row_of key payload)
   pub room : 2 + (length key + length payload) ≤ z.sizes.width
   pub fitting : fits (row_of key payload)
   pub inside : step < z.sizes.places
   pub at : on_path z.sizes key step ≡ place
   pub passed : (before : ℕ) → before < step → KnowsOther v z.version (slice_index (row_of key payload)) (on_path z.sizes key before)
 
--- the row was published at the place, or another was met there
-pub record Offers (z : Site) (v w : View) (place row met : ℕ) : Type 0 where
+-- the whole row was written, and the last step published it at the place
+pub record Settles (z : Site) (added : List Step) (place row : ℕ) (words : List ℕ) : Type 0 where
+  pub before : List Step
+  pub stores : (index : ℕ) → index < length words → In (wrote_row z.sizes row index (slice_index words index)) before
+  pub entry : added ≡ before ++ published z.sizes z.page place row 0 ∷ []
+
+-- the row was written and published at the place, or another was met there
+pub record Offers (z : Site) (v w : View) (place row : ℕ) (words : List ℕ) (met : ℕ) : Type 0 where
   pub added : List Step
-  pub moves : Moves v w added
-  pub won : met ≡ 0 → (w.own ≡ None) × ((before : List Step) × (added ≡ before ++ published z.sizes z.page place row 0 ∷ []))
-  pub lost : (other : ℕ) → met ≡ suc other → (w.own ≡ v.own) × MetRow z.sizes z.page added place other × KnowsAt z w place other ×
+  pub moves : MovesBy (IsRowStep z.sizes row words) v w added
+  pub won : met ≡ 0 → (w.own ≡ None) × Settles z added place row words
+  pub lost : (other : ℕ) → met ≡ suc other → OwnsRow w row × MetRow z.sizes z.page added place other × KnowsAt z w place other ×
       (version_of w.entries other ≡ Some z.version)
 
-abbrev pub PlacedIs : Site → View → View → List Step → ℕ → List ℕ → Placed → Type 0
-PlacedIs z v w added row key placed.Here = (w.own ≡ None) × ((place : ℕ) × (place < z.sizes.places) × (before : List Step)
-    × (added ≡ before ++ published z.sizes z.page place row 0 ∷ []))
-PlacedIs z v w added row key placed.Already = (w.own ≡ v.own) × ((place : ℕ) × (other : ℕ) × (place < z.sizes.places)
+abbrev pub PlacedIs : Site → View → List Step → ℕ → List ℕ → List ℕ → Placed → Type 0
+PlacedIs z w added row key words placed.Here = (w.own ≡ None) × ((place : ℕ) × (place < z.sizes.places) × Settles z added place row words)
+PlacedIs z w added row key words placed.Already = OwnsRow w row × ((place : ℕ) × (other : ℕ) × (place < z.sizes.places)
     × MetRow z.sizes z.page added place other × ReadsKey z w added other key)
-PlacedIs z v w added row key placed.Full = (w.own ≡ v.own) × Passed z w added key z.sizes.places
+PlacedIs z w added row key words placed.Full = OwnsRow w row × Passed z w added key z.sizes.places
 
-pub record Places (z : Site) (v w : View) (row : ℕ) (key : List ℕ) (p : Placed) : Type 0 where
+pub record Places (z : Site) (v w : View) (row : ℕ) (key words : List ℕ) (p : Placed) : Type 0 where
   pub added : List Step
-  pub moves : Moves v w added
-  pub is : PlacedIs z v w added row key p
+  pub moves : MovesBy (IsRowStep z.sizes row words) v w added
+  pub is : PlacedIs z w added row key words p

@@ -17,11 +17,12 @@ pub(crate) fn has_key<C: Content>(hand: &mut Hand<C>, site: Site, row: u32, key:
     ensures table { table_of hand.new ≡ table_of hand.old }
     ensures compared { Compares site (view_of hand.old) (view_of hand.new) row key.now (IsTrue result) }
 {
-    if hand.load_row(row, 0) != key.len() as u64 {
+    let start = hand.row_start(row);
+    if hand.load_row_at(start, row, 0) != key.len() as u64 {
         return false;
     }
     for i in 0..key.len() {
-        if hand.load_row(row, i as u32 + 2) != key[i] {
+        if hand.load_row_at(start, row, i as u32 + 2) != key[i] {
             return false;
         }
     }

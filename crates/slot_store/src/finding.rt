@@ -31,9 +31,10 @@ fn walk<C: Content>(hand: &mut Hand<C>, site: Site, key: &[u64]) -> Seen
     ensures table { table_of hand.new ≡ table_of hand.old }
     ensures walked { Walks site (view_of hand.old) (view_of hand.new) key.now result }
 {
+    let start = hand.page_start(site.page);
     let mut place = first_place(site.sizes, key);
     for _step in 0..site.sizes.places {
-        let met = hand.load_place(site.page, place);
+        let met = hand.load_place_at(start, site.page, place);
         if met == 0 {
             return Seen::Empty { place };
         }
@@ -65,10 +66,11 @@ fn read_payload<C: Content>(
     ensures room { result ≤ length buffer.new }
     ensures told { IsTold (C.fits (view_of hand.new).log) (view_of hand.new) site.version }
 {
-    let count = hand.load_row(row, 1) as usize;
+    let start = hand.row_start(row);
+    let count = hand.load_row_at(start, row, 1) as usize;
     let from = key.len() as u32 + 2;
     for i in 0..count {
-        buffer[i] = hand.load_row(row, from + i as u32);
+        buffer[i] = hand.load_row_at(start, row, from + i as u32);
     }
     count
 }

@@ -9,18 +9,12 @@ mod catching;
 mod claiming;
 mod comparing;
 mod finding;
-pub mod opening;
 pub mod page;
 pub mod pass;
-mod paths;
+pub mod paths;
 pub mod pinned;
+mod pinned_page;
 mod pinning;
 mod placing;
 mod site;
-#[cfg(test)]
-mod tests;
-mod using;
 mod writing;
-
-/// There was no memory.
-pub type NoMemory = std::alloc::AllocError;

@@ -1,4 +1,5 @@
-//! The path of a key through a page.
+//! The path of a key through a page: from its first place on through all
+//! places, and from the last to place 0.
 
 ghost use Rattle.std.specs.Prelude.{◌≡◌, ◌<◌, ◌+◌, ℕ, List};
 ghost use Rattle.pin_rule.specs.Rows.{on_path, hashed};
@@ -17,13 +18,15 @@ fn mixed(key: &[u64]) -> u64
     hash
 }
 
-pub(crate) fn first_place(sizes: Sizes, key: &[u64]) -> u32
+/// The first place of the key's path.
+pub fn first_place(sizes: Sizes, key: &[u64]) -> u32
     ensures { result ≡ on_path sizes key.now 0 }
 {
     ((mixed(key) >> 32) % sizes.places as u64) as u32
 }
 
-pub(crate) fn next_place(sizes: Sizes, place: u32) -> u32
+/// The place after this one on each path that comes by it.
+pub fn next_place(sizes: Sizes, place: u32) -> u32
     requires { place < sizes.places }
     ensures { (key : List ℕ) (step : ℕ) → place ≡ on_path sizes key step → result ≡ on_path sizes key (step + 1) }
 {

@@ -21,6 +21,7 @@ pub struct Pinned<C: Content> {
     ghost pinned: { (view_of hand).pinned ≡ Some record { version = site.version; page = site.page } },
     ghost caught_up: { site.version ≡ now (view_of hand) },
     ghost free: { (view_of hand).own ≡ None },
+    ghost plain: { (view_of hand).role ≡ None },
     ghost whole_entries: { (view_of hand).log_words ≡ [] },
     ghost counted: { left ≡ (view_of hand).pins_left },
     ghost next_in: { next ≤ site.sizes.rows },

@@ -18,8 +18,9 @@ fn write_words<C: Content>(hand: &mut Hand<C>, site: Site, row: u32, from: u32, 
     ensures table { table_of hand.new ≡ table_of hand.old }
     ensures wrote { Writes site (view_of hand.old) (view_of hand.new) row from words.now (length words.now) }
 {
+    let start = hand.row_start(row);
     for i in 0..words.len() {
-        hand.write_row(row, from + i as u32, words[i]);
+        hand.write_row_at(start, row, from + i as u32, words[i]);
     }
 }
 

@@ -3,18 +3,20 @@ use Rattle.pin_rule.specs.Layout.{word_count}
 use Rattle.pin_rule.specs.Ops.{word_of, does}
 use Rattle.pin_rule.specs.Keeps.{Keeps}
 use Rattle.pin_rule.specs.Steps.{after}
+use Rattle.pin_rule.proofs.Frames.{word_in}
 use Rattle.pin_rule.proofs.Allowed.{stores}
 use Rattle.pin_rule.proofs.hand.Hand.store_as.Goals as goal
 
 pub store-requires : goal.store-requires
 store-requires g c =
-    let h = c.args.self.now in let t = c.value-table.result.now.shared in let e = c.value-table.ensures in let i = c.index_of-word.result in
+    let h = c.args.self.now in let t = c.value-table.result.now.shared in let e = c.value-table.ensures in let i = c.args.word in
     let r = c.requires in
     let same : h.seat.table_id ≡ t.table_id = h.seated ∙ sym (ap (λ x. x.shared.table_id) e) in
     let key : t.key ≡ h.seat.me.0.sizes = ap (λ x. x.shared.key) e ∙ h.keyed ∙ sym h.told in
-    let at : i ≡ word_of h.seat.me.0.sizes c.args.op = c.index_of-word.ensures.index ∙ ap (λ z. word_of z c.args.op) (sym h.told) in
+    let at : i ≡ word_of h.seat.me.0.sizes c.args.op = r.word in
     let many : t.table_id.words ≡ word_count h.starts.sizes = ap (λ x. x.shared.table_id.words) e ∙ h.wide in
-    let inside : i < word_count h.starts.sizes = c.index_of-word.ensures.inside in (
+    let inside : i < word_count h.starts.sizes = subst (λ z. i < word_count z) h.told
+    (subst (λ j. j < word_count h.seat.me.0.sizes) (sym at) (word_in h.seat.me.0.sizes c.args.op r.inside)) in (
       same,
       (let b : i < t.table_id.words = omega arith in b),
       stores g.C.Content.lawful g.C.Content.fits t.key t.table_id.slots h.seat.id h.seat.me i (λ _. c.args.new) g.G.Doing.op key

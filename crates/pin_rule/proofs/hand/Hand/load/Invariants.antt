@@ -1,4 +1,0 @@
-use Rattle.pin_rule.proofs.hand.Hand.load.Given as goal
-
-abbrev pub ghosts-load_as : goal.ghosts-load_as
-ghosts-load_as g a = record { op = a.op }

@@ -1,4 +1,0 @@
-use Rattle.pin_rule.proofs.hand.Hand.store.Given as goal
-
-abbrev pub ghosts-store_as : goal.ghosts-store_as
-ghosts-store_as g a = record { op = a.op }

@@ -1,0 +1,14 @@
+pub mod Taken
+pub mod FirstPlaces
+pub mod Going
+pub mod EntryWords
+pub mod PageWords
+pub mod RowWords
+pub mod WholeRows
+pub mod RowChoice
+pub mod PageRows
+pub mod Chosen
+pub mod RowsByNumber
+pub mod NextVersions
+pub mod Downs
+pub mod Dividing

@@ -1,0 +1,60 @@
+-- Where the rows that are kept stand in the page in the making.
+use Rattle.std.specs.Prelude.{◌≡◌, ◌⊎◌, ℕ, zero, suc, ◌<◌, ◌≤◌, List, [], ◌∷◌, ◌++◌, length, slice_index, slice_set, Option, Some, None}
+use Rattle.pin_rule.specs.declared.sizes.Sizes.{Sizes}
+use Rattle.pin_rule.specs.declared.view.View.{View}
+use Rattle.pin_rule.specs.NextVersion.{IsPast}
+use Rattle.version_store.specs.declared.current.Current.{Current}
+use Rattle.pin_rule.specs.Layout.{version_named, page_named, taken_named}
+use Rattle.pin_rule.specs.Lists.{In}
+use Rattle.version_store.specs.Roles.{role_of, pages_of, older_of}
+use Rattle.version_store.specs.Edits.{Found, IsWholeRow, KeepsExactly, edit_steps}
+use Rattle.version_store.specs.Stages.{IsAt, key_in, ReadsRow, Stays}
+
+-- how many places are not empty
+abbrev pub count_taken : List ℕ → ℕ
+count_taken [] = 0
+count_taken (zero ∷ ns) = count_taken ns
+count_taken (suc n ∷ ns) = suc (count_taken ns)
+
+-- the word was put at the first empty place of the key's path
+abbrev pub PutsAtFirst : Sizes → List ℕ → ℕ → List ℕ → List ℕ → Type 0
+PutsAtFirst z key word old new = (place : ℕ) × (place < z.places) × (slice_index old place ≡ 0) × (new ≡ slice_set old place word) × IsPast z old key place
+
+-- the row was read whole, and where it is kept it was put at its place
+pub record ChoosesRow (keeps next : List ℕ → Type 0) (c : Current) (v w : View) (row : ℕ) (old new : List ℕ) : Type 0 where
+  pub words : List ℕ
+  pub is_whole : IsWholeRow words
+  pub reads : ReadsRow c v w row words
+  pub chosen : (keeps words × next words × PutsAtFirst c.sizes (key_in words) (suc row) old new) ⊎ ((¬ (keeps words)) × (new ≡ old))
+
+-- of the rows found, those that are kept stand on the paths of their keys, and no others
+pub record HasChosen (keeps next : List ℕ → Type 0) (z : Sizes) (found : List (Option Found)) (places : List ℕ) : Type 0 where
+  pub room : length places ≡ z.places
+  pub few : count_taken places ≤ length found
+  pub kept : (p row : ℕ) → slice_index places p ≡ suc row → (o : ℕ) × (f : Found) × IsAt found o f × (f.row ≡ row) × keeps f.words × next f.words
+      × IsPast z places (key_in f.words) p
+  pub every : (o : ℕ) (f : Found) → IsAt found o f → keeps f.words → (p : ℕ) × (p < z.places) × (slice_index places p ≡ suc f.row)
+  pub once : (p q row : ℕ) → slice_index places p ≡ suc row → slice_index places q ≡ suc row → p ≡ q
+
+-- The whole edit
+
+-- the next version was made with this entry and the rows that are kept; w is the view after the swap, which met a word
+pub record MakesNext (keeps : List ℕ → Type 0) (c : Current) (v w : View) (entry : List ℕ) (met : ℕ) : Type 0 where
+  pub found : List (Option Found)
+  pub places : List ℕ
+  pub stays : Stays v w
+  pub steps : w.steps ≡ v.steps ++ (edit_steps c.sizes c.version c.page c.next entry found places met)
+  pub log : w.log ≡ v.log ++ record { words = entry } ∷ []
+  pub every_place : length found ≡ c.sizes.places
+  pub whole_rows : (f : Found) → In (Some f) found → IsWholeRow f.words
+  pub every_new_place : length places ≡ c.sizes.places
+  pub kept : KeepsExactly keeps found places
+  pub version_before : version_named met ≡ c.version
+  pub page_before : page_named met ≡ c.page
+  -- its role
+  pub has : w.role ≡ Some (role_of w)
+  pub idle : (role_of w).making ≡ None
+  pub giving_up : (role_of w).giving_up ≡ (role_of v).giving_up
+  pub version_is : (role_of w).newest.version ≡ suc c.version
+  pub pages : pages_of (role_of w) ≡ c.next ∷ pages_of (role_of v)
+  pub older : older_of (role_of w) ≡ (c.version, taken_named met) ∷ older_of (role_of v)

@@ -1,0 +1,100 @@
+-- What an edit does, by the steps that it adds.
+use Rattle.std.specs.Prelude.{◌≡◌, ℕ, suc, ◌+◌, List, [], ◌∷◌, ◌++◌, length, slice_index, Option, Some, None}
+use Rattle.pin_rule.specs.declared.sizes.Sizes.{Sizes}
+use Rattle.pin_rule.specs.declared.view.Step.{Step}
+use Rattle.pin_rule.specs.Layout.{version_named, page_named, taken_named}
+use Rattle.pin_rule.specs.Lists.{In}
+use Rattle.pin_rule.specs.Steps.{loaded_place, loaded_row, wrote_log, wrote_place, swapped}
+use Rattle.version_store.specs.declared.edit_error.EditError.{EditError}
+use Rattle.version_store.specs.declared.edit_error.EditError.TheVariants.{VersionsFull, LogFull}
+use Rattle.version_store.specs.Meaning.{EditorMeaning}
+
+-- a row that was met at a place, with its words
+pub record Found : Type 0 where
+  pub row : ℕ
+  pub words : List ℕ
+
+-- a whole row has its two lengths and as many words as they say
+abbrev pub IsWholeRow : List ℕ → Type 0
+IsWholeRow words = length words ≡ 2 + (slice_index words 0 + slice_index words 1)
+
+-- The steps of an edit
+
+-- the words of an entry, from an index on
+abbrev pub entry_stores : Sizes → ℕ → ℕ → List ℕ → List Step
+entry_stores z entry index [] = []
+entry_stores z entry index (w ∷ ws) = wrote_log z entry index w ∷ entry_stores z entry (suc index) ws
+
+-- the words of a row, from an index on
+abbrev pub row_loads : Sizes → ℕ → ℕ → List ℕ → List Step
+row_loads z row index [] = []
+row_loads z row index (w ∷ ws) = loaded_row z row index w ∷ row_loads z row (suc index) ws
+
+-- a place, and the row there if there is one
+abbrev pub place_loads : Sizes → ℕ → ℕ → Option Found → List Step
+place_loads z page place None = loaded_place z page place 0 ∷ []
+place_loads z page place (Some f) = loaded_place z page place (suc f.row) ∷ row_loads z f.row 0 f.words
+
+-- the places of a page, from one on, each with its row
+abbrev pub page_loads : Sizes → ℕ → ℕ → List (Option Found) → List Step
+page_loads z page place [] = []
+page_loads z page place (f ∷ fs) = place_loads z page place f ++ page_loads z page (suc place) fs
+
+-- the places of a page, from one on
+abbrev pub page_stores : Sizes → ℕ → ℕ → List ℕ → List Step
+page_stores z page place [] = []
+page_stores z page place (w ∷ ws) = wrote_place z page place w ∷ page_stores z page (suc place) ws
+
+-- the words of the entry in order; then each place of the old page, with the whole row that stands there; then each place of the new page; and last the swap
+-- that makes the new version the current one
+abbrev pub edit_steps : Sizes → ℕ → ℕ → ℕ → List ℕ → List (Option Found) → List ℕ → ℕ → List Step
+edit_steps z version old new entry found places met = entry_stores z version 0 entry ++ (page_loads z old 0 found ++ (page_stores z new 0 places
+    ++ swapped (suc version) new met ∷ []))
+
+-- the rows among these that are kept stand at places, each at one, and no others do
+pub record KeepsExactly (keeps : List ℕ → Type 0) (found : List (Option Found)) (places : List ℕ) : Type 0 where
+  pub every : (f : Found) → In (Some f) found → keeps f.words → In (suc f.row) places
+  pub only : (row : ℕ) → In (suc row) places → (f : Found) × In (Some f) found × (f.row ≡ row) × keeps f.words
+  pub once : (p q row : ℕ) → slice_index places p ≡ suc row → slice_index places q ≡ suc row → p ≡ q
+
+-- the editor made the next version, and its page holds the rows that were met and kept
+pub record MakesVersion (keeps : List ℕ → Type 0) (entry : List ℕ) (m n : EditorMeaning) : Type 0 where
+  pub old : ℕ
+  pub new : ℕ
+  pub found : List (Option Found)
+  pub places : List ℕ
+  pub met : ℕ
+  pub steps : n.steps ≡ m.steps ++ edit_steps m.sizes (length m.log) old new entry found places met
+  pub every_place : length found ≡ m.sizes.places
+  pub whole_rows : (f : Found) → In (Some f) found → IsWholeRow f.words
+  pub every_new_place : length places ≡ m.sizes.places
+  pub kept : KeepsExactly keeps found places
+  -- the word that the swap met names the version before, its page and the pins taken on it
+  pub version_before : version_named met ≡ length m.log
+  pub page_before : page_named met ≡ old
+  pub log : n.log ≡ m.log ++ record { words = entry } ∷ []
+  pub older : n.older ≡ (length m.log, taken_named met) ∷ m.older
+
+-- the editor stays the same in all but its log, its live versions and its steps
+pub record IsSameEditor (m n : EditorMeaning) : Type 0 where
+  pub sizes : n.sizes ≡ m.sizes
+  pub table : n.table ≡ m.table
+  pub share : n.share ≡ m.share
+  pub pins_left : n.pins_left ≡ m.pins_left
+
+-- Why an edit is refused
+
+-- as many versions as there are pages are live
+abbrev pub HasAllVersions : EditorMeaning → Type 0
+HasAllVersions m = length m.older + 1 ≡ m.sizes.versions
+
+abbrev pub HasWholeLog : EditorMeaning → Type 0
+HasWholeLog m = length m.log ≡ m.sizes.log
+
+abbrev pub IsLastOf : {A : Type 0} → A → List A → Type 0
+IsLastOf x xs = (front : _) × (xs ≡ front ++ x ∷ [])
+
+-- the oldest version is told with the pins taken on it; that any were dropped was not seen
+abbrev pub IsCause : EditorMeaning → EditError → Type 0
+IsCause m (VersionsFull version taken released) = HasAllVersions m × IsLastOf (version, taken) m.older × (released ≡ 0)
+IsCause m (LogFull entries) = (¬ (HasAllVersions m)) × HasWholeLog m × (entries ≡ length m.log)

@@ -1,0 +1,47 @@
+-- What a bench and an editor mean.
+use Rattle.std.specs.Prelude.{◌≡◌, ℕ, List, []}
+use Rattle.atomic_table.specs.Seated.{TableId}
+use Rattle.pin_rule.specs.declared.sizes.Sizes.{Sizes}
+use Rattle.pin_rule.specs.declared.content.Entry.{Entry}
+use Rattle.pin_rule.specs.declared.view.Step.{Step}
+use Rattle.pin_rule.specs.declared.view.View.{View}
+use Rattle.version_store.specs.Roles.{role_of, older_of}
+
+-- the sizes of the table, the log of its newest version, the table, and of the bench its pins left and its steps
+pub record BenchMeaning : Type 0 where
+  pub sizes : Sizes
+  pub log : List Entry
+  pub table : TableId × ℕ
+  pub pins_left : ℕ
+  pub steps : List Step
+
+abbrev pub bench_meaning : View → TableId × ℕ → BenchMeaning
+bench_meaning v table = record { sizes = v.sizes; log = v.log; table = table; pins_left = v.pins_left; steps = v.steps }
+
+-- the same of an editor, with its share and its live versions before the newest, newest first, each with the pins taken on it
+pub record EditorMeaning : Type 0 where
+  pub sizes : Sizes
+  pub log : List Entry
+  pub table : TableId × ℕ
+  pub share : ℕ
+  pub pins_left : ℕ
+  pub older : List (ℕ × ℕ)
+  pub steps : List Step
+
+abbrev pub editor_meaning : View → TableId × ℕ → EditorMeaning
+editor_meaning v table = record {
+  sizes = v.sizes;
+  log = v.log;
+  table = table;
+  share = v.share;
+  pins_left = v.pins_left;
+  older = older_of (role_of v);
+  steps = v.steps;
+}
+
+-- a table at version 0, of which no step was made
+pub record IsNewBench (z : Sizes) (m : BenchMeaning) : Type 0 where
+  pub sizes : m.sizes ≡ z
+  pub log : m.log ≡ []
+  pub pins_left : m.pins_left ≡ z.pins
+  pub steps : m.steps ≡ []

@@ -1,0 +1,71 @@
+//! The whole of a table.
+
+ghost use Rattle.std.specs.Prelude.{◌≡◌, [], IfOk};
+ghost use Rattle.pin_rule.specs.Hands.{view_of};
+ghost use Rattle.pin_rule.specs.Views.{whole};
+ghost use Rattle.version_store.specs.Roles.{role_of, older_of};
+
+use crate::NoMemory;
+use crate::editor::Editor;
+use pin_rule::content::Content;
+use pin_rule::hand::Hand;
+use pin_rule::sizes::Sizes;
+use std::alloc::Global;
+
+/// The whole of a table: the editor's role with every share. A bench that is
+/// dropped gives the table's memory back.
+pub struct Bench<C: Content> {
+    pub(crate) alloc: Global,
+    pub(crate) editor: Editor<C>,
+    ghost has_all: { (view_of editor.hand).share ≡ whole },
+    ghost one_version: { older_of (role_of (view_of editor.hand)) ≡ [] },
+}
+
+impl<C: Content> Editor<C> {
+    /// Gives the memory of the table back.
+    fn close(self)
+        requires { (view_of self.hand).share ≡ whole }
+    {
+        self.hand.close();
+    }
+}
+
+impl<C: Content> Bench<C> {
+    ghost use Rattle.version_store.specs.Meaning.{IsNewBench};
+    ghost use Rattle.version_store.specs.Means.{bench_of};
+
+    /// A new table at version 0, whose page and log are empty. All memory but
+    /// that of the passes is taken here.
+    pub fn make(alloc: Global, sizes: Sizes) -> Result<Bench<C>, NoMemory>
+        ensures { IfOk result (λ b. IsNewBench sizes (bench_of b)) }
+    {
+        let row = Vec::from_elem(alloc, 0u64, sizes.width as usize)?;
+        let places = Vec::from_elem(alloc, 0u64, sizes.places as usize)?;
+        let hand = Hand::open(alloc, sizes)?;
+        let editor = Editor {
+            hand,
+            sizes,
+            version: 0,
+            left: sizes.pins,
+            taken: [0; 16],
+            row,
+            places,
+        };
+        Ok(Bench { alloc, editor })
+    }
+
+    /// Takes the bench apart without giving the memory back.
+    pub(crate) fn into_editor(self) -> Editor<C>
+        ensures { result ≡ self.editor }
+    {
+        let Bench { alloc: _, editor } = self;
+        editor
+    }
+}
+
+impl<C: Content> Drop for Bench<C> {
+    fn drop(self) {
+        let Bench { alloc: _, editor } = self;
+        editor.close();
+    }
+}

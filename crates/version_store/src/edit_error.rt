@@ -1,0 +1,17 @@
+//! Why an edit made no version.
+
+/// Why an edit made no version.
+#[derive(Clone, Copy, PartialEq, Eq)]
+pub enum EditError {
+    /// As many versions as there are pages are live. Told are the oldest of
+    /// them, how many pins were taken on it, and how many of those were dropped.
+    VersionsFull {
+        version: u32,
+        taken: u32,
+        released: u32,
+    },
+    /// The log has as many entries as it has room for.
+    LogFull {
+        entries: u32,
+    },
+}

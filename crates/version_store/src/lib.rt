@@ -1,0 +1,24 @@
+//! Versions of the shared table: one editor makes them, while passes read and
+//! extend the pages of the versions that they pin.
+//!
+//! A [`bench::Bench`] has the whole table. It is parted into an
+//! [`editor::Editor`] and some passes, which may go to threads of their own.
+//! An edit adds an entry to the log and makes the next version, whose page has
+//! the rows of the page before that a chooser keeps.
+#![tactic(auto)]
+
+pub mod bench;
+mod choosing;
+mod current;
+pub mod edit_error;
+mod editing;
+pub mod editor;
+mod entry_writing;
+mod next_version;
+mod page_writing;
+mod parting;
+mod row_placing;
+mod row_reading;
+
+/// There was no memory.
+pub type NoMemory = std::alloc::AllocError;

@@ -1,0 +1,219 @@
+//! Passes and an editor that work at the same time.
+
+use crate::sizes::{bounded, with_size};
+use pin_rule::choosers::{Chooser, KeepAll, KeepNone};
+use pin_rule::content::AnyRow;
+use pin_rule::sizes::Sizes;
+use slot_store::page::{Look, Page, Put};
+use slot_store::pass::Pass;
+use slot_store::pinned::Pinned;
+use std::alloc::{AllocError, Global};
+use std::thread;
+use std::thread::Threads;
+use version_store::bench::Bench;
+use version_store::editor::Editor;
+
+/// Keeps the rows whose first key word is even.
+#[derive(Clone, Copy)]
+struct KeepEven;
+
+impl Chooser<AnyRow> for KeepEven {
+    ghost use Rattle.std.specs.Prelude.{◌≡◌, ◌%◌, slice_index};
+
+    ghost leads = { λ _ _ _. Unit {0} };
+
+    ghost keeps = { λ _ row. slice_index row 2 % 2 ≡ 0 };
+
+    fn keep(&mut self, row: &[u64]) -> bool {
+        match row.get(2) {
+            Some(word) => word % 2 == 0,
+            None => true,
+        }
+    }
+}
+
+/// Which rows each of the versions keeps of the one before.
+#[derive(Clone, Copy, PartialEq, Eq)]
+pub(crate) enum Keeping {
+    All,
+    None,
+    Even,
+}
+
+const KEYS: u64 = 12;
+
+const ROUNDS: u32 = 60;
+
+/// How often a pass was answered, how many of the answers fit the version that it had pinned, and how often that
+/// version was an older one than before.
+#[derive(Clone, Copy)]
+struct Report {
+    answers: u32,
+    fitting: u32,
+    falls: u32,
+}
+
+/// Whether a row that was published at a version may be found at another.
+fn may_be_found(keeping: Keeping, key: u64, made: u64, version: u64) -> bool {
+    match keeping {
+        Keeping::All => made <= version,
+        Keeping::None => made == version,
+        Keeping::Even => made == version || (made < version && key % 2 == 0),
+    }
+}
+
+/// The version in which the row was published, if it is found.
+fn found(page: &mut Pinned<AnyRow>, key: u64) -> Option<u64> {
+    match page.find(&[key]) {
+        Look::Found(payload) => payload.first().copied(),
+        Look::Initial { place: _ } => None,
+        Look::PageFull => None,
+    }
+}
+
+/// Whether the answers about one key fit the version: it is found, or published and then found.
+fn is_right(page: &mut Pinned<AnyRow>, keeping: Keeping, key: u64) -> bool {
+    let version = page.version() as u64;
+    match found(page, key) {
+        Some(made) => may_be_found(keeping, key, made, version),
+        None => {
+            let put = page.publish(&[key], &[version]);
+            let again = found(page, key);
+            (put == Put::Made || put == Put::Already) && again == Some(version)
+        }
+    }
+}
+
+/// Whether the entries of the log are those that the editor writes.
+fn is_log(page: &mut Pinned<AnyRow>) -> bool {
+    for index in 0..page.version() {
+        let words = page.log_entry(index);
+        if words[0] != index as u64 + 1 || words[31] != index as u64 + 1 {
+            return false;
+        }
+    }
+    true
+}
+
+/// Pins, asks for all keys, and unpins.
+fn visit(pass: Pass<AnyRow>, keeping: Keeping, report: Report) -> (Pass<AnyRow>, Report) {
+    let front = pass.front();
+    match pass.pin() {
+        Ok(pinned) => {
+            let mut pinned = pinned;
+            let mut report = report;
+            for key in 0..KEYS {
+                report.answers = report.answers.saturating_add(1);
+                if is_right(&mut pinned, keeping, key) {
+                    report.fitting = report.fitting.saturating_add(1);
+                }
+            }
+            if pinned.version() < front || !is_log(&mut pinned) {
+                report.falls = report.falls.saturating_add(1);
+            }
+            (pinned.unpin(), report)
+        }
+        Err((pass, _)) => (pass, report),
+    }
+}
+
+/// The work of one pass.
+fn work(pass: Pass<AnyRow>, keeping: Keeping) -> Report {
+    let mut pass = pass;
+    let mut report = Report {
+        answers: 0,
+        fitting: 0,
+        falls: 0,
+    };
+    for _round in 0..ROUNDS {
+        let (next, told) = visit(pass, keeping, report);
+        pass = next;
+        report = told;
+    }
+    report
+}
+
+/// The work of all passes, each in a thread of its own.
+fn work_all<R: Threads + Sync>(rt: &R, passes: Vec<Pass<AnyRow>>, keeping: Keeping) -> Report {
+    let mut passes = passes;
+    let Some(first) = passes.pop() else {
+        return Report {
+            answers: 0,
+            fitting: 0,
+            falls: 0,
+        };
+    };
+    let (mine, others) = thread::join(
+        rt,
+        move || work(first, keeping),
+        move || work_all(rt, passes, keeping),
+    );
+    Report {
+        answers: mine.answers.saturating_add(others.answers),
+        fitting: mine.fitting.saturating_add(others.fitting),
+        falls: mine.falls.saturating_add(others.falls),
+    }
+}
+
+/// Makes versions, and answers how many were made.
+fn make_versions(editor: Editor<AnyRow>, keeping: Keeping, times: u32) -> u32 {
+    let mut editor = editor;
+    for _time in 0..times {
+        let entry = [editor.version() as u64 + 1; 32];
+        let made = match keeping {
+            Keeping::All => editor.edit(&entry, &mut KeepAll),
+            Keeping::None => editor.edit(&entry, &mut KeepNone),
+            Keeping::Even => editor.edit(&entry, &mut KeepEven),
+        };
+        if made.is_err() {
+            break;
+        }
+    }
+    editor.version()
+}
+
+/// Passes and an editor at the same time.
+fn together<R: Threads + Sync>(
+    rt: &R,
+    editor: Editor<AnyRow>,
+    passes: Vec<Pass<AnyRow>>,
+    keeping: Keeping,
+) -> (u32, Report) {
+    thread::join(
+        rt,
+        move || make_versions(editor, keeping, 20),
+        move || work_all(rt, passes, keeping),
+    )
+}
+
+fn told_keeping<R: Threads + Sync>(
+    rt: &R,
+    alloc: Global,
+    count: u32,
+    keeping: Keeping,
+) -> Result<String, AllocError> {
+    let sizes = with_size(Sizes::full(), "places", "256");
+    let bench = Bench::make(alloc, sizes)?;
+    let (editor, passes) = match bench.part(count.max(1).min(16)) {
+        Ok(parts) => parts,
+        Err((_, error)) => return Err(error),
+    };
+    let (made, report) = together(rt, editor, passes, keeping);
+    format!(in alloc;
+        " {made} versions, {} answers of which {} fit, {} falls;",
+        report.answers, report.fitting, report.falls
+    )
+}
+
+/// So many passes beside an editor that keeps all rows, no row, and every second row.
+pub(crate) fn told_together<R: Threads + Sync>(
+    rt: &R,
+    alloc: Global,
+    count: &str,
+) -> Result<String, AllocError> {
+    let count = bounded(count, 1, 16);
+    let mut told = told_keeping(rt, alloc, count, Keeping::All)?;
+    told.push_str(&told_keeping(rt, alloc, count, Keeping::None)?)?;
+    told.push_str(&told_keeping(rt, alloc, count, Keeping::Even)?)?;
+    Ok(told)
+}
