@@ -1,5 +1,6 @@
 //! What one command answers.
 
+use crate::keep_even::KeepEven;
 use pin_rule::choosers::{KeepAll, KeepNone};
 use pin_rule::content::AnyRow;
 use slot_store::page::{Look, Page, Put};
@@ -80,7 +81,7 @@ fn entry_from(first: u64) -> [u64; 32] {
     entry
 }
 
-/// Makes a version, with all rows or with none.
+/// Makes a version, with all rows, with every second, or with none.
 pub(crate) fn told_edit(
     alloc: Global,
     editor: &mut Editor<AnyRow>,
@@ -90,6 +91,7 @@ pub(crate) fn told_edit(
     let entry = entry_from(first);
     let made = match keep {
         "all" => editor.edit(&entry, &mut KeepAll),
+        "even" => editor.edit(&entry, &mut KeepEven),
         _ => editor.edit(&entry, &mut KeepNone),
     };
     told_version(alloc, made)

@@ -7,6 +7,7 @@
 #![tactic(auto)]
 
 mod commands;
+mod keep_even;
 mod sizes;
 mod story;
 mod working;

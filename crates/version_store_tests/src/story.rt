@@ -1,9 +1,8 @@
 //! A table with its editor and its passes, and what befalls them.
 
 use crate::commands::{told_edit, told_entry, told_find, told_publish};
-use crate::sizes::{bounded, number, with_size};
+use crate::sizes::{Wanted, bounded, number};
 use pin_rule::content::AnyRow;
-use pin_rule::sizes::Sizes;
 use slot_store::page::Page;
 use slot_store::pass::Pass;
 use slot_store::pinned::Pinned;
@@ -141,13 +140,14 @@ fn told_command(
     }
 }
 
+/// The table is parted, and the commands are obeyed one after the other.
 fn told_all(
     alloc: Global,
     bench: Bench<AnyRow>,
-    count: u32,
+    passes: u64,
     commands: &str,
 ) -> Result<String, AllocError> {
-    let (editor, passes) = match bench.part(count.max(1).min(16)) {
+    let (editor, passes) = match bench.part(bounded(passes, 1, 16)) {
         Ok(parts) => parts,
         Err((_, error)) => return Err(error),
     };
@@ -155,33 +155,16 @@ fn told_all(
     let mut users = users_of(alloc, passes)?;
     let mut told = String::new(alloc);
     for command in commands.split(';') {
-        told.push_str(" ")?;
-        told.push_str(&told_command(alloc, &mut editor, &mut users, command)?)?;
-        told.push_str(";")?;
+        let answer = told_command(alloc, &mut editor, &mut users, command)?;
+        told.push_str(&format!(in alloc; " {answer};")?)?;
     }
     Ok(told)
-}
-
-/// The sizes that a line names, and how many passes it has.
-fn read_sizes(alloc: Global, text: &str) -> Result<(Sizes, u32), AllocError> {
-    let mut sizes = Sizes::full();
-    let mut count = 1;
-    for size in text.split(',') {
-        let (name, amount) = size.trim().split_once(' ').unwrap_or(("", ""));
-        if name == "part" {
-            count = bounded(amount, 1, 16);
-        } else {
-            sizes = with_size(sizes, name, amount);
-        }
-    }
-    let _ = alloc;
-    Ok((sizes, count))
 }
 
 /// What the commands of a line answer.
 pub(crate) fn told(alloc: Global, line: &str) -> Result<String, AllocError> {
     let (head, commands) = line.split_once(':').unwrap_or((line, ""));
-    let (sizes, count) = read_sizes(alloc, head)?;
-    let bench = Bench::make(alloc, sizes)?;
-    told_all(alloc, bench, count, commands)
+    let wanted = Wanted::read(head);
+    let bench = Bench::make(alloc, wanted.sizes())?;
+    told_all(alloc, bench, wanted.passes, commands)
 }

@@ -1,9 +1,9 @@
 //! Passes and an editor that work at the same time.
 
-use crate::sizes::{bounded, with_size};
-use pin_rule::choosers::{Chooser, KeepAll, KeepNone};
+use crate::keep_even::KeepEven;
+use crate::sizes::{Wanted, bounded, number};
+use pin_rule::choosers::{KeepAll, KeepNone};
 use pin_rule::content::AnyRow;
-use pin_rule::sizes::Sizes;
 use slot_store::page::{Look, Page, Put};
 use slot_store::pass::Pass;
 use slot_store::pinned::Pinned;
@@ -12,25 +12,6 @@ use std::thread;
 use std::thread::Threads;
 use version_store::bench::Bench;
 use version_store::editor::Editor;
-
-/// Keeps the rows whose first key word is even.
-#[derive(Clone, Copy)]
-struct KeepEven;
-
-impl Chooser<AnyRow> for KeepEven {
-    ghost use Rattle.std.specs.Prelude.{◌≡◌, ◌%◌, slice_index};
-
-    ghost leads = { λ _ _ _. Unit {0} };
-
-    ghost keeps = { λ _ row. slice_index row 2 % 2 ≡ 0 };
-
-    fn keep(&mut self, row: &[u64]) -> bool {
-        match row.get(2) {
-            Some(word) => word % 2 == 0,
-            None => true,
-        }
-    }
-}
 
 /// Which rows each of the versions keeps of the one before.
 #[derive(Clone, Copy, PartialEq, Eq)]
@@ -42,7 +23,7 @@ pub(crate) enum Keeping {
 
 const KEYS: u64 = 12;
 
-const ROUNDS: u32 = 60;
+const ROUNDS: u32 = 40;
 
 /// How often a pass was answered, how many of the answers fit the version that it had pinned, and how often that
 /// version was an older one than before.
@@ -84,11 +65,19 @@ fn is_right(page: &mut Pinned<AnyRow>, keeping: Keeping, key: u64) -> bool {
     }
 }
 
-/// Whether the entries of the log are those that the editor writes.
+/// Whether the entry of the log is the one that the editor writes there.
+fn is_entry(page: &mut Pinned<AnyRow>, index: u32) -> bool {
+    if index >= page.version() {
+        return false;
+    }
+    let words = page.log_entry(index);
+    words[0] == index as u64 + 1 && words[31] == index as u64 + 1
+}
+
+/// Whether all entries of the log are.
 fn is_log(page: &mut Pinned<AnyRow>) -> bool {
     for index in 0..page.version() {
-        let words = page.log_entry(index);
-        if words[0] != index as u64 + 1 || words[31] != index as u64 + 1 {
+        if !is_entry(page, index) {
             return false;
         }
     }
@@ -186,22 +175,35 @@ fn together<R: Threads + Sync>(
     )
 }
 
+/// The table of those that work together: each version may have new rows of all keys.
+fn wanted() -> Wanted {
+    let mut wanted = Wanted::largest();
+    wanted.log = 32;
+    wanted.places = 256;
+    wanted.rows = 1024;
+    wanted.width = 8;
+    wanted
+}
+
 fn told_keeping<R: Threads + Sync>(
     rt: &R,
     alloc: Global,
-    count: u32,
+    passes: u64,
     keeping: Keeping,
 ) -> Result<String, AllocError> {
-    let sizes = with_size(Sizes::full(), "places", "256");
-    let bench = Bench::make(alloc, sizes)?;
-    let (editor, passes) = match bench.part(count.max(1).min(16)) {
+    let bench = Bench::make(alloc, wanted().sizes())?;
+    let (editor, passes) = match bench.part(bounded(passes, 1, 16)) {
         Ok(parts) => parts,
         Err((_, error)) => return Err(error),
     };
-    let (made, report) = together(rt, editor, passes, keeping);
+    let (version, report) = together(rt, editor, passes, keeping);
+    let Report {
+        answers,
+        fitting,
+        falls,
+    } = report;
     format!(in alloc;
-        " {made} versions, {} answers of which {} fit, {} falls;",
-        report.answers, report.fitting, report.falls
+        " {version} versions, {answers} answers of which {fitting} fit, {falls} falls;"
     )
 }
 
@@ -209,11 +211,11 @@ fn told_keeping<R: Threads + Sync>(
 pub(crate) fn told_together<R: Threads + Sync>(
     rt: &R,
     alloc: Global,
-    count: &str,
+    passes: &str,
 ) -> Result<String, AllocError> {
-    let count = bounded(count, 1, 16);
-    let mut told = told_keeping(rt, alloc, count, Keeping::All)?;
-    told.push_str(&told_keeping(rt, alloc, count, Keeping::None)?)?;
-    told.push_str(&told_keeping(rt, alloc, count, Keeping::Even)?)?;
+    let passes = number(passes);
+    let mut told = told_keeping(rt, alloc, passes, Keeping::All)?;
+    told.push_str(&told_keeping(rt, alloc, passes, Keeping::None)?)?;
+    told.push_str(&told_keeping(rt, alloc, passes, Keeping::Even)?)?;
     Ok(told)
 }
