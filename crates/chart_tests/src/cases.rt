@@ -1,6 +1,6 @@
 //! Rules and texts, written as short rows.
 
-use forest::{Rule, RuleId, RuleList, Rules, SymbolId, Symbols};
+use forest::{Rule, RuleId, RuleList, Rules, SymbolId, Symbols, is_ascending};
 use std::alloc::{AllocError, Global};
 
 /// Rules, and the kinds of a text's tokens.
@@ -50,7 +50,7 @@ fn list_of(alloc: Global, written: &str) -> Result<Option<RuleList>, AllocError>
 
 /// The rules, if their numbers ascend.
 fn ascending(list: RuleList) -> Option<Rules> {
-    if !list.is_ascending() {
+    if !is_ascending(list.as_slice()) {
         return None;
     }
     Some(Rules { rules: list })

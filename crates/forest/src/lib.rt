@@ -4,6 +4,8 @@
 //! says what it is that rules derive, and which forest belongs to a text.
 #![tactic(auto)]
 
+use std::alloc::AllocError;
+
 mod forest;
 mod nodes;
 mod rules;
@@ -11,5 +13,8 @@ mod symbols;
 
 pub use forest::Forest;
 pub use nodes::{Cuts, Node, Nodes, Split, Splits};
-pub use rules::{Rule, RuleId, RuleList, Rules};
+pub use rules::{Rule, RuleId, RuleList, Rules, is_ascending};
 pub use symbols::{START, SymbolId, Symbols, Token, number_of_start};
+
+/// Memory ran out.
+pub type NoMemory = AllocError;

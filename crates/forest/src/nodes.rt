@@ -1,15 +1,21 @@
 //! Nodes of a forest with their splits.
 
-ghost use Rattle.std.specs.Prelude.{◌≡◌};
+ghost use Rattle.std.specs.Prelude.{◌≡◌, ◌≤◌, [], ◌∷◌, ◌++◌, length, IsOk, IfOk, OnOk, OnErr};
 
+use crate::NoMemory;
 use crate::rules::RuleId;
 use crate::symbols::SymbolId;
+use lists::ListOf;
+use smallvec::SmallVec;
+use std::alloc::{AllocError, Global};
 use std::marker::Model;
+use std::slice;
 
-/// The places between tokens where the parts of a split begin and end: `m + 1` places for `m` parts.
+/// The places between tokens where the parts of a split begin and end: `m + 1` places for `m` parts. A contract
+/// sees the list of them. Up to four take no memory beside the value.
 #[derive(Debug, Drop)]
 pub struct Cuts {
-    items: Vec<u32>,
+    items: SmallVec<u32, 4>,
 }
 
 impl Model for Cuts {
@@ -21,23 +27,48 @@ impl Model for Cuts {
 }
 
 impl Cuts {
+    /// No cuts yet.
+    pub fn new(alloc: Global) -> Cuts
+        ensures { result ≡ [] }
+    {
+        Cuts {
+            items: SmallVec::new(alloc),
+        }
+    }
+
+    /// The list of these cuts.
+    pub fn of(alloc: Global, cuts: &[u32]) -> Result<Cuts, NoMemory>
+        ensures items { IfOk result (λ list. list ≡ cuts.now) }
+        ensures few { length cuts.now ≤ 4 → IsOk result }
+    {
+        let items = SmallVec::from_slice(alloc, cuts)?;
+        Ok(Cuts { items })
+    }
+
+    /// The list of these cuts. Takes no memory.
     pub fn from_vec(items: Vec<u32>) -> Cuts
         ensures { result ≡ items.items }
     {
-        Cuts { items }
+        Cuts {
+            items: SmallVec::from_vec(items),
+        }
+    }
+
+    /// Puts one more cut at the end.
+    pub fn push(&mut self, cut: u32) -> Result<(), NoMemory>
+        ensures added { OnOk result (self.new ≡ self.old ++ cut ∷ []) }
+        ensures refused { OnErr result (self.new ≡ self.old) }
+    {
+        if self.items.push(cut).is_err() {
+            return Err(AllocError);
+        }
+        Ok(())
     }
 
     pub fn as_slice(&self) -> &[u32]
         ensures { result.now ≡ self.now }
     {
         self.items.as_slice()
-    }
-
-    pub fn into_vec(self) -> Vec<u32>
-        ensures { result.items ≡ self }
-    {
-        let Cuts { items } = self;
-        items
     }
 }
 
@@ -69,39 +100,55 @@ pub struct Split {
     pub cuts: Cuts,
 }
 
-/// The splits of a node.
+/// Where splits lie: in the value while there is one, as in most nodes, and else in a vector.
+#[derive(Debug, Drop)]
+enum SplitStore {
+    One(Split),
+    Many(Vec<Split>),
+}
+
+/// The splits of a node. A contract sees the list of them. One alone takes no memory beside the value.
 #[derive(Debug, Drop)]
 pub struct Splits {
-    items: Vec<Split>,
+    store: SplitStore,
 }
 
 impl Model for Splits {
     ghost use Rattle.std.specs.Prelude.{List};
     ghost use Rattle.forest.specs.declared.nodes.Split.{Split};
+    ghost use Rattle.forest.specs.SplitStores.{splits_in};
 
     ghost Value = { List Split };
 
-    ghost view = { λ s. s.items.items };
+    ghost view = { λ s. splits_in s.store };
 }
 
 impl Splits {
+    /// The list of this one split. Takes no memory.
+    pub fn of_one(split: Split) -> Splits
+        ensures { result ≡ split ∷ [] }
+    {
+        Splits {
+            store: SplitStore::One(split),
+        }
+    }
+
+    /// The list of these splits. Takes no memory.
     pub fn from_vec(items: Vec<Split>) -> Splits
         ensures { result ≡ items.items }
     {
-        Splits { items }
+        Splits {
+            store: SplitStore::Many(items),
+        }
     }
 
     pub fn as_slice(&self) -> &[Split]
         ensures { result.now ≡ self.now }
     {
-        self.items.as_slice()
-    }
-
-    pub fn into_vec(self) -> Vec<Split>
-        ensures { result.items ≡ self }
-    {
-        let Splits { items } = self;
-        items
+        match &self.store {
+            SplitStore::One(split) => slice::from_ref(split),
+            SplitStore::Many(items) => items.as_slice(),
+        }
     }
 }
 
@@ -136,58 +183,4 @@ pub struct Node {
 }
 
 /// The nodes of a forest.
-#[derive(Debug, Drop)]
-pub struct Nodes {
-    items: Vec<Node>,
-}
-
-impl Model for Nodes {
-    ghost use Rattle.std.specs.Prelude.{List};
-    ghost use Rattle.forest.specs.declared.nodes.Node.{Node};
-
-    ghost Value = { List Node };
-
-    ghost view = { λ s. s.items.items };
-}
-
-impl Nodes {
-    pub fn from_vec(items: Vec<Node>) -> Nodes
-        ensures { result ≡ items.items }
-    {
-        Nodes { items }
-    }
-
-    pub fn as_slice(&self) -> &[Node]
-        ensures { result.now ≡ self.now }
-    {
-        self.items.as_slice()
-    }
-
-    pub fn into_vec(self) -> Vec<Node>
-        ensures { result.items ≡ self }
-    {
-        let Nodes { items } = self;
-        items
-    }
-}
-
-impl PartialEq for Nodes {
-    ghost use Rattle.std.specs.Cmp.Lexicographic.{pointwise, lists_per};
-    ghost use Rattle.std.specs.Cmp.{partial_equiv_from_equiv};
-    ghost use Rattle.forest.specs.Equality.{node_eq, node_equiv};
-
-    ghost eq = { λ a b. pointwise node_eq a b };
-
-    ghost laws = { lists_per (partial_equiv_from_equiv node_equiv) };
-
-    fn eq(&self, other: &Nodes) -> bool {
-        self.as_slice() == other.as_slice()
-    }
-}
-
-impl Eq for Nodes {
-    ghost use Rattle.std.specs.Cmp.Lexicographic.{lists_equiv};
-    ghost use Rattle.forest.specs.Equality.{node_equiv};
-
-    ghost laws = { lists_equiv node_equiv };
-}
+pub type Nodes = ListOf<Node>;
