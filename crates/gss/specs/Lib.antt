@@ -1,0 +1,4 @@
+pub mod Numbers
+pub mod PlaceGraphs
+pub mod KernelGraphs
+pub mod Paths
