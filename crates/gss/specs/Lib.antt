@@ -2,3 +2,4 @@ pub mod Numbers
 pub mod PlaceGraphs
 pub mod KernelGraphs
 pub mod Paths
+pub mod Chains

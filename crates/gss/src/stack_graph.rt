@@ -1,6 +1,6 @@
 //! Nodes and links by number.
 
-ghost use Rattle.std.specs.Prelude.{◌≡◌, ◌-◌, ◌^◌, ◌<◌, ℕ, ◌×◌, [], ◌∷◌, ◌++◌, IfSome, IfNone, IfOk, OnOk, OnErr, Some, length, slice_get};
+ghost use Rattle.std.specs.Prelude.{◌≡◌, ◌-◌, ◌^◌, ◌<◌, ℕ, [], ◌∷◌, ◌++◌, IfSome, IfNone, IfOk, OnOk, OnErr, Some, length, slice_get};
 ghost use Rattle.gss.specs.Numbers.{IsLeast, IsGreatest, HasNone};
 ghost use Rattle.gss.specs.PlaceGraphs.{PlaceGraph, place_of, edge_of, HasNode, IsOfState, LeadsFrom, LeadsToBy, LeadsFromSame, AreNodesDistinct, AreEndsNodes};
 
@@ -34,7 +34,7 @@ pub struct StackGraph {
 }
 
 impl Model for StackGraph {
-    ghost use Rattle.std.specs.Prelude.{◌≡◌, [], ◌×◌};
+    ghost use Rattle.std.specs.Prelude.{◌≡◌, []};
     ghost use Rattle.gss.specs.PlaceGraphs.{PlaceGraph};
 
     ghost Value = { PlaceGraph };
@@ -81,7 +81,9 @@ impl StackGraph {
         ensures ends { AreEndsNodes self.now }
         ensures few_nodes { length self.now.nodes < 2 ^ 32 }
         ensures few_links { length self.now.links < 2 ^ 32 }
-    {}
+    {
+        let _ = &self.nodes;
+    }
 
     /// The node with this number.
     pub fn place(&self, node: u32) -> Place
@@ -104,6 +106,7 @@ impl StackGraph {
         ensures newest { IfSome result (IsGreatest (IsOfState self.now.nodes _state)) }
         ensures none { IfNone result (HasNone (IsOfState self.now.nodes _state)) }
     {
+        let _ = &self.nodes;
         None
     }
 
@@ -112,6 +115,7 @@ impl StackGraph {
         ensures found { IfSome result (λ n. slice_get self.now.nodes n ≡ Some (place_of _state _at)) }
         ensures none { IfNone result (HasNode self.now.nodes _state _at → ⊥) }
     {
+        let _ = &self.nodes;
         None
     }
 
@@ -132,6 +136,7 @@ impl StackGraph {
         ensures newest { IfSome result (IsGreatest (LeadsToBy self.now.links _lower _symbol _from)) }
         ensures none { IfNone result (HasNone (LeadsToBy self.now.links _lower _symbol _from)) }
     {
+        let _ = &self.nodes;
         None
     }
 
@@ -140,6 +145,7 @@ impl StackGraph {
         ensures first { IfSome result (IsLeast (LeadsFrom self.now.links _node)) }
         ensures none { IfNone result (HasNone (LeadsFrom self.now.links _node)) }
     {
+        let _ = &self.nodes;
         None
     }
 
@@ -148,6 +154,7 @@ impl StackGraph {
         ensures next { IfSome result (IsLeast (LeadsFromSame self.now.links _link)) }
         ensures none { IfNone result (HasNone (LeadsFromSame self.now.links _link)) }
     {
+        let _ = &self.nodes;
         None
     }
 

@@ -31,7 +31,7 @@ pub struct Stacks {
 }
 
 impl Model for Stacks {
-    ghost use Rattle.std.specs.Prelude.{◌≡◌, [], ◌×◌};
+    ghost use Rattle.std.specs.Prelude.{◌≡◌, []};
     ghost use Rattle.gss.specs.KernelGraphs.{KernelGraph};
 
     ghost Value = { KernelGraph };
