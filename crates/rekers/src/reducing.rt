@@ -1,6 +1,6 @@
 //! Reductions, each along one trail of links.
 
-ghost use Rattle.std.specs.Prelude.{◌≡◌, ◌≤◌, ◌<◌, ◌+◌, ◌^◌, ◌++◌, ◌∷◌, [], IfErr, OnOk, IfOk, length, Contains, slice_get, Some};
+ghost use Rattle.std.specs.Prelude.{◌≡◌, ◌≤◌, ◌<◌, ◌+◌, ◌^◌, ◌++◌, ◌∷◌, [], IfErr, OnOk, ℕ, length, Contains};
 ghost use Rattle.parser_states.specs.Asked.{Stands};
 ghost use Rattle.rekers.specs.Answers.{kinds_of, UnlessNoMemory};
 ghost use Rattle.rekers.specs.Found.{found, Grows};
