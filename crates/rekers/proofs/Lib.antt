@@ -2,6 +2,8 @@ pub mod Growth
 pub mod Reached
 pub mod Saturated
 pub mod Sound
+pub mod Trails
+pub mod NewNodes
 pub mod Growing
 pub mod ForestSpans
 pub mod Sizes

@@ -68,12 +68,12 @@ pub record IsSoundGraph (rules : List Rule) (tokens : List SymbolId) (f : Found)
   -- spans
   pub owned : length f.owners ≡ length f.spans
   pub owners : (span owner : ℕ) → slice_get f.owners span ≡ Some owner → IsOwner rules f span owner
-  pub told : (split : PackedSplit) → Contains f.splits split → (trail : List ℕ) × ((top : ℕ) × IsTold rules f split trail top)
+  pub told : (split : PackedSplit) → Contains f.splits split → (trail : List ℕ) × (top : ℕ) × IsTold rules f split trail top
   pub distinct : IsDistinct f.splits
 
 -- each state has a node
 abbrev pub ArePlaced : Found → Type 0
-ArePlaced f = (state : ℕ) (kernel : List Item) → slice_get f.kernels state ≡ Some kernel → (node : ℕ) × ((i : ℕ) × IsNode f node kernel i)
+ArePlaced f = (state : ℕ) (kernel : List Item) → slice_get f.kernels state ≡ Some kernel → (node : ℕ) × (i : ℕ) × IsNode f node kernel i
 
 -- from these numbers on nodes and links are at the place, and before them at earlier ones
 pub record IsLevel (f : Found) (at first_node first_link : ℕ) : Type 0 where
@@ -86,6 +86,7 @@ pub record IsLevel (f : Found) (at first_node first_link : ℕ) : Type 0 where
 
 -- from the node on all are at the place or behind it, and no node before it at the place moves on a left side
 pub record IsOpener (rules : List Rule) (f : Found) (i node : ℕ) : Type 0 where
+  pub within : node ≤ length f.nodes
   pub behind : (other : ℕ) (place : Place) → slice_get f.nodes other ≡ Some place → node ≤ other → i ≤ place.at
   pub none_before : (other : ℕ) (kernel : List Item) → IsNode f other kernel i → other < node → Opens rules kernel → ⊥
 
@@ -106,5 +107,4 @@ pub record IsSound (rules : List Rule) (tokens : List SymbolId) (parser : Parser
   pub level : IsLevel (found parser) parser.level.at parser.level.first_node parser.level.first_link
   pub openers : AreOpeners rules (found parser) parser.openers.items parser.level.at
   pub flat : IsTrue parser.is_flat → IsFlat (found parser) parser.level.first_node parser.level.first_link
-  pub few : length parser.stacks.nodes ≤ length parser.stacks.links + 1
   pub spans_below : length parser.spans.spans ≤ TOKEN_PART

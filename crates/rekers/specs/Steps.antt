@@ -32,9 +32,14 @@ pub record IsStep {Base : Type 0} (tokens : List SymbolId) (old new : Parser) (g
   pub level : new.level ≡ old.level
   pub asks : AsksNew old.states.kernels new.states.kernels graph graph' before after
 
+-- beside the first each node has a link
+abbrev pub HasFewNodes : Parser → Type 0
+HasFewNodes parser = length parser.stacks.nodes ≤ length parser.stacks.links + 1
+
 -- the links and splits that were found are not more than a parse may have
-abbrev pub IsWithinLimit : Parser → Type 0
-IsWithinLimit parser = length parser.stacks.links + length parser.spans.splits ≤ SIZE_LIMIT
+pub record IsWithinLimit (parser : Parser) : Type 0 where
+  pub few : HasFewNodes parser
+  pub limit : length parser.stacks.links + length parser.spans.splits ≤ SIZE_LIMIT
 
 -- they are more
 abbrev pub IsAboveLimit : Parser → ParseError → Type 0

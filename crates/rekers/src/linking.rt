@@ -10,7 +10,7 @@ ghost use Rattle.rekers.specs.Answers.{kinds_of};
 ghost use Rattle.rekers.specs.Found.{found, Grows};
 ghost use Rattle.rekers.specs.Reductions.{IsLinkTo};
 ghost use Rattle.rekers.specs.Sound.{IsSound, IsFirst};
-ghost use Rattle.rekers.specs.Steps.{IsStep, IsLinkable, IsUpper, IsUnlinked, IsFirstOf, IsLinkBy};
+ghost use Rattle.rekers.specs.Steps.{IsStep, IsLinkable, IsUpper, IsUnlinked, IsFirstOf, IsLinkBy, HasFewNodes};
 
 use crate::parser::Parser;
 use forest::{SymbolId, Token};
@@ -117,11 +117,13 @@ impl Parser {
         requires linkable { IsLinkable (G.means graph.old).grammar.rules (kinds_of tokens.now) (found self.old) lower symbol self.old.level.at }
         requires nonterminal { IsNonterminal (G.means graph.old).grammar.rules symbol }
         requires first { IsFirst (G.means graph.old).grammar.rules (found self.old) lower symbol }
+        requires few { HasFewNodes self.old }
         requires room { length self.old.stacks.links < 2 ^ 20 }
         ensures link { IfOk result (λ link. IsLinkBy (found self.new) link lower symbol self.old.level.at) }
         ensures step { OnOk result (IsStep (kinds_of tokens.now) self.old self.new (G.means graph.old) (G.means graph.new) steps.old steps.new) }
         ensures others { OnOk result ((other : ℕ) → other ≢ lower → IsUnlinked (found self.old) self.old.level.first_link other symbol
             → IsUnlinked (found self.new) self.old.level.first_link other symbol) }
+        ensures few { OnOk result (HasFewNodes self.new) }
         ensures count { OnOk result (length self.new.stacks.links ≤ length self.old.stacks.links + 1) }
         ensures splits { OnOk result (self.new.spans.splits ≡ self.old.spans.splits) }
         ensures trail { OnOk result ((self.new.trail ≡ self.old.trail) × (self.new.parts ≡ self.old.parts)) }
@@ -151,9 +153,11 @@ impl Parser {
         requires sound { IsSound (G.means graph.old).grammar.rules (kinds_of tokens.now) self.old }
         requires linkable { IsLinkable (G.means graph.old).grammar.rules (kinds_of tokens.now) (found self.old) lower symbol self.old.level.at }
         requires nonterminal { IsNonterminal (G.means graph.old).grammar.rules symbol }
+        requires few { HasFewNodes self.old }
         requires room { length self.old.stacks.links < 2 ^ 19 }
         ensures link { IfOk result (λ link. IsLinkBy (found self.new) link lower symbol self.old.level.at) }
         ensures step { OnOk result (IsStep (kinds_of tokens.now) self.old self.new (G.means graph.old) (G.means graph.new) steps.old steps.new) }
+        ensures few { OnOk result (HasFewNodes self.new) }
         ensures count { OnOk result (length self.new.stacks.links ≤ length self.old.stacks.links + 2) }
         ensures splits { OnOk result (self.new.spans.splits ≡ self.old.spans.splits) }
         ensures trail { OnOk result ((self.new.trail ≡ self.old.trail) × (self.new.parts ≡ self.old.parts)) }

@@ -10,7 +10,7 @@ ghost use Rattle.rekers.specs.States.{IsStateAt};
 ghost use Rattle.rekers.specs.Answers.{kinds_of};
 ghost use Rattle.rekers.specs.Found.{found, Grows};
 ghost use Rattle.rekers.specs.Sound.{IsSound, ArePlaced};
-ghost use Rattle.rekers.specs.Steps.{IsStep, AddsNode, IsLinkable, IsBehind, IsUpper, IsPassed};
+ghost use Rattle.rekers.specs.Steps.{AddsNode, IsLinkable, IsBehind, IsUpper, IsPassed};
 
 use crate::level::Level;
 use crate::parser::Parser;
@@ -117,7 +117,11 @@ impl Parser {
         requires sound { IsSound (G.means graph.old).grammar.rules (kinds_of tokens.now) self.old }
         requires linkable { IsLinkable (G.means graph.old).grammar.rules (kinds_of tokens.now) (found self.old) lower symbol self.old.level.at }
         requires room { length self.old.stacks.nodes < 2 ^ 30 }
-        ensures step { OnOk result (IsStep (kinds_of tokens.now) self.old self.new (G.means graph.old) (G.means graph.new) steps.old steps.new) }
+        ensures sound { OnOk result (IsSound (G.means graph.new).grammar.rules (kinds_of tokens.now) self.new) }
+        ensures grows { OnOk result (Grows (found self.old) (found self.new)) }
+        ensures placed { OnOk result (ArePlaced (found self.old) → ArePlaced (found self.new)) }
+        ensures asks { OnOk result (AsksNew self.old.states.kernels self.new.states.kernels (G.means graph.old) (G.means graph.new) steps.old steps.new) }
+        ensures count { OnOk result (length self.new.stacks.nodes ≤ length self.old.stacks.nodes + 1) }
         ensures upper { IfOk result (IsUpper (G.means graph.old).grammar.rules (found self.new) self.old.level.at lower symbol) }
         ensures links { OnOk result (self.new.stacks.links ≡ self.old.stacks.links) }
         ensures same { OnOk result (self.new ≡ record self.old { states = self.new.states; stacks = self.new.stacks; openers = self.new.openers }) }

@@ -6,7 +6,7 @@ ghost use Rattle.rekers.specs.Answers.{kinds_of, UnlessNoMemory};
 ghost use Rattle.rekers.specs.Found.{found, Grows};
 ghost use Rattle.rekers.specs.Reductions.{IsLinkTo};
 ghost use Rattle.rekers.specs.Sound.{IsSound};
-ghost use Rattle.rekers.specs.Steps.{IsStep, IsToReduce, Reduces, IsWithinLimit, IsAboveLimit, labels_of, IsLinkBy};
+ghost use Rattle.rekers.specs.Steps.{IsStep, IsToReduce, Reduces, HasFewNodes, IsWithinLimit, IsAboveLimit, labels_of, IsLinkBy};
 
 use crate::limits::SIZE_LIMIT;
 use crate::parse_error::ParseError;
@@ -33,6 +33,7 @@ fn fill(stacks: &StackGraph, trail: &[u32], parts: &mut Vec<u32>) -> Result<(), 
 impl Parser {
     /// Refuses where there are more links and splits than a parse may have.
     pub(crate) fn check_size(&self) -> Result<(), ParseError>
+        requires { HasFewNodes self.now }
         ensures within { OnOk result (IsWithinLimit self.now) }
         ensures above { IfErr result (IsAboveLimit self.now) }
     {
