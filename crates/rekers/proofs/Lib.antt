@@ -6,6 +6,8 @@ pub mod Trails
 pub mod NewNodes
 pub mod PlacedNodes
 pub mod UpperNodes
+pub mod NewLinks
+pub mod LinkedParsers
 pub mod Growing
 pub mod ForestSpans
 pub mod Sizes

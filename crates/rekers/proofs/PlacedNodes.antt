@@ -25,7 +25,7 @@ pub never_true : IsTrue false → ⊥
 never_true e = cc
 
 -- a graph is told by its nodes and links
-graph_is : (graph : PlaceGraph) (nodes : List Place) (links : List Edge) → graph.nodes ≡ nodes → graph.links ≡ links
+pub graph_is : (graph : PlaceGraph) (nodes : List Place) (links : List Edge) → graph.nodes ≡ nodes → graph.links ≡ links
     → record { nodes = nodes; links = links } ≡ graph
 graph_is graph nodes links e g =
     sym (ap (λ ns. let it : PlaceGraph = record { nodes = ns; links = graph.links } in it) e ∙ ap (λ ls. let it : PlaceGraph = record { nodes = nodes; links = ls } in it) g)
