@@ -1,11 +1,11 @@
 -- Chains stay right as keys are appended.
-use Rattle.std.proofs.Common.{◌≡◌, inl, inr, ◌⊎◌, ℕ, zero, suc, ◌+◌, ◌<◌, ◌≤◌, List, [], ◌∷◌, ◌++◌, length, replicate, get_or}
-use Rattle.std.proofs.Common.{Option, Some, None, slice_get, refl, sym, ap, ◌∙◌, subst, arith, length-append}
+use Rattle.std.proofs.Common.{◌≡◌, inl, inr, ◌⊎◌, ℕ, zero, suc, ◌+◌, ◌<◌, ◌≤◌, List, [], ◌∷◌, ◌++◌, length, replicate}
+use Rattle.std.proofs.Common.{Some, slice_get, refl, sym, ap, ◌∙◌, subst, arith}
 use Rattle.std.proofs.Math.ListN.{set}
 use Rattle.std.proofs.lemmas.List.{get_or-replicate, length-replicate}
 use Rattle.std.proofs.lemmas.Option.{slice_get_within, get_or_from_slice_get, same_Some}
 use Rattle.std.proofs.lemmas.Bool.{cases_lt}
-use Rattle.gss.specs.Numbers.{IsLeast, IsGreatest, HasNone}
+use Rattle.gss.specs.Numbers.{IsGreatest, HasNone}
 use Rattle.gss.specs.Chains.{none, TellsLeast, least, no_least, TellsGreatest, greatest, no_greatest, IsKey, IsLater, IsEarlier, AreBelow, AreFirsts, AreLasts}
 use Rattle.gss.specs.Chains.{AreNexts, AreOlders}
 

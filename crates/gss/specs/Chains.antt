@@ -1,5 +1,5 @@
 -- Numbers kept beside a list of keys that grows at its end: each is a place where a key stands, or none.
-use Rattle.std.specs.Prelude.{◌≡◌, ℕ, ◌<◌, ◌⊎◌, List, slice_get, Some}
+use Rattle.std.specs.Prelude.{◌≡◌, ℕ, ◌<◌, List, slice_get, Some}
 use Rattle.gss.specs.Numbers.{IsLeast, IsGreatest, HasNone}
 
 -- the number that stands for none

@@ -1,5 +1,5 @@
 -- Stacks by kernels: their nodes and links, by number.
-use Rattle.std.specs.Prelude.{◌≡◌, ℕ, Bool, true, false, List, [], ◌∷◌, ◌++◌, ◌⊎◌, Contains}
+use Rattle.std.specs.Prelude.{◌≡◌, ℕ, ◌<◌, Bool, true, false, List, [], ◌∷◌, ◌++◌, ◌⊎◌, length, Contains}
 use Rattle.forest.specs.declared.symbols.SymbolId.{SymbolId}
 use Rattle.item_sets.specs.declared.item.Item.{Item}
 
@@ -33,3 +33,7 @@ IsAdded old new x false = Contains old x × (new ≡ old)
 -- the same, whichever it was
 abbrev pub IsThere : {X : Type 0} → List X → List X → X → Type 0
 IsThere old new x = IsAdded old new x true ⊎ IsAdded old new x false
+
+-- n is the number of an element
+abbrev pub IsNumberIn : {X : Type 0} → List X → ℕ → Type 0
+IsNumberIn xs n = n < length xs

@@ -3,3 +3,5 @@ pub mod PlaceGraphs
 pub mod KernelGraphs
 pub mod Paths
 pub mod Chains
+pub mod Rows
+pub mod Views

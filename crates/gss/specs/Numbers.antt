@@ -1,5 +1,5 @@
 -- The least and the greatest of some numbers.
-use Rattle.std.specs.Prelude.{◌≡◌, ℕ, ◌<◌, List, length, slice_get, Some, Contains}
+use Rattle.std.specs.Prelude.{ℕ, ◌<◌}
 
 -- n is the least number with the property
 pub record IsLeast (P : ℕ → Type 0) (n : ℕ) : Type 0 where

@@ -11,7 +11,7 @@ node_id n = record { 0 = n }
 
 -- some link leads from upper down to lower
 abbrev pub Leads : List Link → NodeId → NodeId → Type 0
-Leads links upper lower = (link : Link) × Contains links link × (link.upper ≡ upper.0) × (link.lower ≡ lower.0)
+Leads links upper lower = (l : ℕ) × (link : Link) × (slice_get links l ≡ Some link) × (link.upper ≡ upper.0) × (link.lower ≡ lower.0)
 
 -- the nodes stand below each other, so many links down from the first
 abbrev pub IsPathDown : List Link → NodeId → ℕ → List NodeId → Type 0

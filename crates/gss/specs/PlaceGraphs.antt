@@ -33,11 +33,11 @@ LeadsTo links lower l = (link : Edge) × (slice_get links l ≡ Some link) × (l
 
 -- link l, not before this one, leads down to the node by the symbol
 abbrev pub LeadsToBy : List Edge → ℕ → SymbolId → ℕ → ℕ → Type 0
-LeadsToBy links lower symbol from l = (from ≤ l) × ((link : Edge) × (slice_get links l ≡ Some link) × (link.lower ≡ lower) × (link.symbol ≡ symbol))
+LeadsToBy links lower symbol from l = (from ≤ l) × (link : Edge) × (slice_get links l ≡ Some link) × (link.lower ≡ lower) × (link.symbol ≡ symbol)
 
 -- link l is behind this one and leads down from the same node
 abbrev pub LeadsFromSame : List Edge → ℕ → ℕ → Type 0
-LeadsFromSame links before l = (before < l) × ((link : Edge) × (slice_get links before ≡ Some link) × LeadsFrom links link.upper l)
+LeadsFromSame links before l = (before < l) × (link : Edge) × (slice_get links before ≡ Some link) × LeadsFrom links link.upper l
 
 -- no two nodes have the same state and position
 abbrev pub AreNodesDistinct : List Place → Type 0

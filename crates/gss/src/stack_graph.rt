@@ -1,12 +1,13 @@
 //! Nodes and links by number.
 
-ghost use Rattle.std.specs.Prelude.{◌≡◌, ◌-◌, ◌^◌, ◌<◌, ℕ, [], ◌∷◌, ◌++◌, IfSome, IfNone, IfOk, OnOk, OnErr, Some, length, slice_get};
+ghost use Rattle.std.specs.Prelude.{◌≡◌, ◌-◌, ◌^◌, ◌<◌, [], ◌∷◌, ◌++◌, IfSome, IfNone, IfOk, OnOk, OnErr, Some, length, slice_get};
 ghost use Rattle.gss.specs.Numbers.{IsLeast, IsGreatest, HasNone};
-ghost use Rattle.gss.specs.PlaceGraphs.{PlaceGraph, place_of, edge_of, HasNode, IsOfState, LeadsFrom, LeadsToBy, LeadsFromSame, AreNodesDistinct, AreEndsNodes};
+ghost use Rattle.gss.specs.PlaceGraphs.{place_of, edge_of, HasNode, IsOfState, LeadsFrom, LeadsToBy, LeadsFromSame, AreNodesDistinct, AreEndsNodes};
 
 use crate::NoMemory;
+use crate::rows::{LinkRow, NodeRow, add_edge, add_place, find_above, find_place, told};
 use forest::SymbolId;
-use std::alloc::{AllocError, Global};
+use std::alloc::Global;
 use std::marker::Model;
 
 /// A node: a state of the parser at a position of the text, the state by a number of the caller's.
@@ -26,22 +27,26 @@ pub struct Edge {
 }
 
 /// Nodes, and links between them, each known by its number in the order in which they were added. No two nodes have
-/// the same state and position.
+/// the same state and position. All calls but `find_node` and `link_above` take constant time, and `link_above` goes
+/// over the links down to one node.
 #[derive(Drop)]
 pub struct StackGraph {
-    nodes: Vec<Place>,
-    links: Vec<Edge>,
+    nodes: Vec<NodeRow>,
+    links: Vec<LinkRow>,
+    /// For each state its newest node.
+    newest: Vec<u32>,
 }
 
 impl Model for StackGraph {
-    ghost use Rattle.std.specs.Prelude.{◌≡◌, []};
+    ghost use Rattle.std.specs.Prelude.{◌≡◌};
     ghost use Rattle.gss.specs.PlaceGraphs.{PlaceGraph};
+    ghost use Rattle.gss.specs.Rows.{places, edges, AreFound, AreLinked};
 
     ghost Value = { PlaceGraph };
 
-    ghost view = { λ g. record { nodes = g.nodes.items; links = g.links.items } };
+    ghost view = { λ g. record { nodes = places g.nodes.items; links = edges g.links.items } };
 
-    ghost invariant = { λ g. (g.nodes.items ≡ []) × (g.links.items ≡ []) };
+    ghost invariant = { λ g. AreFound (places g.nodes.items) g.newest.items × AreLinked g.nodes.items g.links.items };
 }
 
 impl StackGraph {
@@ -52,6 +57,7 @@ impl StackGraph {
         StackGraph {
             nodes: Vec::new(alloc),
             links: Vec::new(alloc),
+            newest: Vec::new(alloc),
         }
     }
 
@@ -61,6 +67,7 @@ impl StackGraph {
     {
         self.nodes.clear();
         self.links.clear();
+        self.newest.clear();
     }
 
     pub fn node_count(&self) -> usize
@@ -86,94 +93,116 @@ impl StackGraph {
     }
 
     /// The node with this number.
+    #[inline]
     pub fn place(&self, node: u32) -> Place
         requires { node < length self.now.nodes }
         ensures { slice_get self.now.nodes node ≡ Some result }
     {
-        self.nodes[node as usize]
+        self.nodes[node as usize].place
     }
 
     /// The link with this number.
+    #[inline]
     pub fn edge(&self, link: u32) -> Edge
         requires { link < length self.now.links }
         ensures { slice_get self.now.links link ≡ Some result }
     {
-        self.links[link as usize]
+        self.links[link as usize].edge
     }
 
     /// The newest node of the state.
-    pub fn newest_node(&self, _state: u32) -> Option<u32>
-        ensures newest { IfSome result (IsGreatest (IsOfState self.now.nodes _state)) }
-        ensures none { IfNone result (HasNone (IsOfState self.now.nodes _state)) }
+    #[inline]
+    pub fn newest_node(&self, state: u32) -> Option<u32>
+        ensures newest { IfSome result (IsGreatest (IsOfState self.now.nodes state)) }
+        ensures none { IfNone result (HasNone (IsOfState self.now.nodes state)) }
     {
-        let _ = &self.nodes;
-        None
+        let state = state as usize;
+        if state >= self.newest.len() {
+            return None;
+        }
+        told(self.newest[state])
     }
 
-    /// The node of the state and position.
-    pub fn find_node(&self, _state: u32, _at: u32) -> Option<u32>
-        ensures found { IfSome result (λ n. slice_get self.now.nodes n ≡ Some (place_of _state _at)) }
-        ensures none { IfNone result (HasNode self.now.nodes _state _at → ⊥) }
+    /// The node of the state and position, by a search over all nodes.
+    pub fn find_node(&self, state: u32, at: u32) -> Option<u32>
+        ensures found { IfSome result (λ n. slice_get self.now.nodes n ≡ Some (place_of state at)) }
+        ensures none { IfNone result (HasNode self.now.nodes state at → ⊥) }
     {
-        let _ = &self.nodes;
-        None
+        find_place(&self.nodes, state, at)
     }
 
     /// Adds a node, and gives its number.
-    pub fn add_node(&mut self, _state: u32, _at: u32) -> Result<u32, NoMemory>
-        requires new { HasNode self.old.nodes _state _at → ⊥ }
+    pub fn add_node(&mut self, state: u32, at: u32) -> Result<u32, NoMemory>
+        requires new { HasNode self.old.nodes state at → ⊥ }
         requires room { length self.old.nodes < 2 ^ 32 - 1 }
         ensures number { IfOk result (λ n. n ≡ length self.old.nodes) }
-        ensures nodes { OnOk result (self.new.nodes ≡ self.old.nodes ++ place_of _state _at ∷ []) }
+        ensures nodes { OnOk result (self.new.nodes ≡ self.old.nodes ++ place_of state at ∷ []) }
         ensures links { self.new.links ≡ self.old.links }
         ensures refused { OnErr result (self.new ≡ self.old) }
     {
-        Err(AllocError)
+        let place = Place { state, at };
+        add_place(&mut self.nodes, &self.links, &mut self.newest, place)
     }
 
     /// The newest link down to the node by the symbol, if it is not before the link with the number `from`.
-    pub fn link_above(&self, _lower: u32, _symbol: SymbolId, _from: u32) -> Option<u32>
-        ensures newest { IfSome result (IsGreatest (LeadsToBy self.now.links _lower _symbol _from)) }
-        ensures none { IfNone result (HasNone (LeadsToBy self.now.links _lower _symbol _from)) }
+    #[inline]
+    pub fn link_above(&self, lower: u32, symbol: SymbolId, from: u32) -> Option<u32>
+        ensures newest { IfSome result (IsGreatest (LeadsToBy self.now.links lower symbol from)) }
+        ensures none { IfNone result (HasNone (LeadsToBy self.now.links lower symbol from)) }
     {
-        let _ = &self.nodes;
-        None
+        if lower as usize >= self.nodes.len() {
+            return None;
+        }
+        let newest = self.nodes[lower as usize].above;
+        find_above(&self.links, newest, symbol, from, lower)
     }
 
     /// The oldest link down from the node.
-    pub fn first_link(&self, _node: u32) -> Option<u32>
-        ensures first { IfSome result (IsLeast (LeadsFrom self.now.links _node)) }
-        ensures none { IfNone result (HasNone (LeadsFrom self.now.links _node)) }
+    #[inline]
+    pub fn first_link(&self, node: u32) -> Option<u32>
+        ensures first { IfSome result (IsLeast (LeadsFrom self.now.links node)) }
+        ensures none { IfNone result (HasNone (LeadsFrom self.now.links node)) }
     {
-        let _ = &self.nodes;
-        None
+        if node as usize >= self.nodes.len() {
+            return None;
+        }
+        told(self.nodes[node as usize].first)
     }
 
     /// The next link down from the node that this one leads down from.
-    pub fn next_link(&self, _link: u32) -> Option<u32>
-        ensures next { IfSome result (IsLeast (LeadsFromSame self.now.links _link)) }
-        ensures none { IfNone result (HasNone (LeadsFromSame self.now.links _link)) }
+    #[inline]
+    pub fn next_link(&self, link: u32) -> Option<u32>
+        ensures next { IfSome result (IsLeast (LeadsFromSame self.now.links link)) }
+        ensures none { IfNone result (HasNone (LeadsFromSame self.now.links link)) }
     {
-        let _ = &self.nodes;
-        None
+        if link as usize >= self.links.len() {
+            return None;
+        }
+        told(self.links[link as usize].next)
     }
 
     /// Adds a link, and gives its number.
     pub fn add_link(
         &mut self,
-        _upper: u32,
-        _symbol: SymbolId,
-        _lower: u32,
-        _label: u32,
+        upper: u32,
+        symbol: SymbolId,
+        lower: u32,
+        label: u32,
     ) -> Result<u32, NoMemory>
-        requires upper { _upper < length self.old.nodes }
-        requires lower { _lower < length self.old.nodes }
+        requires upper { upper < length self.old.nodes }
+        requires lower { lower < length self.old.nodes }
         requires room { length self.old.links < 2 ^ 32 - 1 }
         ensures number { IfOk result (λ l. l ≡ length self.old.links) }
-        ensures links { OnOk result (self.new.links ≡ self.old.links ++ edge_of _upper _symbol _lower _label ∷ []) }
+        ensures links { OnOk result (self.new.links ≡ self.old.links ++ edge_of upper symbol lower label ∷ []) }
         ensures nodes { self.new.nodes ≡ self.old.nodes }
         ensures refused { OnErr result (self.new ≡ self.old) }
     {
-        Err(AllocError)
+        let edge = Edge {
+            upper,
+            symbol,
+            lower,
+            label,
+        };
+        add_edge(&mut self.nodes, &mut self.links, edge)
     }
 }
