@@ -10,14 +10,14 @@ use Rattle.packed_spans.specs.Packed.{PackedSplit, Packed}
 
 -- the part is x from i to j: a token of that kind where x is no left side of a rule, or else the span of x
 pub data IsPartAt (rules : List Rule) (tokens : List SymbolId) (spans : List Span) : SymbolId → ℕ → ℕ → ℕ → Type 0 where
-  token : {x : SymbolId} {i : ℕ} → slice_get tokens i ≡ Some x → (IsNonterminal rules x → ⊥) → IsPartAt rules tokens spans x i TOKEN_PART (suc i)
-  span : {x : SymbolId} {i j part : ℕ} → IsNonterminal rules x → slice_get spans part ≡ Some (record { symbol = x; from = i; to = j })
+  of_token : {x : SymbolId} {i : ℕ} → slice_get tokens i ≡ Some x → (IsNonterminal rules x → ⊥) → IsPartAt rules tokens spans x i TOKEN_PART (suc i)
+  of_span : {x : SymbolId} {i j part : ℕ} → IsNonterminal rules x → slice_get spans part ≡ Some (record { symbol = x; from = i; to = j })
       → IsPartAt rules tokens spans x i part j
 
 -- the parts stand along the symbols from i to j, one after the other: the cuts are the places where they end
 pub data StandsAlong (rules : List Rule) (tokens : List SymbolId) (spans : List Span) : List SymbolId → ℕ → List ℕ → List ℕ → ℕ → Type 0 where
-  done : {i : ℕ} → StandsAlong rules tokens spans [] i [] [] i
-  part : {x : SymbolId} {xs : List SymbolId} {i k j part : ℕ} {parts cuts : List ℕ} → IsPartAt rules tokens spans x i part k
+  no_parts : {i : ℕ} → StandsAlong rules tokens spans [] i [] [] i
+  next_part : {x : SymbolId} {xs : List SymbolId} {i k j part : ℕ} {parts cuts : List ℕ} → IsPartAt rules tokens spans x i part k
       → StandsAlong rules tokens spans xs k parts cuts j → StandsAlong rules tokens spans (x ∷ xs) i (part ∷ parts) (k ∷ cuts) j
 
 -- the split is the rule with its parts ending at the cuts, from the span's start to its end
