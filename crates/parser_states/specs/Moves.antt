@@ -1,5 +1,5 @@
 -- How moves are kept, and how more of them are.
-use Rattle.std.specs.Prelude.{◌≡◌, ℕ, ◌+◌, List, ◌++◌, length, map, replicate, Some, slice_get, Contains}
+use Rattle.std.specs.Prelude.{◌≡◌, ℕ, ◌+◌, List, ◌++◌, length, map, replicate, Some, slice_get}
 use Rattle.forest.specs.declared.symbols.SymbolId.{SymbolId}
 use Rattle.forest.specs.declared.rules.Rule.{Rule}
 use Rattle.item_sets.specs.declared.item.Item.{Item}

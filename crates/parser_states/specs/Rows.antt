@@ -1,5 +1,5 @@
 -- What a row keeps of a state, and what the lists keep of all.
-use Rattle.std.specs.Prelude.{◌≡◌, ℕ, ◌+◌, ◌≤◌, ◌<◌, ◌↔◌, true, false, List, [], ◌∷◌, ◌++◌, length, Some, slice_get, Contains, IsTrue}
+use Rattle.std.specs.Prelude.{◌≡◌, ℕ, ◌+◌, ◌≤◌, ◌<◌, ◌↔◌, true, false, List, length, Some, slice_get, Contains, IsTrue}
 use Rattle.std.specs.List.Sorted.{IsStrictlySortedBy}
 use Rattle.std.specs.Ordering.{nat_cmp}
 use Rattle.std.specs.declared.cmp.Ordering.{Ordering}
@@ -17,7 +17,7 @@ use Rattle.parser_states.specs.declared.rows.Row.{Row}
 use Rattle.parser_states.specs.declared.reduction.Reduction.{Reduction}
 use Rattle.parser_states.specs.Parts.{part_of, IsWithin}
 use Rattle.parser_states.specs.Known.{Known, KnownMoves}
-use Rattle.parser_states.specs.Moves.{AddsMoves, IsBehind, IsBehindAt}
+use Rattle.parser_states.specs.Moves.{AddsMoves, IsBehind}
 use Rattle.parser_states.specs.Finished.{reductions_told}
 use Rattle.parser_states.specs.Reductions.{ListsReductions, Opens}
 
@@ -52,12 +52,13 @@ pub record IsRow (rules : List Rule) (moves : KnownMoves) (all : List Reduction)
   pub empties : ListsReductions rules kernel (λ size. size ≡ 0) (part_of row.empties all)
   pub reductions : ListsReductions rules kernel (λ size. 0 < size) (part_of row.reductions all)
 
--- the lists of moves are of one length, and a move's target that is known is the state of the items behind the move
-pub record AreTargets (kernels : List (List Item)) (moves : KnownMoves) : Type 0 where
+-- the lists of moves are of one length, the items behind each move are there, and a target that is known is the state of these items
+pub record AreMoves (kernels : List (List Item)) (moves : KnownMoves) : Type 0 where
   pub behind : length moves.behind ≡ length moves.symbols
   pub targets : length moves.targets ≡ length moves.symbols
-  pub tells : (place entry number : ℕ) (upper : List Item) → slice_get moves.targets place ≡ Some entry → entry ≡ number + 1
-      → IsBehindAt moves place upper → slice_get kernels number ≡ Some upper
+  pub within : (place : ℕ) (part : Part) → slice_get moves.behind place ≡ Some part → IsWithin part (length moves.items)
+  pub tells : (place entry number : ℕ) (part : Part) → slice_get moves.targets place ≡ Some entry → entry ≡ number + 1
+      → slice_get moves.behind place ≡ Some part → slice_get kernels number ≡ Some (part_of part moves.items)
 
 -- the rows keep the expansions of the states by the rules
 pub record AreTold (rules : List Rule) (states : Known) : Type 0 where
@@ -67,7 +68,7 @@ pub record AreTold (rules : List Rule) (states : Known) : Type 0 where
   pub size : length states.rows ≡ length states.kernels
   pub rows : (number : ℕ) (kernel : List Item) (row : Row) → slice_get states.kernels number ≡ Some kernel → slice_get states.rows number ≡ Some row
       → IsRow rules states.moves states.reductions kernel row
-  pub targets : AreTargets states.kernels states.moves
+  pub moves : AreMoves states.kernels states.moves
 
 -- ---- one more state
 
@@ -88,15 +89,6 @@ pub record IsRowOf (rules : List Rule) (moves : Part) (symbols : List SymbolId) 
   pub reductions_within : IsWithin row.reductions (length new)
   pub reductions : part_of row.reductions new ≡ reductions_told rules false finished
   pub extends : Extends old new
-
--- the kernel became the last state, with a row that keeps its expansion
-pub record AddsState (rules : List Rule) (kernel : List Item) (old new : Known) : Type 0 where
-  pub kernels : new.kernels ≡ old.kernels ++ kernel ∷ []
-  pub row : Row
-  pub rows : new.rows ≡ old.rows ++ row ∷ []
-  pub finished : List RuleId
-  pub copied : IsCopied rules kernel old.moves new.moves finished row.moves
-  pub row_is : IsRowOf rules row.moves (part_of row.moves new.moves.symbols) finished old.reductions new.reductions row
 
 -- ---- looking for a move
 

@@ -4,9 +4,11 @@
 //! Then its moves and its reductions are kept in lists that all states share, so that a look at them asks nothing.
 #![tactic(auto)]
 
+mod asking;
 mod moves;
 mod reduction;
 mod rows;
+mod searches;
 mod states;
 mod table;
 

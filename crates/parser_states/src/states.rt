@@ -8,13 +8,12 @@ ghost use Rattle.parser_states.specs.Reductions.{ListsReductions, Opens};
 ghost use Rattle.parser_states.specs.Leads.{LeadsFrom, KeepsNumbers};
 ghost use Rattle.parser_states.specs.Expanded.{AreExpandedIn, OfState};
 
-use crate::moves::MoveLists;
 use crate::reduction::Reduction;
 use crate::table::Table;
 use forest::SymbolId;
+use item_sets::Kernel;
 use live_graph::{Graph, NoMemory};
-use indexmap::IndexSet;
-use std::alloc::{AllocError, Global};
+use std::alloc::Global;
 use std::marker::Model;
 use std::sync::ledger::Ledger;
 use steps::Steps;
@@ -30,13 +29,13 @@ pub struct States {
 
 impl Model for States {
     ghost use Rattle.parser_states.specs.Known.{Known, known};
-    ghost use Rattle.std.specs.Prelude.{◌≡◌, []};
+    ghost use Rattle.parser_states.specs.Rows.{IsShaped};
 
     ghost Value = { Known };
 
     ghost view = { λ s. known s.table };
 
-    ghost invariant = { λ s. s.table.keys.keys ≡ [] };
+    ghost invariant = { λ s. IsShaped (known s.table) };
 }
 
 impl States {
@@ -45,18 +44,7 @@ impl States {
         ensures { result.kernels ≡ [] }
     {
         States {
-            table: Table {
-                keys: IndexSet::new(alloc),
-                rows: Vec::new(alloc),
-                moves: MoveLists {
-                    symbols: Vec::new(alloc),
-                    behind: Vec::new(alloc),
-                    targets: Vec::new(alloc),
-                    items: Vec::new(alloc),
-                },
-                reductions: Vec::new(alloc),
-                finished: Vec::new(alloc),
-            },
+            table: Table::new(alloc),
         }
     }
 
@@ -64,7 +52,14 @@ impl States {
     pub fn clear(&mut self)
         ensures { self.new.kernels ≡ [] }
     {
-        self.table.keys.clear();
+        self.table.clear();
+    }
+
+    /// How many states there are. Their numbers are those below.
+    pub fn count(&self) -> usize
+        ensures { result ≡ length self.now.kernels }
+    {
+        self.table.keys.len()
     }
 
     /// Begins anew with the state that a parse begins in, which is asked of the graph and gets the number 0.
@@ -79,7 +74,10 @@ impl States {
         ensures stands { Stands (G.means graph.old) (G.means graph.new) }
         ensures never_back { steps.old ≤ steps.new }
     {
-        Err(AllocError)
+        self.table.clear();
+        let kernel = Kernel::start(*self.table.rows.allocator());
+        self.table.add(graph, kernel, steps)?;
+        Ok(())
     }
 
     /// The number of the state behind the state's move on the symbol, or none where it has no such move. A state that
@@ -100,7 +98,7 @@ impl States {
         ensures stands { Stands (G.means graph.old) (G.means graph.new) }
         ensures never_back { steps.old ≤ steps.new }
     {
-        Err(AllocError)
+        self.table.next(graph, state as usize, symbol, steps)
     }
 
     /// Whether the state has a move on the symbol. The graph is not asked.
@@ -108,8 +106,7 @@ impl States {
         requires { state < length self.now.kernels }
         ensures { OfState self.now state (λ rules kernel. IsTrue result ↔ HasMove rules (Contains kernel) symbol) }
     {
-        let _ = &self.table;
-        false
+        self.table.place_of_move(state as usize, symbol).is_some()
     }
 
     /// Whether some move of the state is on the left side of a rule.
@@ -117,8 +114,7 @@ impl States {
         requires { state < length self.now.kernels }
         ensures { OfState self.now state (λ rules kernel. IsTrue result ↔ Opens rules kernel) }
     {
-        let _ = &self.table;
-        false
+        self.table.rows[state as usize].opens
     }
 
     /// The live rules that are finished in the state and whose right sides are not empty.
@@ -126,7 +122,8 @@ impl States {
         requires { state < length self.now.kernels }
         ensures { OfState self.now state (λ rules kernel. ListsReductions rules kernel (λ size. 0 < size) result.now) }
     {
-        self.table.reductions.as_slice()
+        let part = self.table.rows[state as usize].reductions;
+        &self.table.reductions[part.first as usize..part.past as usize]
     }
 
     /// The live rules that are finished in the state and whose right sides are empty.
@@ -134,6 +131,7 @@ impl States {
         requires { state < length self.now.kernels }
         ensures { OfState self.now state (λ rules kernel. ListsReductions rules kernel (λ size. size ≡ 0) result.now) }
     {
-        self.table.reductions.as_slice()
+        let part = self.table.rows[state as usize].empties;
+        &self.table.reductions[part.first as usize..part.past as usize]
     }
 }
