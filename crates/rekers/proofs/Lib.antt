@@ -8,6 +8,8 @@ pub mod PlacedNodes
 pub mod UpperNodes
 pub mod NewLinks
 pub mod LinkedParsers
+pub mod LinkSteps
+pub mod LinkAttached
 pub mod Growing
 pub mod ForestSpans
 pub mod Sizes

@@ -26,6 +26,14 @@ fn stays_flat(is_flat: bool, lower: u32, first_node: u32) -> bool
 }
 
 impl Parser {
+    /// The node from which on those of the place may move on a left side.
+    fn opener(&self, at: u32) -> u32
+        requires { at < length self.now.openers.items }
+        ensures { slice_get self.now.openers.items at ≡ Some result }
+    {
+        self.openers[at as usize]
+    }
+
     /// The first made node at the place of this node that moves on the symbol.
     fn first_opener<G: Graph>(
         &self,
@@ -40,7 +48,8 @@ impl Parser {
         ensures { IsFirstOf (G.means _graph.now).grammar.rules (found self.now) node symbol result }
     {
         let at = self.stacks.place(node).at;
-        for other in self.openers[at as usize]..node {
+        let first = self.opener(at);
+        for other in first..node {
             if self.states.has_move(self.stacks.place(other).state, symbol) {
                 return other;
             }
