@@ -7,3 +7,6 @@ pub mod NewNodes
 pub mod Growing
 pub mod ForestSpans
 pub mod Sizes
+pub mod Whole
+pub mod FoundSpans
+pub mod Complete
