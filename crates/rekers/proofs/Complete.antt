@@ -92,8 +92,8 @@ module _ (rules : List Rule) (tokens : List SymbolId) (f : Found) (end : IsDone 
           (k.rule, k.live, (k.cuts, tells_grow (keeps_append f.spans (root ∷ [])) k.tells));
       whole = λ n span e rule c left cuts along. elim (old_or_last f.spans root n span e) [
         | inl old ↦
-          let p = packed rules tokens f end n span old rule c left cuts along in
-          (p.split, p.there, p.of, tells_grow (keeps_append f.spans (root ∷ [])) p.tells)
+            let p = packed rules tokens f end n span old rule c left cuts along in
+            (p.split, p.there, p.of, tells_grow (keeps_append f.spans (root ∷ [])) p.tells)
         | inr last ↦ absurd (no_rule (rule, c, left ∙ ap (λ (s : Span). s.symbol) last.1))
       ];
     }
@@ -118,8 +118,8 @@ module _ (rules : List Rule) (tokens : List SymbolId) (f : Found) (end : IsDone 
         let lower : l.lower ≡ 0 = same_node rules tokens f end.graph l.lower_is end.graph.begun in
         elim (cases_lt l.link first_link) [
           | inl before ↦
-            let low = level.links_before l.link _ l.there before in
-            absurd (omega (arith, level.nodes_before l.upper _ l.upper_is.there low))
+              let low = level.links_before l.link _ l.there before in
+              absurd (omega (arith, level.nodes_before l.upper _ l.upper_is.there low))
           | inr here ↦ none l.link (omega (arith, here), (edge_of l.upper START l.lower l.label, l.there, lower, refl))
         ]
 
@@ -129,7 +129,11 @@ module _ (rules : List Rule) (tokens : List SymbolId) (f : Found) (end : IsDone 
     root_part link leads edge e =
         let (here, (found, there, lower, symbol)) = leads in
         let same : found ≡ edge = cc in
-        let at : slice_get f.links link ≡ Some (edge_of edge.upper START 0 edge.label) = cc in
+        let below : edge.lower ≡ 0 = ap (λ (l : Edge). l.lower) (sym same) ∙ lower in
+        let by : edge.symbol ≡ START = ap (λ (l : Edge). l.symbol) (sym same) ∙ symbol in
+        let at : slice_get f.links link ≡ Some (edge_of edge.upper START 0 edge.label) =
+        subst (λ n. slice_get f.links link ≡ Some (edge_of edge.upper START n edge.label)) below
+        (subst (λ x. slice_get f.links link ≡ Some (edge_of edge.upper x edge.lower edge.label)) by e) in
         let b = between_from rules tokens f end.graph link at end.graph.begun in
         let to : b.to ≡ length tokens = level.nodes_here edge.upper _ b.upper_is.there (level.links_here link edge e here) in
         subst (λ j. IsPartAt rules tokens f.spans START 0 edge.label j) to b.part

@@ -72,22 +72,22 @@ module _ (rules : List Rule) (tokens : List SymbolId) (f : Found) (graph : IsSou
       elim (part_cases b.label) [
         | inl t ↦ absurd (t.0 o.nonterminal)
         | inr s ↦
-          let here : slice_get f.spans number ≡ Some (span_of o.edge.symbol b.ends.from b.ends.to) =
+            let here : slice_get f.spans number ≡ Some (span_of o.edge.symbol b.ends.from b.ends.to) =
             subst (λ n. slice_get f.spans n ≡ Some (span_of o.edge.symbol b.ends.from b.ends.to)) o.label s.1 in
-          subst (λ known. IsMade rules tokens f number known) (one_at f.spans number _ _ here e) (record {
-            owner = owner;
-            owns = owns;
-            lower = o.edge.lower;
-            below = b.ends.lower;
-            lower_is = b.ends.lower_is;
-            upper = o.edge.upper;
-            above = b.ends.upper;
-            upper_is = b.ends.upper_is;
-            there = subst (λ n. slice_get f.links owner ≡ Some (edge_of o.edge.upper o.edge.symbol o.edge.lower n)) o.label o.there;
-            link = b.link;
-            nonterminal = o.nonterminal;
-            first = o.first;
-          })
+            subst (λ known. IsMade rules tokens f number known) (one_at f.spans number _ _ here e) (record {
+              owner = owner;
+              owns = owns;
+              lower = o.edge.lower;
+              below = b.ends.lower;
+              lower_is = b.ends.lower_is;
+              upper = o.edge.upper;
+              above = b.ends.upper;
+              upper_is = b.ends.upper_is;
+              there = subst (λ n. slice_get f.links owner ≡ Some (edge_of o.edge.upper o.edge.symbol o.edge.lower n)) o.label o.there;
+              link = b.link;
+              nonterminal = o.nonterminal;
+              first = o.first;
+            })
       ]
 
   -- spans of one symbol from one place are made over one node
@@ -105,7 +105,7 @@ module _ (rules : List Rule) (tokens : List SymbolId) (f : Found) (graph : IsSou
       let a = made m span e in
       let b = made n span g in
       let owner : a.owner ≡ b.owner =
-        graph.one_link a.owner b.owner _ _ _ _ a.there b.there (one_lower a b) refl a.upper_is.there b.upper_is.there refl in
+      graph.one_link a.owner b.owner _ _ _ _ a.there b.there (one_lower a b) refl a.upper_is.there b.upper_is.there refl in
       let edges = one_at f.links b.owner _ _ (subst (λ l. slice_get f.links l ≡ Some (edge_of a.upper span.symbol a.lower m)) owner a.there) b.there in
       ap (λ (edge : Edge). edge.label) edges
 
@@ -138,7 +138,7 @@ module _ (rules : List Rule) (tokens : List SymbolId) (f : Found) (graph : IsSou
       }
 
   pub known : (split : PackedSplit) → Contains f.splits split → IsKnown rules tokens f split
-  known split c = let (trail, (top, told)) = graph.told split c in known_by told
+  known split c = let (trail, top, told) = graph.told split c in known_by told
 
 -- at the end each split of a span was found
 pub packed : (rules : List Rule) (tokens : List SymbolId) (f : Found) → IsDone rules tokens f → (number : ℕ) (span : Span) → slice_get f.spans number ≡ Some span
@@ -150,16 +150,16 @@ packed rules tokens f end number span e rule c left cuts along =
     let move : HasMove rules (Contains o.below) rule.left = subst (λ x. HasMove rules (Contains o.below) x) (sym left) o.link.move.some in
     let last : span.to ≤ length tokens = Derives-within o.link.derives (Along-within o.link.reached.derives (omega arith)) in
     let w = walk rules tokens (length tokens) (IsPlaced f) (IsLinked f) (saturated rules tokens f end) along o.below (o.lower, o.lower_is) last rule.number
-      rule.right 0 (live c) refl (omega arith) (added_by move.1 c) in
+    rule.right 0 (live c) refl (omega arith) (added_by move.1 c) in
     let t = trail_of rules tokens f graph w.path o.lower_is w.node.1 in
     let r = reduced rules tokens f end c w.finished o.lower_is w.node.1 move t in
     let link : r.link ≡ o.owner =
-      graph.one_link r.link o.owner _ _ _ _ r.link_is.there o.there refl left r.link_is.upper_is o.upper_is.there refl in
+    graph.one_link r.link o.owner _ _ _ _ r.link_is.there o.there refl left r.link_is.upper_is o.upper_is.there refl in
     let edges = one_at f.links o.owner _ _
-      (subst (λ l. slice_get f.links l ≡ Some (edge_of r.link_is.upper rule.left o.lower r.label)) link r.link_is.there) o.there in
+    (subst (λ l. slice_get f.links l ≡ Some (edge_of r.link_is.upper rule.left o.lower r.label)) link r.link_is.there) o.there in
     let label : r.label ≡ number = ap (λ (edge : Edge). edge.label) edges in
     let owns : slice_get f.owners r.label ≡ Some r.link =
-      subst (λ n. slice_get f.owners n ≡ Some r.link) (sym label) (o.owns ∙ ap Some (sym link)) in
+    subst (λ n. slice_get f.owners n ≡ Some r.link) (sym label) (o.owns ∙ ap Some (sym link)) in
     record {
       split = record { span = r.label; rule = rule.number; parts = t.labels };
       there = r.split owns;

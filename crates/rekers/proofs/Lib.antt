@@ -10,3 +10,4 @@ pub mod Sizes
 pub mod Whole
 pub mod FoundSpans
 pub mod Complete
+pub mod FoundSizes

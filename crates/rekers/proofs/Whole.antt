@@ -80,16 +80,18 @@ module _ (rules : List Rule) (tokens : List SymbolId) (f : Found) (graph : IsSou
   pub links_up : {link lower : ℕ} {x : SymbolId} {at label : ℕ} {s : List Item} {i : ℕ} → IsLinkTo f link lower x at label → IsNode f lower s i
       → (v : List Item) × IsLinked f s i x v at
   links_up {link} {lower} {x} {at} {label} l n =
-      let (kernel, is, reached) = graph.nodes l.upper (place_of l.state at) l.upper_is in
-      (kernel, record {
-        link = link;
-        lower = lower;
-        lower_is = n;
-        upper = l.upper;
-        upper_is = record { state = l.state; there = l.upper_is; is_kernel = is };
-        label = label;
-        there = l.there;
-      })
+      let (kernel, is, reached) = graph.nodes l.upper (place_of l.state at) l.upper_is in (
+        kernel,
+        record {
+          link = link;
+          lower = lower;
+          lower_is = n;
+          upper = l.upper;
+          upper_is = record { state = l.state; there = l.upper_is; is_kernel = is };
+          label = label;
+          there = l.there;
+        },
+      )
 
   -- links between states at places make a trail between their nodes
   pub trail_of : {u v : List Item} {i j : ℕ} {xs : List SymbolId} {cuts : List ℕ} → IsPath (IsLinked f) u i xs cuts v j → {node top : ℕ} → IsNode f node u i
@@ -103,7 +105,7 @@ module _ (rules : List Rule) (tokens : List SymbolId) (f : Found) (graph : IsSou
   trail_of (over {x = x} link path) {node} {top} n m =
       let rest = trail_of path link.upper_is m in
       let edge : slice_get f.links link.link ≡ Some (edge_of link.upper x node link.label) =
-        subst (λ k. slice_get f.links link.link ≡ Some (edge_of link.upper x k link.label)) (same_node link.lower_is n) link.there in
+      subst (λ k. slice_get f.links link.link ≡ Some (edge_of link.upper x k link.label)) (same_node link.lower_is n) link.there in
       record {
         trail = link.link ∷ rest.trail;
         labels = link.label ∷ rest.labels;
@@ -132,7 +134,7 @@ module _ (rules : List Rule) (tokens : List SymbolId) (f : Found) (end : IsDone 
         dotted = added_by move.1 live;
       } in
       end.worked.all (reduction_by r) node t.trail t.labels top j reducible
-        (is_below (length f.links) (length f.nodes) t.trail top (node_below m) (trail_links t.along))
+      (is_below (length f.links) (length f.nodes) t.trail top (node_below m) (trail_links t.along))
 
   pub saturated : IsSaturated rules tokens (length tokens) (IsPlaced f) (IsLinked f)
   saturated = record {
@@ -151,12 +153,12 @@ module _ (rules : List Rule) (tokens : List SymbolId) (f : Found) (end : IsDone 
   -- each state that is reached has a node
   pub all_placed : {s : List Item} {i : ℕ} → IsStateAt rules tokens s i → IsPlaced f s i
   all_placed state = nodes_in rules tokens (length tokens) (IsPlaced f) (IsLinked f) saturated (one_right rules end.numbered) state
-    (Along-within state.derives (omega arith))
+      (Along-within state.derives (omega arith))
 
   -- each link of the definition was found
   pub all_linked : (link : Link) → IsLink rules tokens link → IsLinked f link.lower link.from link.symbol link.upper link.to
   all_linked link is = links_in rules tokens (length tokens) (IsPlaced f) (IsLinked f) saturated (one_right rules end.numbered) link is
-    (Derives-within is.derives (Along-within is.reached.derives (omega arith)))
+      (Derives-within is.derives (Along-within is.reached.derives (omega arith)))
 
   -- from a node that moves on a symbol a link leads over what it derives
   pub links_over : {x : SymbolId} {s : List Item} {i j : ℕ} → Derives rules tokens x i j → IsPlaced f s i → j ≤ length tokens → HasMove rules (Contains s) x
