@@ -11,3 +11,4 @@ pub mod Whole
 pub mod FoundSpans
 pub mod Complete
 pub mod FoundSizes
+pub mod AtEnd

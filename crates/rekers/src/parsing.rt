@@ -2,8 +2,11 @@
 
 ghost use Rattle.std.specs.Prelude.{◌≡◌, ◌≤◌, ◌+◌, length, IfOk, IfErr, OnOk};
 ghost use Rattle.edit_log.specs.declared.limits.TheConstants.{TOKEN_LIMIT};
+ghost use Rattle.forest.specs.declared.symbols.TheConstants.{START};
 ghost use Rattle.forest.specs.Derivation.{AreTerminals};
 ghost use Rattle.live_graph.specs.Cost.{RisesAsCost};
+ghost use Rattle.gss.specs.PlaceGraphs.{LeadsToBy};
+ghost use Rattle.packed_spans.specs.Complete.{IsComplete};
 ghost use Rattle.rekers.specs.Answers.{kinds_of, TellsForest, TellsNoSentence, IsWithin, TellsTooLarge, IfTooLarge, UnlessNoMemory};
 ghost use Rattle.rekers.specs.Asked.{AsksStates, AsksSomeStates};
 ghost use Rattle.rekers.specs.Found.{found};
@@ -22,6 +25,24 @@ use std::sync::ledger::Ledger;
 use steps::Steps;
 
 impl Parser {
+    /// The span that the forest begins with, where the link tells that START derives the text. If START is the one
+    /// token, this adds a span for it.
+    fn root<G: Graph>(&mut self, _graph: &G, _tokens: &[Token], link: u32) -> Result<u32, NoMemory>
+        requires sound { IsSound (G.means _graph.now).grammar.rules (kinds_of _tokens.now) self.old }
+        requires worked { IsWorked (G.means _graph.now).grammar.rules (found self.old) (length self.old.stacks.links) (length self.old.stacks.nodes) }
+        requires shifted { AreShifted (G.means _graph.now).grammar.rules (kinds_of _tokens.now) (found self.old) self.old.level.at }
+        requires at { self.old.level.at ≡ length _tokens.now }
+        requires link { LeadsToBy self.old.stacks.links 0 START self.old.level.first_link link }
+        ensures { IfOk result (IsComplete (G.means _graph.now).grammar.rules (kinds_of _tokens.now) self.new.spans) }
+    {
+        let label = self.stacks.edge(link).label;
+        if label != TOKEN_PART {
+            return Ok(label);
+        }
+        let root = self.spans.add_span(START, 0, self.level.at)?;
+        Ok(root)
+    }
+
     /// The answer, where all levels are done.
     fn answer<G: Graph>(
         &mut self,
@@ -37,15 +58,13 @@ impl Parser {
         ensures no_sentence { IfOk result (TellsNoSentence (G.means _graph.now).grammar.rules (kinds_of _tokens.now)) }
     {
         let Some(link) = self.stacks.link_above(0, START, self.level.first_link) else {
+            self.stacks.is_sound();
             let last = self.stacks.node_count() as u32 - 1;
             return Ok(Parsed::NoSentence {
                 at: self.stacks.place(last).at,
             });
         };
-        let mut root = self.stacks.edge(link).label;
-        if root == TOKEN_PART {
-            root = self.spans.add_span(START, 0, self.level.at)?;
-        }
+        let root = self.root(_graph, _tokens, link)?;
         let forest = self.spans.forest(alloc, root)?;
         Ok(Parsed::Forest(forest))
     }
