@@ -72,6 +72,13 @@ one_kernel {f} {node} {s} {t} {i} {j} a b =
       ap (λ (p : Place). p.at) same,
     )
 
+-- the state of a node has its kernel
+pub kernel_at : {f : Found} {node : ℕ} {s : List Item} {i : ℕ} {place : Place} → IsNode f node s i → slice_get f.nodes node ≡ Some place
+    → (slice_get f.kernels place.state ≡ Some s) × (place.at ≡ i)
+kernel_at {f} {node} {s} {i} {place} n e =
+    let same : place_of n.state i ≡ place = one_at f.nodes node _ _ n.there e in
+    (subst (λ (p : Place). slice_get f.kernels p.state ≡ Some s) same n.is_kernel, ap (λ (p : Place). p.at) (sym same))
+
 pub node_below : {f : Found} {node : ℕ} {s : List Item} {i : ℕ} → IsNode f node s i → node < length f.nodes
 node_below {f} {node} {s} {i} n = slice_get_within f.nodes node (place_of n.state i) n.there
 

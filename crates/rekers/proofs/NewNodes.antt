@@ -122,6 +122,15 @@ module _ (rules : List Rule) (tokens : List SymbolId) (f : Found) (sound : IsSou
     distinct = sound.distinct;
   }
 
+  -- what is noted of openers holds of the old nodes' states
+  pub opener_stays : (i node : ℕ) → IsOpener rules f i node → IsOpener rules (with_nodes f kernels f.nodes) i node
+  unfolding with_states
+  opener_stays i node is = record {
+    within = is.within;
+    behind = is.behind;
+    none_before = λ other kernel n l. is.none_before other kernel (node_back rules tokens f with_states sound states_grow (node_below n) n) l;
+  }
+
 -- ---- one more node
 
 module _ (rules : List Rule) (tokens : List SymbolId) (f : Found) (sound : IsSoundGraph rules tokens f) (state at : ℕ) (kernel : List Item)
