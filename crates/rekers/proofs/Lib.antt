@@ -16,3 +16,4 @@ pub mod FoundSpans
 pub mod Complete
 pub mod FoundSizes
 pub mod AtEnd
+pub mod LevelSteps

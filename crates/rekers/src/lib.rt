@@ -7,6 +7,7 @@
 
 mod laws;
 mod level;
+mod levels;
 mod limits;
 mod linking;
 mod nodes;

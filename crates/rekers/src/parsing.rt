@@ -92,12 +92,7 @@ impl Parser {
         ensures scans { (G.means graph.new).scans ≡ (G.means graph.old).scans }
         ensures never_back { steps.old ≤ steps.new }
     {
-        self.begin(graph, tokens, steps)?;
-        self.reduce_level(graph, tokens, steps)?;
-        'tokens: for token in tokens {
-            self.shift(graph, tokens, token.kind, steps)?;
-            self.reduce_level(graph, tokens, steps)?;
-        }
+        self.levels(graph, tokens, steps)?;
         let parsed = self.answer(alloc, graph, tokens)?;
         Ok(parsed)
     }

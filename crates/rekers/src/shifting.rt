@@ -129,6 +129,7 @@ impl Parser {
         ensures sound { UnlessNoMemory result (IsSound (G.means graph.new).grammar.rules (kinds_of tokens.now) self.new) }
         ensures placed { UnlessNoMemory result (ArePlaced (found self.old) → ArePlaced (found self.new)) }
         ensures asks { UnlessNoMemory result (AsksNew self.old.states.kernels self.new.states.kernels (G.means graph.old) (G.means graph.new) steps.old steps.new) }
+        ensures grows { UnlessNoMemory result (Grows (found self.old) (found self.new)) }
         ensures at { OnOk result (self.new.level.at ≡ self.old.level.at + 1) }
         ensures worked { OnOk result (IsWorked (G.means graph.old).grammar.rules (found self.new) self.new.level.first_link self.new.level.first_node) }
         ensures shifted { OnOk result (AreShifted (G.means graph.old).grammar.rules (kinds_of tokens.now) (found self.new) self.new.level.at) }
