@@ -52,6 +52,17 @@ keeps_longer xs ys keeps = elim (cases_lt (length ys) (length xs)) [
   | inr most ↦ omega (arith, most)
 ]
 
+pub keeps_none : {X : Type 0} (xs : List X) → Keeps [] xs
+keeps_none xs place x e = absurd (omega (arith, slice_get_within [] place x e))
+
+-- a state that has a node is reached
+reached : (rules : List Rule) (tokens : List SymbolId) (f : Found) → IsSoundGraph rules tokens f → ArePlaced f → (kernel : List Item)
+    → IsNew [] f.kernels kernel → IsReached rules tokens kernel
+reached rules tokens f graph placed kernel is =
+    let (number, past, there) = is in
+    let (node, i, at) = placed number kernel there in
+    (i, node_state rules tokens f graph at)
+
 module _ {Base : Type 0} where
   pub asks_join : (a b c : List (List Item)) (old middle new : Meaning Base) (before between after : ℕ) → Keeps a b → Keeps b c
       → AsksNew a b old middle before between → AsksNew b c middle new between after → AsksNew a c old new before after
@@ -74,17 +85,6 @@ module _ {Base : Type 0} where
     ];
     rises = rise_join old middle new before between after first.rises second.rises;
   }
-
-  pub keeps_none : {X : Type 0} (xs : List X) → Keeps [] xs
-  keeps_none xs place x e = absurd (omega (arith, slice_get_within [] place x e))
-
-  -- a state that has a node is reached
-  reached : (rules : List Rule) (tokens : List SymbolId) (f : Found) → IsSoundGraph rules tokens f → ArePlaced f → (kernel : List Item)
-      → IsNew [] f.kernels kernel → IsReached rules tokens kernel
-  reached rules tokens f graph placed kernel is =
-      let (number, past, there) = is in
-      let (node, at) = placed number kernel there in
-      (at.0, node_state rules tokens f graph at.1)
 
   pub asks_some : (rules : List Rule) (tokens : List SymbolId) (f : Found) (old new : Meaning Base) (before after : ℕ) → rules ≡ old.grammar.rules
       → IsSoundGraph rules tokens f → ArePlaced f → AsksNew [] f.kernels old new before after → AsksSomeStates tokens old new
