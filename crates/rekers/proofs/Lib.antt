@@ -11,3 +11,7 @@ pub mod LinkedParsers
 pub mod Growing
 pub mod ForestSpans
 pub mod Sizes
+pub mod Stepping
+pub mod Walks
+pub mod WalkedTo
+pub mod DownLinks

@@ -130,6 +130,7 @@ pub record IsWalked (rules : List Rule) (old new : Found) (walk : Walk) (at : �
 -- The walk has come down to the node by the trail, which is the end of the list, and so many links are left to go.
 pub record IsWalking (rules : List Rule) (f : Found) (first_link at : ℕ) (walk : Walk) (node left : ℕ) (met : Bool) (trail : List ℕ) : Type 0 where
   pub labels : List ℕ
+  pub room : left ≤ length trail
   pub partial : IsPartial rules f walk.reduction node left (drop left trail) labels walk.top at
   pub link : walk.through < length f.links
   pub of_level : first_link ≤ walk.through

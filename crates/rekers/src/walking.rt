@@ -1,6 +1,6 @@
 //! Walks down the links, which find the trails of reductions.
 
-ghost use Rattle.std.specs.Prelude.{◌≡◌, ◌≤◌, ◌<◌, ◌+◌, IfErr, OnOk, length, drop};
+ghost use Rattle.std.specs.Prelude.{◌≡◌, ◌⊎◌, ◌↔◌, ◌≤◌, ◌<◌, ◌+◌, ◌∷◌, IfErr, OnOk, IsTrue, length, drop};
 ghost use Rattle.parser_states.specs.Asked.{Stands};
 ghost use Rattle.rekers.specs.Answers.{kinds_of, UnlessNoMemory};
 ghost use Rattle.rekers.specs.Found.{found};
@@ -15,6 +15,25 @@ use forest::Token;
 use live_graph::Graph;
 use std::sync::ledger::Ledger;
 use steps::Steps;
+
+/// Puts the link into the trail, below the ones that were met before it.
+fn put(trail: &mut Vec<u32>, place: u32, link: u32)
+    requires { place < length trail.old.items }
+    ensures puts { drop place trail.new.items ≡ link ∷ drop (place + 1) trail.old.items }
+    ensures size { length trail.new.items ≡ length trail.old.items }
+{
+    trail[place as usize] = link;
+}
+
+/// Whether the link to go through was met before, or is this one.
+fn is_met(met: bool, link: u32, through: u32) -> bool
+    ensures { IsTrue result ↔ (IsTrue met ⊎ (link ≡ through)) }
+{
+    if met {
+        return true;
+    }
+    link == through
+}
 
 impl Parser {
     /// Makes the reductions of all trails that go on from the node for so many links down. Whether the link that they
@@ -54,9 +73,9 @@ impl Parser {
             if link > walk.through {
                 return Ok(());
             }
-            self.trail[left as usize - 1] = link;
+            put(&mut self.trail, left - 1, link);
             let lower = self.stacks.edge(link).lower;
-            let meets = met || link == walk.through;
+            let meets = is_met(met, link, walk.through);
             self.walk(graph, tokens, walk, lower, left - 1, meets, steps)?;
             next = self.stacks.next_link(link);
         }
