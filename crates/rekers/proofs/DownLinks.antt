@@ -1,5 +1,5 @@
 -- A walk's loop over the links down from a node.
-use Rattle.std.proofs.Common.{◌≡◌, ℕ, zero, suc, ◌+◌, ◌-◌, ◌<◌, ◌≤◌, ◌↔◌, ◌⊎◌, inl, inr, List, [], ◌∷◌, length, drop, Option, None, Some, IfSome, IfNone, IsTrue, Bool, Contains}
+use Rattle.std.proofs.Common.{◌≡◌, ℕ, zero, suc, ◌+◌, ◌-◌, ◌<◌, ◌≤◌, ◌↔◌, ◌⊎◌, inl, inr, List, [], ◌∷◌, length, drop, Option, None, Some, IfSome, IfNone, Result, Err, IsTrue, Bool, Contains}
 use Rattle.std.proofs.Common.{refl, sym, ◌∙◌, ap, subst, arith, slice_get}
 use Rattle.std.specs.declared.alloc.Global.{Global}
 use Rattle.std.specs.declared.vec.Vec.{Vec}
@@ -17,6 +17,9 @@ use Rattle.gss.specs.PlaceGraphs.{LeadsFrom, LeadsFromSame, edge_of}
 use Rattle.parser_states.specs.Asked.{Stands}
 use Rattle.rekers.specs.declared.parser.Parser.{Parser}
 use Rattle.rekers.specs.declared.walk.Walk.{Walk}
+use Rattle.rekers.specs.declared.parse_error.ParseError.{ParseError}
+use Rattle.rekers.specs.declared.parse_error.ParseError.TheVariants.{TooLarge, NoMemory}
+use Rattle.rekers.specs.Answers.{UnlessNoMemory}
 use Rattle.rekers.specs.declared.level.Level.{Level}
 use Rattle.rekers.specs.Found.{Found, found, Keeps, Grows}
 use Rattle.rekers.specs.Reductions.{IsPartial}
@@ -271,3 +274,15 @@ pub walked_out : (rules : List Rule) (tokens : List SymbolId) (p : Parser) → I
 walked_out rules tokens p sound walk node left met not_met before walking = walked_below rules tokens (found p) sound.graph p.level.at p.level.first_node
     p.level.first_link sound.level walk p.level.at node left (drop left p.trail.items) walking.labels walking.partial walking.of_level
     (λ c. not_met (walking.meets.1 c)) before
+
+-- what holds unless memory ran out is passed on with the error
+pub unless_on : {Y : Type 0} {P Q : Type 0} (e : ParseError) (r : Result Y ParseError) → ((y : ParseError) × (r ≡ Err y) × (y ≡ e)) → (P → Q)
+    → UnlessNoMemory {X = Unit {0}} (Err e) P → UnlessNoMemory r Q
+unless_on {Y} {P} {Q} e r (y, is, same) on holds = subst (λ x. UnlessNoMemory {X = Y} x Q) (sym (is ∙ ap Err same)) (by e holds)
+  where
+    by : (e : ParseError) → UnlessNoMemory {X = Unit {0}} (Err e) P → UnlessNoMemory {X = Y} (Err e) Q
+    by (TooLarge count) p = on p
+    by NoMemory p = tt
+
+pub within_trail : (p : Parser) (trail : Vec ℕ Global) → IsWithinLimit p → IsWithinLimit (record p { trail = trail })
+within_trail p trail within = record { few = within.few; limit = within.limit }

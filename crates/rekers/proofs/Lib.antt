@@ -15,3 +15,4 @@ pub mod Stepping
 pub mod Walks
 pub mod WalkedTo
 pub mod DownLinks
+pub mod Worked
