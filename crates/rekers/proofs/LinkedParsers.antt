@@ -13,7 +13,7 @@ use Rattle.gss.specs.PlaceGraphs.{PlaceGraph, place_of, edge_of}
 use Rattle.packed_spans.specs.declared.span.Span.{Span}
 use Rattle.packed_spans.specs.declared.span.TheConstants.{TOKEN_PART}
 use Rattle.packed_spans.specs.Packed.{Packed, PackedSplit}
-use Rattle.packed_spans.specs.Complete.{IsPartAt, token, span}
+use Rattle.packed_spans.specs.Complete.{IsPartAt, of_token, of_span}
 use Rattle.rekers.specs.declared.parser.Parser.{Parser}
 use Rattle.rekers.specs.Found.{Found, found, Keeps, Grows}
 use Rattle.rekers.specs.Reductions.{IsLinkTo}
@@ -81,7 +81,7 @@ module _ (rules : List Rule) (tokens : List SymbolId) (p : Parser) (sound : IsSo
       let spans' = p.spans.spans ++ own_span ∷ [] in
       let keep = keeps_append p.spans.spans (own_span ∷ []) in
       let keeps = subst (λ os. Keeps p.owners.items os) (sym owns) (keeps_append p.owners.items (length p.stacks.links ∷ [])) in
-      let part : IsPartAt rules tokens spans' x linkable.from label p.level.at = span nonterminal (at_end p.spans.spans own_span) in
+      let part : IsPartAt rules tokens spans' x linkable.from label p.level.at = of_span nonterminal (at_end p.spans.spans own_span) in
       let owned : length owners.items ≡ length spans' = omega (
         arith,
         ap length owns,

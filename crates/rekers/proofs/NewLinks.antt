@@ -11,7 +11,7 @@ use Rattle.gss.specs.declared.stack_graph.Place.{Place}
 use Rattle.gss.specs.declared.stack_graph.Edge.{Edge}
 use Rattle.gss.specs.PlaceGraphs.{place_of, edge_of}
 use Rattle.packed_spans.specs.declared.span.Span.{Span}
-use Rattle.packed_spans.specs.Complete.{IsPartAt, token, span}
+use Rattle.packed_spans.specs.Complete.{IsPartAt, of_token, of_span}
 use Rattle.packed_spans.specs.Packed.{PackedSplit}
 use Rattle.rekers.specs.States.{IsStateAt}
 use Rattle.rekers.specs.Size.{IsLink}
@@ -89,7 +89,7 @@ module _ (rules : List Rule) (tokens : List SymbolId) (f : Found) (sound : IsSou
   -- no old link is the same
   other_link : (link : ℕ) (old : Edge) (place : Place) → slice_get f.links link ≡ Some old → old.lower ≡ lower → old.symbol ≡ x
       → slice_get f.nodes old.upper ≡ Some place → place.at ≡ at → ⊥
-  other_link link old place e low same up here = unlinked link (link_here f at first_node first_link level link old e place up here, (old, e, low, same))
+  other_link link old place e low same up here = unlinked link (link_here f at first_node first_link level link old e place up here, old, e, low, same)
 
   pub link_joins : IsPartAt rules tokens spans x linkable.from label at → length owners ≡ length spans
       → ((number owner : ℕ) → slice_get owners number ≡ Some owner → (slice_get f.owners number ≡ Some owner)

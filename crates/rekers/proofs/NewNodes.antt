@@ -10,7 +10,7 @@ use Rattle.item_sets.specs.Expansions.{HasMove}
 use Rattle.gss.specs.declared.stack_graph.Place.{Place}
 use Rattle.gss.specs.declared.stack_graph.Edge.{Edge}
 use Rattle.gss.specs.PlaceGraphs.{place_of, HasNode}
-use Rattle.packed_spans.specs.Complete.{IsPartAt, token, span}
+use Rattle.packed_spans.specs.Complete.{IsPartAt, of_token, of_span}
 use Rattle.parser_states.specs.Reductions.{Opens}
 use Rattle.rekers.specs.States.{IsStateAt}
 use Rattle.rekers.specs.Found.{Found, IsNode, Keeps, Grows}
@@ -77,8 +77,8 @@ module _ (rules : List Rule) (tokens : List SymbolId) (f g : Found) (sound : IsS
   }
     where
       part_grows : {x : SymbolId} {i label j : ℕ} → IsPartAt rules tokens f.spans x i label j → IsPartAt rules tokens g.spans x i label j
-      part_grows (token e n) = token e n
-      part_grows (span y e) = span y (grows.spans _ _ e)
+      part_grows (of_token e n) = of_token e n
+      part_grows (of_span y e) = of_span y (grows.spans _ _ e)
 
   -- the first node that moves on the symbol stays the first, since new ones have greater numbers
   pub first_stays : {node : ℕ} {x : SymbolId} → node < length f.nodes → IsFirst rules f node x → IsFirst rules g node x

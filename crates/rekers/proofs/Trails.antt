@@ -16,7 +16,7 @@ use Rattle.gss.specs.declared.stack_graph.Edge.{Edge}
 use Rattle.gss.specs.PlaceGraphs.{place_of, edge_of}
 use Rattle.packed_spans.specs.declared.span.Span.{Span}
 use Rattle.packed_spans.specs.declared.span.TheConstants.{TOKEN_PART}
-use Rattle.packed_spans.specs.Complete.{IsPartAt, token, span, StandsAlong, done as stands, part as stands_on}
+use Rattle.packed_spans.specs.Complete.{IsPartAt, of_token, of_span, StandsAlong, no_parts as stands, next_part as stands_on}
 use Rattle.packed_spans.specs.Packed.{PackedSplit}
 use Rattle.parser_states.specs.declared.reduction.Reduction.{Reduction}
 use Rattle.parser_states.specs.Reductions.{reduction_by}
@@ -43,8 +43,8 @@ pub record IsBetween (rules : List Rule) (tokens : List SymbolId) (f : Found) (u
 pub part_cases : {rules : List Rule} {tokens : List SymbolId} {spans : List Span} {x : SymbolId} {i j label : ℕ} → IsPartAt rules tokens spans x i label j
     → ((IsNonterminal rules x → ⊥) × (slice_get tokens i ≡ Some x) × (j ≡ suc i) × (label ≡ TOKEN_PART))
     ⊎ (IsNonterminal rules x × (slice_get spans label ≡ Some (record { symbol = x; from = i; to = j })))
-part_cases (token e n) = inl (n, e, refl, refl)
-part_cases (span y e) = inr (y, e)
+part_cases (of_token e n) = inl (n, e, refl, refl)
+part_cases (of_span y e) = inr (y, e)
 
 -- where a token or a span of a symbol begins, its label tells its end
 pub one_end : {rules : List Rule} {tokens : List SymbolId} {spans : List Span} {x : SymbolId} {i j k label : ℕ} → IsPartAt rules tokens spans x i label j

@@ -1,6 +1,6 @@
 //! Links by left sides, and their spans.
 
-ghost use Rattle.std.specs.Prelude.{◌≡◌, ◌≢◌, ◌≤◌, ◌<◌, ◌+◌, ◌^◌, ◌++◌, ◌∷◌, [], ℕ, Some, IfOk, OnOk, length, slice_get};
+ghost use Rattle.std.specs.Prelude.{◌≡◌, ◌≢◌, ◌≤◌, ◌<◌, ◌+◌, ◌^◌, ◌++◌, ◌∷◌, [], ℕ, Some, IfOk, OnOk, IsTrue, length, slice_get};
 ghost use Rattle.forest.specs.Derivation.{IsNonterminal};
 ghost use Rattle.gss.specs.declared.stack_graph.Place.{Place};
 ghost use Rattle.gss.specs.PlaceGraphs.{edge_of};
@@ -18,6 +18,13 @@ use live_graph::{Graph, NoMemory};
 use std::sync::ledger::Ledger;
 use steps::Steps;
 
+/// Whether a level stays flat with a link down to the node.
+fn stays_flat(is_flat: bool, lower: u32, first_node: u32) -> bool
+    ensures { IsTrue result → IsTrue is_flat × (lower < first_node) }
+{
+    is_flat && lower < first_node
+}
+
 impl Parser {
     /// The first made node at the place of this node that moves on the symbol.
     fn first_opener<G: Graph>(
@@ -32,12 +39,13 @@ impl Parser {
         requires nonterminal { IsNonterminal (G.means _graph.now).grammar.rules symbol }
         ensures { IsFirstOf (G.means _graph.now).grammar.rules (found self.now) node symbol result }
     {
-        let at = self.stacks.place(node).at as usize;
-        let mut first = self.openers[at];
-        while first < node && !self.states.has_move(self.stacks.place(first).state, symbol) {
-            first += 1;
+        let at = self.stacks.place(node).at;
+        for other in self.openers[at as usize]..node {
+            if self.states.has_move(self.stacks.place(other).state, symbol) {
+                return other;
+            }
         }
-        first
+        node
     }
 
     /// Adds a link between the nodes, under the label.
@@ -64,9 +72,7 @@ impl Parser {
         ensures same { OnOk result (self.new ≡ record self.old { stacks = self.new.stacks; is_flat = self.new.is_flat }) }
     {
         let link = self.stacks.add_link(upper, symbol, lower, label)?;
-        if lower >= self.level.first_node {
-            self.is_flat = false;
-        }
+        self.is_flat = stays_flat(self.is_flat, lower, self.level.first_node);
         Ok(link)
     }
 
@@ -98,9 +104,7 @@ impl Parser {
         let span = self.spans.add_span(symbol, from, self.level.at)?;
         let link = self.stacks.add_link(upper, symbol, lower, span)?;
         self.owners.push(link)?;
-        if lower >= self.level.first_node {
-            self.is_flat = false;
-        }
+        self.is_flat = stays_flat(self.is_flat, lower, self.level.first_node);
         Ok(link)
     }
 
