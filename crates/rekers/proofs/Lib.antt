@@ -11,3 +11,10 @@ pub mod LinkedParsers
 pub mod Growing
 pub mod ForestSpans
 pub mod Sizes
+pub mod Stepping
+pub mod NewSplits
+pub mod Begun
+pub mod Advanced
+pub mod Shifted
+pub mod Reduced
+pub mod ShiftedNodes

@@ -6,3 +6,4 @@ pub mod Found
 pub mod Reductions
 pub mod Sound
 pub mod Steps
+pub mod Shifts

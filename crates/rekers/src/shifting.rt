@@ -4,6 +4,7 @@ ghost use Rattle.std.specs.Prelude.{◌≡◌, ◌≤◌, ◌<◌, ◌+◌, ◌�
 ghost use Rattle.forest.specs.Derivation.{AreTerminals};
 ghost use Rattle.item_sets.specs.declared.item.Item.{Item};
 ghost use Rattle.item_sets.specs.Expansions.{HasMove};
+ghost use Rattle.edit_log.specs.Facts.{IsWellFormed};
 ghost use Rattle.edit_log.specs.declared.limits.TheConstants.{TOKEN_LIMIT};
 ghost use Rattle.parser_states.specs.Asked.{Stands, AsksNew};
 ghost use Rattle.packed_spans.specs.declared.span.TheConstants.{TOKEN_PART};
@@ -11,6 +12,7 @@ ghost use Rattle.rekers.specs.Answers.{kinds_of, UnlessNoMemory};
 ghost use Rattle.rekers.specs.Found.{found, IsNode, Grows};
 ghost use Rattle.rekers.specs.Reductions.{IsWorked, IsLinkTo};
 ghost use Rattle.rekers.specs.Sound.{IsSound, ArePlaced};
+ghost use Rattle.rekers.specs.Shifts.{AreBefore, IsBefore, AreShiftedFrom};
 ghost use Rattle.rekers.specs.Steps.{IsStep, IsWithinLimit, IsAboveLimit, IsUnlinked, AreShifted, IsShift, Advances};
 
 use crate::level::Level;
@@ -22,6 +24,13 @@ use live_graph::{Graph, NoMemory};
 use packed_spans::TOKEN_PART;
 use std::sync::ledger::Ledger;
 use steps::Steps;
+
+/// Each grammar is well-formed. This is told to a contract, and nothing is done.
+fn is_formed(grammar: &Grammar)
+    ensures { IsWellFormed grammar.now.grammar }
+{
+    grammar.version();
+}
 
 impl Parser {
     /// Begins with the start at place 0.
@@ -52,6 +61,7 @@ impl Parser {
         };
         self.is_flat = true;
         self.states.start(graph, steps)?;
+        is_formed(graph.grammar());
         self.openers.push(0)?;
         self.stacks.add_node(0, 0)?;
         Ok(())
@@ -112,6 +122,34 @@ impl Parser {
         Ok(())
     }
 
+    /// Shifts the token from the nodes of the level before, which has those from the first number to the past one.
+    fn shift_nodes<G: Graph, L: Ledger>(
+        &mut self,
+        graph: &mut G,
+        tokens: &[Token],
+        first: u32,
+        kind: SymbolId,
+        steps: &mut Steps<L>,
+    ) -> Result<(), ParseError>
+        requires sound { IsSound (G.means graph.old).grammar.rules (kinds_of tokens.now) self.old }
+        requires within { IsWithinLimit self.old }
+        requires first { AreBefore (found self.old) first self.old.level.first_node self.old.level.at }
+        requires kind { IsBefore (kinds_of tokens.now) kind self.old.level.at }
+        requires links { self.old.level.first_link ≡ length self.old.stacks.links }
+        ensures step { UnlessNoMemory result (IsStep (kinds_of tokens.now) self.old self.new (G.means graph.old) (G.means graph.new) steps.old steps.new) }
+        ensures shifted { OnOk result (AreShiftedFrom (G.means graph.old).grammar.rules (found self.new) first self.old.level.first_node kind self.old.level.at) }
+        ensures splits { UnlessNoMemory result (self.new.spans.splits ≡ self.old.spans.splits) }
+        ensures within { OnOk result (IsWithinLimit self.new) }
+        ensures above { IfErr result (IsAboveLimit self.new) }
+        ensures stands { Stands (G.means graph.old) (G.means graph.new) }
+        ensures never_back { steps.old ≤ steps.new }
+    {
+        for node in first..self.level.first_node {
+            self.shift_node(graph, tokens, node, kind, steps)?;
+        }
+        Ok(())
+    }
+
     /// Shifts the token at the place of the level, from its nodes to the next level.
     pub(crate) fn shift<G: Graph, L: Ledger>(
         &mut self,
@@ -128,6 +166,7 @@ impl Parser {
         requires shifted { AreShifted (G.means graph.old).grammar.rules (kinds_of tokens.now) (found self.old) self.old.level.at }
         ensures sound { UnlessNoMemory result (IsSound (G.means graph.new).grammar.rules (kinds_of tokens.now) self.new) }
         ensures placed { UnlessNoMemory result (ArePlaced (found self.old) → ArePlaced (found self.new)) }
+        ensures grows { UnlessNoMemory result (Grows (found self.old) (found self.new)) }
         ensures asks { UnlessNoMemory result (AsksNew self.old.states.kernels self.new.states.kernels (G.means graph.old) (G.means graph.new) steps.old steps.new) }
         ensures at { OnOk result (self.new.level.at ≡ self.old.level.at + 1) }
         ensures worked { OnOk result (IsWorked (G.means graph.old).grammar.rules (found self.new) self.new.level.first_link self.new.level.first_node) }
@@ -139,9 +178,7 @@ impl Parser {
     {
         let first = self.level.first_node;
         self.advance(graph, tokens)?;
-        for node in first..self.level.first_node {
-            self.shift_node(graph, tokens, node, kind, steps)?;
-        }
+        self.shift_nodes(graph, tokens, first, kind, steps)?;
         Ok(())
     }
 }
