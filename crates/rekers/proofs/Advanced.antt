@@ -15,13 +15,6 @@ use Rattle.rekers.proofs.NewNodes.{old_or_last}
 use Rattle.rekers.proofs.PlacedNodes.{highest}
 
 module _ (rules : List Rule) (tokens : List SymbolId) (p : Parser) (sound : IsSound rules tokens p) where
-  nodes : ℕ
-  nodes = length p.stacks.nodes
-
-  -- the level behind the last one, where there is nothing yet
-  abbrev pub next_level : Level
-  next_level = record { at = p.level.at + 1; first_node = length p.stacks.nodes; first_link = length p.stacks.links }
-
   next_is_level : IsLevel (found p) (p.level.at + 1) (length p.stacks.nodes) (length p.stacks.links)
   next_is_level = record {
     nodes_within = omega arith;

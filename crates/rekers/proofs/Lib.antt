@@ -18,3 +18,4 @@ pub mod Advanced
 pub mod Shifted
 pub mod Reduced
 pub mod ShiftedNodes
+pub mod LevelShifted

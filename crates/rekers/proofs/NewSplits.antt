@@ -49,8 +49,8 @@ labels_more links trail place edge labels more below e so_far is =
     let label_of : ℕ → ℕ = λ link. (slice_index_or links link (edge_of 0 START 0 0)).label in
     let front = take place trail in
     let link = get_or trail place 0 in
-    let here : edge.label ≡ label_of link = ap (λ (q : Edge). q.label) (sym (edge_at links link edge (edge_of 0 START 0 0) e)) in
-    is ∙ ap (λ ns. ns ++ edge.label ∷ []) so_far ∙ ap (λ n. map label_of front ++ n ∷ []) here ∙ sym (map-append label_of front (link ∷ []))
+    let same : edge.label ≡ label_of link = ap (λ (q : Edge). q.label) (sym (edge_at links link edge (edge_of 0 START 0 0) e)) in
+    is ∙ ap (λ ns. ns ++ edge.label ∷ []) so_far ∙ ap (λ n. map label_of front ++ n ∷ []) same ∙ sym (map-append label_of front (link ∷ []))
     ∙ ap (λ ns. map label_of ns) (sym (take_more trail place 0 below))
 
 -- ---- distinct lists

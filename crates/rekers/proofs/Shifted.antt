@@ -119,8 +119,8 @@ module _ (rules : List Rule) (tokens : List SymbolId) (f g : Found) (sound : IsS
       (link, link_grows f g grows is)
     | inr above ↦
       let same : other ≡ node = omega (arith, above, high) in
-      let here : IsNode g node kernel i = subst (λ m. IsNode g m kernel i) same n in
-      let (link, is) = this kernel i (node_back rules tokens f g sound grows within here) moves in
+      let own : IsNode g node kernel i = subst (λ m. IsNode g m kernel i) same n in
+      let (link, is) = this kernel i (node_back rules tokens f g sound grows within own) moves in
       (link, subst (λ m. IsLinkTo g link m kind at TOKEN_PART) (sym same) is)
   ]
 
@@ -128,7 +128,7 @@ module _ (rules : List Rule) (tokens : List SymbolId) (f g : Found) (sound : IsS
   pub are_shifted : (at first_node first_link : ℕ) → IsLevel f at first_node first_link → IsLevel g (at + 1) (length f.nodes) (length f.links)
       → AreShifted rules tokens f at → (kind : SymbolId) → slice_get tokens at ≡ Some kind → AreShiftedFrom rules g first_node (length f.nodes) kind (at + 1)
       → AreShifted rules tokens g (at + 1)
-  are_shifted at first_node first_link level next before kind token here node i kernel x n is below moves =
+  are_shifted at first_node first_link level next before kind is_token from_here node i kernel x n is below moves =
       let old : node < length f.nodes = elim (cases_lt node (length f.nodes)) [
         | inl less ↦ less
         | inr more ↦
@@ -148,8 +148,8 @@ module _ (rules : List Rule) (tokens : List SymbolId) (f g : Found) (sound : IsS
               absurd (omega (arith, lower, same))
             | inr more ↦ more
           ] in
-          let kinds : x ≡ kind = one_at tokens at x kind (subst (λ k. slice_get tokens k ≡ Some x) same is) token in
-          let (link, leads) = here node low old kernel i n (subst (λ y. HasMove rules (Contains kernel) y) kinds moves) in
+          let kinds : x ≡ kind = one_at tokens at x kind (subst (λ k. slice_get tokens k ≡ Some x) same is) is_token in
+          let (link, leads) = from_here node low old kernel i n (subst (λ y. HasMove rules (Contains kernel) y) kinds moves) in
           (link, subst (λ y. IsLinkTo g link node y (i + 1) TOKEN_PART) (sym kinds) (subst (λ k. IsLinkTo g link node kind (k + 1) TOKEN_PART) (sym same) leads))
       ]
 
