@@ -1,0 +1,4 @@
+pub mod States
+pub mod Size
+pub mod Answers
+pub mod Asked

@@ -1,0 +1,18 @@
+//! The forest of a text, by a graph-structured stack over item sets that a graph expands by need.
+//!
+//! A node is an item set at a place between tokens, and a link joins two nodes by a symbol that derives what lies between
+//! them. Reductions are found by walks down links, each once, from one queue of links. Spans with their splits are packed
+//! as they are found, and the forest is what is reached from START among them.
+#![tactic(auto)]
+
+mod laws;
+mod limits;
+mod parse_error;
+mod parsed;
+mod parsing;
+
+pub use laws::{one_answer, one_last_viable, one_size, within_or_above};
+pub use limits::{SIZE_LIMIT, limits_of_parses};
+pub use parse_error::ParseError;
+pub use parsed::Parsed;
+pub use parsing::parse;
