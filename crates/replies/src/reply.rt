@@ -1,50 +1,13 @@
 //! Replies to commands, as data.
 
-ghost use Rattle.std.specs.Prelude.{◌≡◌};
-
 use edit_log::Refusal;
-use forest::{Forest, Token};
+use forest::Token;
 use isg_scan::ScanError;
-use std::marker::Model;
+use lists::ListOf;
+use rekers::Parsed;
 
-/// Tokens in the order of their text. A contract sees the list of them.
-#[derive(Drop)]
-pub struct TokenList {
-    items: Vec<Token>,
-}
-
-impl Model for TokenList {
-    ghost use Rattle.std.specs.Prelude.{List};
-    ghost use Rattle.forest.specs.declared.symbols.Token.{Token};
-
-    ghost Value = { List Token };
-
-    ghost view = { λ tokens. tokens.items.items };
-}
-
-impl TokenList {
-    /// The list of these tokens.
-    pub fn from_vec(items: Vec<Token>) -> TokenList
-        ensures { result ≡ items.items }
-    {
-        TokenList { items }
-    }
-
-    pub fn as_slice(&self) -> &[Token]
-        ensures { result.now ≡ self.now }
-    {
-        &self.items
-    }
-}
-
-/// What the tokens of a text are.
-#[derive(Drop)]
-pub enum Parsed {
-    /// A sentence, with this forest.
-    Forest(Forest),
-    /// No sentence.
-    NoSentence,
-}
+/// Tokens in the order of their text.
+pub type TokenList = ListOf<Token>;
 
 /// How the parse of a text came out.
 #[derive(Drop)]
@@ -53,7 +16,7 @@ pub enum Outcome {
     Parsed(Parsed),
     /// It has none. This is never [`ScanError::NoMemory`].
     Scan(ScanError),
-    /// It has more tokens than are parsed.
+    /// Its parse is larger than [`rekers::SIZE_LIMIT`].
     TooLarge,
 }
 
