@@ -1,15 +1,15 @@
 //! What the parser and the chart answer.
 
-ghost use Rattle.std.specs.Prelude.{◌≡◌, ◌≤◌, IfOk, length};
+ghost use Rattle.std.specs.Prelude.{◌≡◌, ◌≤◌, IfOk, IsTrue, length};
 ghost use Rattle.edit_log.specs.declared.limits.TheConstants.{TOKEN_LIMIT};
 ghost use Rattle.forest.specs.Derivation.{AreTerminals};
 ghost use Rattle.plain_chart.specs.declared.limits.TheConstants.{MOST_TOKENS};
 ghost use Rattle.rekers.specs.Answers.{kinds_of};
 
 use edit_log::TOKEN_LIMIT;
-use forest::{Forest, Rules, SymbolId, Token};
+use forest::{Forest, SymbolId, Token};
 use live_graph::Graph;
-use plain_chart::{ChartError, MOST_TOKENS, are_terminals, chart};
+use plain_chart::{MOST_TOKENS, are_terminals, chart};
 use rekers::{ParseError, Parsed, Parser};
 use std::alloc::{AllocError, Global};
 use std::sync::ledger::Ledger;
@@ -34,18 +34,25 @@ fn kinds_of(alloc: Global, tokens: &[Token]) -> Result<Vec<SymbolId>, AllocError
     Ok(kinds)
 }
 
+/// Whether no token is the left side of a rule, as parser and chart ask.
+fn may_ask<G: Graph>(graph: &G, kinds: &[SymbolId]) -> bool
+    ensures { IsTrue result → AreTerminals (G.means graph.now).grammar.rules kinds.now }
+{
+    are_terminals(graph.grammar().rules(), kinds)
+}
+
 /// The chart's forest, if there are few tokens.
-fn ask_chart(
+fn ask_chart<G: Graph>(
     alloc: Global,
-    rules: &Rules,
+    graph: &G,
     kinds: &[SymbolId],
 ) -> Result<Option<Option<Forest>>, AllocError>
-    requires { AreTerminals rules.now.rules kinds.now }
+    requires { AreTerminals (G.means graph.now).grammar.rules kinds.now }
 {
     if kinds.len() > MOST_TOKENS {
         return Ok(None);
     }
-    match chart(alloc, rules, kinds) {
+    match chart(alloc, graph.grammar().rules(), kinds) {
         Ok(answer) => Ok(Some(answer)),
         Err(_) => Err(AllocError),
     }
@@ -80,10 +87,10 @@ pub(crate) fn answers_of<G: Graph, L: Ledger>(
         return Ok(None);
     }
     let kinds = kinds_of(alloc, tokens)?;
-    if !are_terminals(graph.grammar().rules(), &kinds) {
+    if !may_ask(graph, &kinds) {
         return Ok(None);
     }
-    let charted = ask_chart(alloc, graph.grammar().rules(), &kinds)?;
+    let charted = ask_chart(alloc, graph, &kinds)?;
     let parsed = ask_parser(alloc, parser, graph, tokens, steps)?;
     Ok(Some(Answers { parsed, charted }))
 }

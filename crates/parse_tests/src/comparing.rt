@@ -23,7 +23,7 @@ pub(crate) struct Counts {
     texts: usize,
     forests: usize,
     nodes: usize,
-    splits: usize,
+    splits: u128,
     /// The places of all answers that a text is no sentence, added up.
     places: usize,
 }
