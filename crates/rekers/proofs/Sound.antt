@@ -14,11 +14,11 @@ use Rattle.rekers.specs.Size.{IsLink, IsVisited}
 use Rattle.rekers.proofs.Saturated.{IsPath, here, over, link_of}
 
 -- an item whose dot has moved is the set's own
-own_moved : {rules : List Rule} {K : Item → Type 0} {item : Item} → InClosure rules K item → 0 < item.dot → K item
+pub own_moved : {rules : List Rule} {K : Item → Type 0} {item : Item} → InClosure rules K item → 0 < item.dot → K item
 own_moved (own k) l = k
 own_moved (added c n r) l = absurd (omega arith)
 
-before_dot : {rules : List Rule} {K : Item → Type 0} {x : SymbolId} {item : Item} → InMove rules K x item → (d : ℕ) → item.dot ≡ suc d
+pub before_dot : {rules : List Rule} {K : Item → Type 0} {x : SymbolId} {item : Item} → InMove rules K x item → (d : ℕ) → item.dot ≡ suc d
     → InClosure rules K (item_at item.rule d) × IsNext rules (item_at item.rule d) x
 before_dot {rules} {K} {x} (past {k = k} {d = c} a n) d e =
     let same : c ≡ d = omega arith in subst (λ z. InClosure rules K (item_at k z) × IsNext rules (item_at k z) x) same (a, n)

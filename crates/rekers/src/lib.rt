@@ -6,13 +6,23 @@
 #![tactic(auto)]
 
 mod laws;
+mod level;
 mod limits;
+mod linking;
+mod nodes;
 mod parse_error;
 mod parsed;
+mod parser;
 mod parsing;
+mod queue;
+mod reducing;
+mod shifting;
+mod walk;
+mod walking;
 
 pub use laws::{one_answer, one_last_viable, one_size, within_or_above};
 pub use limits::{SIZE_LIMIT, limits_of_parses};
 pub use parse_error::ParseError;
 pub use parsed::Parsed;
+pub use parser::Parser;
 pub use parsing::parse;

@@ -1,0 +1,5 @@
+use Rattle.gss.proofs.Columns.{puts_first}
+use Rattle.gss.proofs.rows.put_first.Goals as goal
+
+pub returns : goal.returns
+returns c = puts_first c.args.nodes.now.items c.args.node c.args.link c.index_mut.result.now c.index_mut.ensures.value

@@ -1,0 +1,10 @@
+pub mod Lists
+pub mod Orders
+pub mod Links
+pub mod Marking
+pub mod Sweeping
+pub mod Parts
+pub mod Cuts
+pub mod Storing
+pub mod NodeLists
+pub mod Making

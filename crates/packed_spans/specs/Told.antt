@@ -1,0 +1,40 @@
+-- The splits of a forest's nodes that rows of splits tell.
+use Rattle.std.specs.Prelude.{◌≡◌, ℕ, ◌+◌, ◌≤◌, ◌==◌, List, [], ◌∷◌, map, if◌then◌else◌, slice_index, Contains, slice_get, Some}
+use Rattle.std.specs.List.Sorted.{IsStrictlySortedBy}
+use Rattle.forest.specs.declared.nodes.Split.{Split}
+use Rattle.forest.specs.Orders.{split_cmp}
+use Rattle.packed_spans.specs.declared.span.TheConstants.{TOKEN_PART}
+use Rattle.packed_spans.specs.declared.table.SpanRow.{SpanRow}
+use Rattle.packed_spans.specs.declared.table.SplitRow.{SplitRow}
+use Rattle.packed_spans.specs.Tables.{parts_of, IsRow}
+
+abbrev pub ends_in : List SpanRow → List ℕ
+ends_in = map (λ row. row.span.to)
+
+-- where the part ends that begins at this place
+abbrev pub end_at : List SpanRow → ℕ → ℕ → ℕ
+end_at spans at part = if part == TOKEN_PART then at + 1 else slice_index (ends_in spans) part
+
+-- where the parts end, one after the other
+abbrev pub ends_of : List SpanRow → ℕ → List ℕ → List ℕ
+ends_of spans at [] = []
+ends_of spans at (part ∷ parts) = end_at spans at part ∷ ends_of spans (end_at spans at part) parts
+
+-- where the last of them ends
+abbrev pub last_of : List SpanRow → ℕ → List ℕ → ℕ
+last_of spans at [] = at
+last_of spans at (part ∷ parts) = last_of spans (end_at spans at part) parts
+
+-- the split that the row tells where its span begins at this place
+abbrev pub told : List SpanRow → List ℕ → ℕ → SplitRow → Split
+told spans parts from row = record { rule = row.rule; cuts = from ∷ ends_of spans from (parts_of parts row) }
+
+-- exactly what the rows of the span tell, but for those below the link
+pub record AreTold (spans : List SpanRow) (splits : List SplitRow) (parts : List ℕ) (span from link : ℕ) (found : List Split) : Type 0 where
+  pub sound : (split : Split) → Contains found split → (row : SplitRow) × IsRow splits span row × (told spans parts from row ≡ split)
+  pub whole : (k : ℕ) (row : SplitRow) → link ≤ k → slice_get splits k ≡ Some row → row.span ≡ span → Contains found (told spans parts from row)
+
+-- in order, exactly what the rows of the span tell
+pub record AreSplitsOf (spans : List SpanRow) (splits : List SplitRow) (parts : List ℕ) (span from : ℕ) (found : List Split) : Type 0 where
+  pub order : IsStrictlySortedBy split_cmp found
+  pub exact : AreTold spans splits parts span from 0 found

@@ -1,0 +1,14 @@
+//! Spans, and what stands for a token.
+
+use forest::SymbolId;
+
+/// A symbol with the places between tokens where it begins and ends.
+#[derive(Clone, Copy, PartialEq, Eq)]
+pub struct Span {
+    pub symbol: SymbolId,
+    pub from: u32,
+    pub to: u32,
+}
+
+/// What stands for a token among the parts of a split. No span has this number.
+pub const TOKEN_PART: u32 = u32::MAX;

@@ -1,0 +1,99 @@
+//! The lists in which spans and splits lie.
+
+ghost use Rattle.std.specs.Prelude.{◌≡◌, ◌<◌, ◌++◌, ℕ, List, IfOk, OnOk, OnErr, Some, slice_get, length};
+ghost use Rattle.packed_spans.specs.Tables.{parts_of, IsStored, IsRowOf};
+
+use crate::span::{Span, TOKEN_PART};
+use forest::{NoMemory, RuleId};
+use std::alloc::AllocError;
+
+/// How many parts lie in the row of a split itself.
+pub(crate) const INLINE_PARTS: u32 = 2;
+
+/// A span with a link to its newest split. A link is one more than the number of a split, and 0 leads nowhere.
+#[derive(Clone, Copy, Drop)]
+pub(crate) struct SpanRow {
+    pub(crate) span: Span,
+    pub(crate) newest: u32,
+}
+
+/// A split of a span. Up to two parts are the first and the second. Of more, the first is where they begin in the
+/// list of parts.
+#[derive(Clone, Copy, Drop)]
+pub(crate) struct SplitRow {
+    pub(crate) span: u32,
+    pub(crate) rule: RuleId,
+    /// The link to the next older split of the span.
+    pub(crate) older: u32,
+    pub(crate) length: u32,
+    pub(crate) first: u32,
+    pub(crate) second: u32,
+}
+
+/// Spans and splits by number, and the parts of splits with more than two.
+#[derive(Drop)]
+pub(crate) struct Table {
+    pub(crate) spans: Vec<SpanRow>,
+    pub(crate) splits: Vec<SplitRow>,
+    pub(crate) parts: Vec<u32>,
+}
+
+impl Table {
+    /// A part of the split.
+    pub(crate) fn part(&self, row: SplitRow, index: u32) -> u32
+        requires stored { IsStored self.now.spans.items self.now.parts.items row }
+        requires index { index < row.length }
+        ensures { slice_get (parts_of self.now.parts.items row) index ≡ Some result }
+    {
+        if row.length > INLINE_PARTS {
+            return self.parts[row.first as usize + index as usize];
+        }
+        if index == 0 {
+            return row.first;
+        }
+        row.second
+    }
+}
+
+/// Puts the parts behind the others. Gives the place of the first.
+fn store(list: &mut Vec<u32>, parts: &[u32]) -> Result<u32, NoMemory>
+    ensures place { IfOk result (λ place. (place ≡ length list.old.items) × (list.new.items ≡ list.old.items ++ parts.now)) }
+    ensures refused { OnErr result (list.new.items ≡ list.old.items) }
+{
+    let Ok(place) = u32::try_from(list.len()) else {
+        return Err(AllocError);
+    };
+    list.extend_from_slice(parts)?;
+    Ok(place)
+}
+
+/// The row of a split with these parts, which go into the list where they are more than two.
+pub(crate) fn row_for(
+    list: &mut Vec<u32>,
+    span: u32,
+    rule: RuleId,
+    older: u32,
+    parts: &[u32],
+) -> Result<SplitRow, NoMemory>
+    ensures row { IfOk result (IsRowOf span rule older parts.now list.new.items) }
+    ensures grows { OnOk result ((more : List ℕ) × (list.new.items ≡ list.old.items ++ more)) }
+    ensures refused { OnErr result (list.new.items ≡ list.old.items) }
+{
+    let Ok(length) = u32::try_from(parts.len()) else {
+        return Err(AllocError);
+    };
+    let (first, second) = match parts {
+        [] => (TOKEN_PART, TOKEN_PART),
+        [first] => (*first, TOKEN_PART),
+        [first, second] => (*first, *second),
+        _ => (store(list, parts)?, TOKEN_PART),
+    };
+    Ok(SplitRow {
+        span,
+        rule,
+        older,
+        length,
+        first,
+        second,
+    })
+}

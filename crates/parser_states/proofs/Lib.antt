@@ -1,0 +1,15 @@
+pub mod PlainParts
+pub mod SymbolSearches
+pub mod LeftSides
+pub mod MovesAdded
+pub mod Told
+pub mod Uppers
+pub mod Lists
+pub mod ReductionsTold
+pub mod RowsKept
+pub mod NewRows
+pub mod MoreStates
+pub mod Keys
+pub mod AskedKernels
+pub mod Results
+pub mod Reading

@@ -1,0 +1,12 @@
+use Rattle.std.proofs.Common.{◌≡◌, Some, slice_get, sym, subst}
+use Rattle.parser_states.specs.Known.{Known, known}
+use Rattle.parser_states.specs.Expanded.{AreExpandedIn}
+use Rattle.parser_states.proofs.Reading.{row_told}
+use Rattle.parser_states.proofs.states.States.opens.Goals as goal
+
+pub returns : goal.returns
+returns c = λ rules kernel expanded named.
+    let states = known c.self.inside.table in
+    let row = row_told rules states (subst (AreExpandedIn rules) (sym c.self.view_is) expanded).told c.args.state kernel
+    (subst (λ (v : Known). slice_get v.kernels c.args.state ≡ Some kernel) (sym c.self.view_is) named) c.index.result.now c.index.ensures in
+    row.opens

@@ -1,0 +1,9 @@
+pub mod Reductions
+pub mod Leads
+pub mod Asked
+pub mod Expanded
+pub mod Parts
+pub mod Known
+pub mod Moves
+pub mod Finished
+pub mod Rows
