@@ -16,7 +16,6 @@ use Rattle.pin_rule.specs.declared.ops.Op.TheVariants as op
 use Rattle.pin_rule.specs.Layout.{place_word, row_word, entry, row_at}
 use Rattle.pin_rule.specs.Lists.{Each, In}
 use Rattle.pin_rule.specs.Views.{version_at}
-use Rattle.pin_rule.specs.PartLive.{IsVersions}
 use Rattle.pin_rule.specs.PartFacts.{EntryStands, WordStands, Knows, KnowsWhole}
 use Rattle.pin_rule.specs.Lawful.{Lawful}
 use Rattle.pin_rule.specs.Steps.{met_entry, met_word, version_of, after_load_place, after_load_row}
@@ -24,7 +23,8 @@ use Rattle.pin_rule.specs.Keeps.{Keeps}
 use Rattle.pin_rule.proofs.Lists.{each_in}
 use Rattle.pin_rule.proofs.Frames.{set_same}
 use Rattle.pin_rule.proofs.Seats.{IsAlike, IsSteady, none_some, same_some, owned_before, owned_after, claims_by}
-use Rattle.pin_rule.proofs.Versions.{Speaks, speaks, idle}
+use Rattle.pin_rule.proofs.Versions.{Speaks, speaks}
+use Rattle.pin_rule.proofs.Known.{known_reads}
 use Rattle.pin_rule.proofs.Settling.{settles, right_on}
 
 module _ (L : List Entry → Type 0) (F : List Entry → List ℕ → Type 0) (z : Sizes) (words : List ℕ) (views : List View) (id : ℕ) (v w : View)
@@ -35,7 +35,7 @@ module _ (L : List Entry → Type 0) (F : List Entry → List ℕ → Type 0) (z
       (right_on v w alike steady.pinned same_own (h.shares.rightful id v at)) steady
       (record { cur = refl; releases = λ _ _. refl; log = record { logs = λ _ _ _ _. refl; made = λ _ _ _ _ _. refl } })
       (claims_by z words h.role views (set views id w) (owned_before views id v w at same_own) (owned_after views id v w at same_own) h.claims)
-      (record { places = λ _ _ _ _. refl; in_use = λ _ _ c _. c; rows = λ _ _ _ _ _ _. refl }) knows whole
+      (record { places = λ _ _ _ _. refl; in_use = λ _ _ c _. c; rows = λ _ _ _ _ _ _. refl; given = λ _ _ _ _. refl }) knows whole
 
   -- the same where the word that was read is written again
   pub learns_met : (i n : ℕ) → slice_index words i ≡ n → IsAlike v w → IsSteady v w → w.own ≡ v.own → KnowsWhole z words h.role w → Knows z words h.role w
@@ -43,18 +43,17 @@ module _ (L : List Entry → Type 0) (F : List Entry → List ℕ → Type 0) (z
   learns_met i n e alike steady same_own whole knows = subst (λ (ws : List ℕ). Lawful L F z ws (set views id w))
       (sym (ap (set words i) (sym e) ∙ set_same words i)) (learns alike steady same_own whole knows)
 
-pub met_stands : (z : Sizes) (words : List ℕ) (role : Role) (live : IsVersions z role) (version : Option ℕ) (es : List EntryFact) (page place n : ℕ)
+pub met_stands : (z : Sizes) (words : List ℕ) (role : Role) (version : Option ℕ) (es : List EntryFact) (page place n : ℕ)
     → place < z.places
     → ((m : ℕ) → version ≡ Some m → Speaks role page m) → entry z words page place ≡ n → Each (EntryStands z words role) es
     → Each (EntryStands z words role) (met_entry version es place n)
-met_stands z words role live None es page place n inside of e h = h
-met_stands z words role live (Some m) es page place zero inside of e h = h
-met_stands z words role live (Some m) es page place (suc row) inside of e h = let s = of m refl in (
+met_stands z words role None es page place n inside of e h = h
+met_stands z words role (Some m) es page place zero inside of e h = h
+met_stands z words role (Some m) es page place (suc row) inside of e h = let s = of m refl in (
   record {
     known = s.0;
     live = λ l i is. (inside, ap (λ (p : ℕ). entry z words p place) (s.1 l i is) ∙ e);
-    given_up =
-        λ g is _. absurd (idle z role live g is);
+    given_up = λ g up is. (inside, ap (λ (p : ℕ). entry z words p place) (s.2 g up is) ∙ e);
   },
   h,
 )
@@ -80,16 +79,6 @@ word_stands z words role (Some version) es ws row index n is inside read h k = l
     )
 
 module _ (L : List Entry → Type 0) (F : List Entry → List ℕ → Type 0) (v : View) where
-  pub keeps_load_place : (page place : ℕ) → place < v.sizes.places → Keeps L F v (op.LoadPlace page place)
-  keeps_load_place page place inside words views id n h at e = let z = v.sizes in let w = after_load_place v page place n in let k = h.facts id v at in
-      learns_met L F z words views id v w at h (place_word z page place) n e (record { sizes = refl; share = refl; role = refl }) (record {
-        log = refl;
-        log_words = refl;
-        pinned = refl;
-        pins_left = refl;
-      }) refl (h.known id v at)
-      (met_stands z words h.role h.live (version_at v page) v.entries page place n inside (speaks L F z words views id v at h page) e k.0, k.1)
-
   pub keeps_load_row : (row index : ℕ) → index < v.sizes.width → Keeps L F v (op.LoadRow row index)
   keeps_load_row row index inside words views id n h at e = let z = v.sizes in let w = after_load_row v row index n in let k = h.facts id v at in
       learns_met L F z words views id v w at h (row_word z row index) n e (record { sizes = refl; share = refl; role = refl }) (record {
@@ -98,5 +87,5 @@ module _ (L : List Entry → Type 0) (F : List Entry → List ℕ → Type 0) (v
             refl;
         pinned = refl;
         pins_left = refl;
-      }) refl (h.known id v at)
+      }) refl (λ all. known_reads L F z words views id v at h all row index n inside e)
       (k.0, word_stands z words h.role (version_of v.entries row) v.entries v.words row index n refl inside e k.0 k.1)

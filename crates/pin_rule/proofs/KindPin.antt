@@ -46,7 +46,7 @@ module _ (L : List Entry → Type 0) (F : List Entry → List ℕ → Type 0) (z
     (at : get_elem? views id ≡ maybe.some v)
     (h : Lawful L F z words views) (long : length words' ≡ length words) (alike : IsAlike v w) (right : IsRightful w) (else_ : Elsewhere z words words') where
   kept : Kept z words words' h.role
-  kept = record { places = λ l p _ _. else_.entries l.page p; in_use = λ r _ c _. else_.claims r ∙ c; rows = λ r _ _ _ i _. sym (else_.rows r i) }
+  kept = record { places = λ l p _ _. else_.entries l.page p; in_use = λ r _ c _. else_.claims r ∙ c; rows = λ r _ _ _ i _. sym (else_.rows r i); given = λ g p _ _. else_.entries g.page p }
 
   pub repins : (taken : ℕ) → slice_index words' 0 ≡ current_of h.role taken → w.own ≡ v.own → (w.log ≡ v.log) → KnowsLog h.log w → Knows z words h.role w
       → KnowsWhole z words h.role w
@@ -110,6 +110,7 @@ module _ (L : List Entry → Type 0) (F : List Entry → List ℕ → Type 0) (v
               let below = older_below z role h.live y.0 y.1 in let is = ap (λ (m : Live). m.version) y.2 in
               let zero_more = pins_else l.version (pin_of n) (λ q. omega arith) in omega arith
         ];
+        from_base = λ l i. let b = h.pins.from_base l i in let r = cur-release z words x l.page in omega arith;
         released = λ page inside none. cur-release z words x page ∙ h.pins.released page inside none;
       })
       (let b = h.budget in let s = sum_same z.versions (release z words') (release z words) (λ page _. cur-release z words x page) in let t =
@@ -146,6 +147,9 @@ module _ (L : List Entry → Type 0) (F : List Entry → List ℕ → Type 0) (v
             (λ other. let r = release-release z words x p.page l.page other in
             let zero_more = pins_else l.version p (λ q. other (ap (λ (m : Live). m.page) (same_live z role h.live l l0.0 live l0.1 (sym q ∙ sym l0.2))
             ∙ l0.3)) in omega arith);
+        from_base = λ l i. let b = h.pins.from_base l i in dite (ℕ_discrete l.page p.page)
+            (λ same. let r0 = ap (release z words) same in let r1 = ap (release z words') same in omega arith)
+            (λ other. let r = release-release z words x p.page l.page other in omega arith);
         released = λ page inside none. release-release z words x p.page page (λ q. none l0.0 l0.1 (l0.3 ∙ sym q)) ∙ h.pins.released page inside none;
       })
       (let b = h.budget in let s = sum_more z.versions (release z words) (release z words') p.page my_page more

@@ -1,3 +1,4 @@
+pub mod Bools
 pub mod Lists
 pub mod Paths
 pub mod Frames
@@ -8,6 +9,7 @@ pub mod Parts
 pub mod Settling
 pub mod Spare
 pub mod MakingOn
+pub mod Known
 pub mod KindLoads
 pub mod KindClaim
 pub mod KindWriteRow
@@ -15,6 +17,7 @@ pub mod KindGiveBack
 pub mod KindPublish
 pub mod Numbers
 pub mod Counts
+pub mod Alone
 pub mod Telling
 pub mod Allowed
 pub mod Parting
