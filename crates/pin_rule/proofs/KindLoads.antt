@@ -13,17 +13,16 @@ use Rattle.pin_rule.specs.declared.view.Role.{Role}
 use Rattle.pin_rule.specs.declared.view.EntryFact.{EntryFact}
 use Rattle.pin_rule.specs.declared.view.WordFact.{WordFact}
 use Rattle.pin_rule.specs.declared.ops.Op.TheVariants as op
-use Rattle.pin_rule.specs.Layout.{place_word, row_word, entry, row_at}
+use Rattle.pin_rule.specs.Layout.{row_word, entry, row_at}
 use Rattle.pin_rule.specs.Lists.{Each, In}
-use Rattle.pin_rule.specs.Views.{version_at}
 use Rattle.pin_rule.specs.PartFacts.{EntryStands, WordStands, Knows, KnowsWhole}
 use Rattle.pin_rule.specs.Lawful.{Lawful}
-use Rattle.pin_rule.specs.Steps.{met_entry, met_word, version_of, after_load_place, after_load_row}
+use Rattle.pin_rule.specs.Steps.{met_entry, met_word, version_of, after_load_row}
 use Rattle.pin_rule.specs.Keeps.{Keeps}
 use Rattle.pin_rule.proofs.Lists.{each_in}
 use Rattle.pin_rule.proofs.Frames.{set_same}
 use Rattle.pin_rule.proofs.Seats.{IsAlike, IsSteady, none_some, same_some, owned_before, owned_after, claims_by}
-use Rattle.pin_rule.proofs.Versions.{Speaks, speaks}
+use Rattle.pin_rule.proofs.Versions.{Speaks}
 use Rattle.pin_rule.proofs.Known.{known_reads}
 use Rattle.pin_rule.proofs.Settling.{settles, right_on}
 

@@ -335,14 +335,17 @@ module _ (L : List Entry → Type 0) (F : List Entry → List ℕ → Type 0) (v
     new_known : (b : Bool) → keeps_page v page ≡ b
         → Each (IsKnown z words' role) (cond b (record { place = place; met = suc row; words = words_of_own v.own } ∷ []) [])
     new_known false is = tt
-    new_known true is = ((
-      inside,
-      ap (λ (q : ℕ). entry z words' q place) (keeps_newest L F z words views id v at h page is) ∙ here,
-      λ r e. subst (λ (u : Option OwnRow). Each (StandsIn z words' r) (words_of_own u)) (sym ready.owns)
-          (let same : row ≡ r = (let two : suc row ≡ suc r = e in omega arith) in
-          subst (λ (q : ℕ). Each (StandsIn z words' q) o.wrote) same (each_map (StandsIn z words row) (StandsIn z words' row) (stands_on row) o.wrote
-          mine.written)),
-    ), tt)
+    new_known true is = (
+      (
+        inside,
+        ap (λ (q : ℕ). entry z words' q place) (keeps_newest L F z words views id v at h page is) ∙ here,
+        λ r e. subst (λ (u : Option OwnRow). Each (StandsIn z words' r) (words_of_own u)) (sym ready.owns)
+            (let same : row ≡ r = (let two : suc row ≡ suc r = e in omega arith) in
+            subst (λ (q : ℕ). Each (StandsIn z words' q) o.wrote) same (each_map (StandsIn z words row) (StandsIn z words' row) (stands_on row) o.wrote
+            mine.written)),
+      ),
+      tt,
+    )
 
     my_known : KnowsWhole z words' role w
     my_known all = each_append (IsKnown z words' role) (cond (keeps_page v page) (record {

@@ -1,5 +1,5 @@
 -- What the view with the whole share learns of the newest page stands.
-use Rattle.std.proofs.Common.{◌≡◌, ℕ, suc, ◌<◌, List, [], ◌∷◌, map, eqb, sym, refl, ap, ◌∙◌, subst}
+use Rattle.std.proofs.Common.{◌≡◌, ℕ, suc, ◌<◌, List, [], ◌∷◌, map, eqb, sym, refl, ap, ◌∙◌}
 use Rattle.std.proofs.lemmas.Bool.{eqb-true}
 use mathlib.Core.Option as maybe
 use mathlib.Core.Bool.{cond}

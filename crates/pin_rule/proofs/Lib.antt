@@ -11,6 +11,9 @@ pub mod Spare
 pub mod MakingOn
 pub mod Known
 pub mod KindLoads
+pub mod GoingOn
+pub mod Oldest
+pub mod KindLoadPlace
 pub mod KindClaim
 pub mod KindWriteRow
 pub mod KindGiveBack
@@ -28,4 +31,7 @@ pub mod KindWritePlace
 pub mod Places
 pub mod WholePage
 pub mod KindSwapCurrent
+pub mod KindFreeRow
+pub mod Leaving
+pub mod KindLoadRelease
 pub mod Beginning

@@ -4,7 +4,7 @@ use Rattle.std.proofs.Common.{arith}
 use mathlib.Core.Bool.{cond}
 use mathlib.Core.Logic.{dite}
 use native.Mathlib.Decide.{ℕ_discrete}
-use Rattle.std.specs.Prelude.{Bool, true, false}
+use Rattle.std.specs.Prelude.{Bool}
 use Rattle.pin_rule.specs.declared.view.EntryFact.{EntryFact}
 use Rattle.pin_rule.specs.declared.view.WordFact.{WordFact}
 use Rattle.pin_rule.specs.declared.view.KnownPlace.{KnownPlace}

@@ -2,6 +2,7 @@
 use Rattle.std.proofs.Common.{◌≡◌, ◌≢◌, ℕ, suc, ◌+◌, ◌<◌, ◌≤◌, List, length, length-append, inl, inr, take, slice_index, sym, refl, ap, ◌∙◌, subst, arith}
 use mathlib.Core.Option as maybe
 use lib.ListN.{get_elem?}
+use Rattle.std.specs.Prelude.{Some}
 use Rattle.pin_rule.specs.declared.sizes.Sizes.{Sizes}
 use Rattle.pin_rule.specs.declared.content.Entry.{Entry}
 use Rattle.pin_rule.specs.declared.view.View.{View}
