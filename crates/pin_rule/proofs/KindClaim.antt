@@ -22,7 +22,7 @@ use Rattle.pin_rule.proofs.Lists.{not_one}
 use Rattle.pin_rule.proofs.Frames.{Same, claim_in, wrote, claim-claim, claim-entry, claim-row, claim-cur, claim-release, claim-logged}
 use Rattle.pin_rule.proofs.Parts.{Kept, live_on, live_back, free_on, free_back, owned_moves}
 use Rattle.pin_rule.proofs.Settling.{settles, right_pinned}
-use Rattle.pin_rule.proofs.KindLoads.{learns_met}
+use Rattle.pin_rule.proofs.Learning.{learns_met}
 use Rattle.pin_rule.proofs.Seats.{IsAlike, IsSteady, none_some, same_some, owns_cases, owns_here, owns_else}
 
 module _ (L : List Entry → Type 0) (F : List Entry → List ℕ → Type 0) (v : View) (row : ℕ) (inside : row < v.sizes.rows) (none : v.own ≡ None)

@@ -21,7 +21,7 @@ use Rattle.pin_rule.proofs.Bools.{both_true}
 use Rattle.pin_rule.proofs.Frames.{set_same}
 use Rattle.pin_rule.proofs.Seats.{none_some}
 use Rattle.pin_rule.proofs.Versions.{is_role}
-use Rattle.pin_rule.proofs.KindLoads.{learns_met}
+use Rattle.pin_rule.proofs.Learning.{learns_met}
 use Rattle.pin_rule.proofs.Leaving.{leaves}
 
 -- the word is that of the oldest version, and shows that all its pins were dropped

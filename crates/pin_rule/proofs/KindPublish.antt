@@ -38,7 +38,7 @@ use Rattle.pin_rule.proofs.Moves.{entry_moves, page_moves}
 use Rattle.pin_rule.proofs.Paths.{on_page}
 use Rattle.pin_rule.proofs.Versions.{Speaks, speaks, same_live, my_log, newest_live, making_apart}
 use Rattle.pin_rule.proofs.Known.{keeps_newest, known_meets}
-use Rattle.pin_rule.proofs.KindLoads.{learns_met, met_stands}
+use Rattle.pin_rule.proofs.Learning.{learns_met, met_stands}
 use Rattle.pin_rule.proofs.Settling.{settles_with, right_free}
 use Rattle.pin_rule.proofs.Seats.{IsAlike, none_some, owner_row, each_set, each_other, owns_cases, owns_else}
 

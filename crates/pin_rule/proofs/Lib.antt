@@ -10,10 +10,11 @@ pub mod Settling
 pub mod Spare
 pub mod MakingOn
 pub mod Known
-pub mod KindLoads
-pub mod GoingOn
+pub mod Learning
 pub mod Oldest
-pub mod KindLoadPlace
+pub mod GoingOn
+pub mod Passing
+pub mod KindLoads
 pub mod KindClaim
 pub mod KindWriteRow
 pub mod KindGiveBack

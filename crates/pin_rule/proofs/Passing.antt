@@ -1,0 +1,85 @@
+-- Which loads of a place go on to the next place of the version that is being given up.
+use Rattle.std.proofs.Common.{◌≡◌, ℕ, zero, suc, ◌<◌, List, ◌⊎◌, set, eqb, inl, inr, sym, refl, ap, ◌∙◌, subst, arith}
+use Rattle.std.proofs.lemmas.Bool.{eqb-true}
+use mathlib.Core.Option as maybe
+use mathlib.Core.Bool.{cond}
+use lib.ListN.{get_elem?}
+use Rattle.std.specs.Prelude.{Some, None, Option, Bool, true, false}
+use Rattle.pin_rule.specs.declared.sizes.Sizes.{Sizes}
+use Rattle.pin_rule.specs.declared.content.Entry.{Entry}
+use Rattle.pin_rule.specs.declared.view.View.{View}
+use Rattle.pin_rule.specs.declared.view.Role.{Role}
+use Rattle.pin_rule.specs.declared.view.GivingUp.{GivingUp}
+use Rattle.pin_rule.specs.declared.ops.Op.TheVariants as op
+use Rattle.pin_rule.specs.Layout.{place_word, entry}
+use Rattle.pin_rule.specs.Lists.{In}
+use Rattle.pin_rule.specs.Views.{version_at}
+use Rattle.pin_rule.specs.GivingUp.{oldest, with_next, is_passed, is_reached, role_met}
+use Rattle.pin_rule.specs.Pages.{IsToFree}
+use Rattle.pin_rule.specs.PartClaims.{Claims}
+use Rattle.pin_rule.specs.PartFacts.{Knows, KnowsWhole}
+use Rattle.pin_rule.specs.Lawful.{Lawful}
+use Rattle.pin_rule.specs.Steps.{after_load_place}
+use Rattle.pin_rule.specs.Keeps.{Keeps}
+use Rattle.pin_rule.proofs.Bools.{no_bool, both_true}
+use Rattle.pin_rule.proofs.Frames.{set_same}
+use Rattle.pin_rule.proofs.Spare.{is_in_tells}
+use Rattle.pin_rule.proofs.Seats.{none_some, owned_before, owned_after, claims_by}
+use Rattle.pin_rule.proofs.Versions.{speaks, is_role}
+use Rattle.pin_rule.proofs.Oldest.{oldest_live}
+use Rattle.pin_rule.proofs.Known.{known_meets}
+use Rattle.pin_rule.proofs.Learning.{learns_met, met_stands}
+use Rattle.pin_rule.proofs.GoingOn.{role_next, free_before, free_after, goes_on}
+
+-- the place is the one reached, and is passed
+pub record Passes (z : Sizes) (o : Option Role) (page place n : ℕ) : Type 0 where
+  pub role : Role
+  pub given : GivingUp
+  pub has : o ≡ Some role
+  pub giving : role.giving_up ≡ Some given
+  pub page_is : given.page ≡ page
+  pub place_is : given.reached ≡ place
+  pub passed : is_passed role n ≡ true
+  pub is : role_met z o page place n ≡ Some (role_next z role given)
+
+module _ (z : Sizes) (page place n : ℕ) where
+  reached_cases : (r : Role) (g : GivingUp) (a b : Bool) → r.giving_up ≡ Some g → is_reached (Some g) page place ≡ a → is_passed r n ≡ b
+      → (role_met z (Some r) page place n ≡ Some r) ⊎ Passes z (Some r) page place n
+  reached_cases r g false b up ea eb = inl (ap (λ (o : Option GivingUp). Some (cond (is_reached o page place) (cond (is_passed r n) (with_next z r o) r) r)) up
+      ∙ ap (λ (c : Bool). Some (cond c (cond (is_passed r n) (with_next z r (Some g)) r) r)) ea)
+  reached_cases r g true false up ea eb = inl (
+      ap (λ (o : Option GivingUp). Some (cond (is_reached o page place) (cond (is_passed r n) (with_next z r o) r) r)) up
+      ∙ ap (λ (c : Bool). Some (cond c (cond (is_passed r n) (with_next z r (Some g)) r) r)) ea
+      ∙ ap (λ (c : Bool). Some (cond c (with_next z r (Some g)) r)) eb)
+  reached_cases r g true true up ea eb = let both = both_true (eqb g.page page) (eqb g.reached place) ea in inr (record {
+    role = r;
+    given = g;
+    has = refl;
+    giving = up;
+    page_is = eqb-true g.page page both.0;
+    place_is = eqb-true g.reached place both.1;
+    passed = eb;
+    is = ap (λ (o : Option GivingUp). Some (cond (is_reached o page place) (cond (is_passed r n) (with_next z r o) r) r)) up
+        ∙ ap (λ (c : Bool). Some (cond c (cond (is_passed r n) (with_next z r (Some g)) r) r)) ea
+        ∙ ap (λ (c : Bool). Some (cond c (with_next z r (Some g)) r)) eb;
+  })
+
+  given_cases : (r : Role) (o : Option GivingUp) → r.giving_up ≡ o → (role_met z (Some r) page place n ≡ Some r) ⊎ Passes z (Some r) page place n
+  given_cases r None up = inl (ap (λ (o : Option GivingUp). Some (cond (is_reached o page place) (cond (is_passed r n) (with_next z r o) r) r)) up)
+  given_cases r (Some g) up = reached_cases r g (is_reached (Some g) page place) (is_passed r n) up refl refl
+
+  pub met_cases : (o : Option Role) → (role_met z o page place n ≡ o) ⊎ Passes z o page place n
+  met_cases None = inl refl
+  met_cases (Some r) = given_cases r r.giving_up refl
+
+  -- where no version is being given up, a load leaves the role
+  pub role_stays : (r : Role) → r.giving_up ≡ None → role_met z (Some r) page place n ≡ Some r
+  role_stays r up = ap (λ (o : Option GivingUp). Some (cond (is_reached o page place) (cond (is_passed r n) (with_next z r o) r) r)) up
+
+-- a row that is passed was carried into the oldest live version
+pub carried_row : (r : Role) (n row : ℕ) → is_passed r n ≡ true → n ≡ suc row → In row (oldest r).carried
+carried_row r zero row passed e = absurd (omega arith)
+carried_row r (suc m) row passed e = elim (is_in_tells m (oldest r).carried) [
+  | inl t ↦ subst (λ (k : ℕ). In k (oldest r).carried) (let same : m ≡ row = omega arith in same) t.1
+  | inr t ↦ absurd (no_bool (sym t.0 ∙ passed))
+]
