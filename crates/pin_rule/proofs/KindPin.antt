@@ -27,7 +27,7 @@ use Rattle.pin_rule.proofs.Lists.{in_at, in_mapped, total_set, sum_same, sum_mor
 use Rattle.pin_rule.proofs.Frames.{wrote, release_in, cur-release, cur-claim, cur-entry, cur-logged, cur-row, release-cur, release-release, release-claim}
 use Rattle.pin_rule.proofs.Frames.{release-entry, release-logged, release-row}
 use Rattle.pin_rule.proofs.Seats.{IsAlike, none_some, same_some, each_set, owned_before, owned_after, claims_by}
-use Rattle.pin_rule.proofs.Versions.{newest_live, same_live, taken_live}
+use Rattle.pin_rule.proofs.Versions.{newest_live, older_below, same_live, taken_live}
 use Rattle.pin_rule.proofs.Parts.{Kept, current_moves, pages_move, carried_moves, knows_on, known_on, claims_keep}
 use Rattle.pin_rule.proofs.Settling.{builds, right_pinned}
 use Rattle.pin_rule.proofs.Numbers.{no_carry, room_above}
@@ -66,11 +66,6 @@ module _ (L : List Entry → Type 0) (F : List Entry → List ℕ → Type 0) (z
       (λ j u e. on u (h.facts j u e)))
       (let on = known_on z words words' h.role F h.log h.live h.pages kept in each_set views id v w at (KnowsWhole z words' h.role) (on w whole)
       (λ j u e. on u (h.known j u e)))
-
--- an older version is not the newest
-older_below : (z : Sizes) (role : Role) → IsVersions z role → (o : Older) → In o role.older → o.live.version < role.newest.version
-older_below z role h o i = let r = in_at o.live (map (λ (x : Older). x.live) role.older) (in_mapped (λ (x : Older). x.live) o role.older i) in
-    let e = h.consecutive (suc r.0) o.live r.1 in omega arith
 
 module _ (L : List Entry → Type 0) (F : List Entry → List ℕ → Type 0) (v : View) (some : v.share ≢ 0) (free : v.pinned ≡ None) (left : 1 ≤ v.pins_left) where
   pub keeps_pin : Keeps L F v op.Pin

@@ -1,5 +1,5 @@
 -- Which loads of a place go on to the next place of the version that is being given up.
-use Rattle.std.proofs.Common.{◌≡◌, ℕ, zero, suc, ◌<◌, List, ◌⊎◌, set, eqb, inl, inr, sym, refl, ap, ◌∙◌, subst, arith}
+use Rattle.std.proofs.Common.{◌≡◌, ℕ, zero, suc, ◌<◌, List, ◌⊎◌, eqb, eq-eqb, inl, inr, sym, refl, ap, ◌∙◌, subst, arith}
 use Rattle.std.proofs.lemmas.Bool.{eqb-true}
 use mathlib.Core.Option as maybe
 use mathlib.Core.Bool.{cond}
@@ -75,6 +75,25 @@ module _ (z : Sizes) (page place n : ℕ) where
   -- where no version is being given up, a load leaves the role
   pub role_stays : (r : Role) → r.giving_up ≡ None → role_met z (Some r) page place n ≡ Some r
   role_stays r up = ap (λ (o : Option GivingUp). Some (cond (is_reached o page place) (cond (is_passed r n) (with_next z r o) r) r)) up
+
+at_reached : (g : GivingUp) → is_reached (Some g) g.page g.reached ≡ true
+at_reached g = ap (λ (b : Bool). cond b (eqb g.reached g.reached) false) (eq-eqb g.page g.page refl) ∙ eq-eqb g.reached g.reached refl
+
+either_way : (b : Bool) (r : Role) → Some (cond b r r) ≡ Some r
+either_way true r = refl
+either_way false r = refl
+
+-- What a load of the place reached makes of the role
+
+pub role_passes : (z : Sizes) (r : Role) (g : GivingUp) (n : ℕ) → r.giving_up ≡ Some g → is_passed r n ≡ true
+    → role_met z (Some r) g.page g.reached n ≡ Some (role_next z r g)
+role_passes z r g n up passed = ap (λ (o : Option GivingUp). Some (cond (is_reached o g.page g.reached) (cond (is_passed r n) (with_next z r o) r) r)) up
+    ∙ ap (λ (c : Bool). Some (cond c (cond (is_passed r n) (with_next z r (Some g)) r) r)) (at_reached g)
+    ∙ ap (λ (c : Bool). Some (cond c (with_next z r (Some g)) r)) passed
+
+pub role_waits : (z : Sizes) (r : Role) (page place n : ℕ) → is_passed r n ≡ false → role_met z (Some r) page place n ≡ Some r
+role_waits z r page place n waits = ap (λ (c : Bool). Some (cond (is_reached r.giving_up page place) (cond c (with_next z r r.giving_up) r) r)) waits
+    ∙ either_way (is_reached r.giving_up page place) r
 
 -- a row that is passed was carried into the oldest live version
 pub carried_row : (r : Role) (n row : ℕ) → is_passed r n ≡ true → n ≡ suc row → In row (oldest r).carried

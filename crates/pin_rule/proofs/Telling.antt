@@ -28,7 +28,7 @@ use Rattle.pin_rule.specs.Told.{IsReleaseOf, Meets}
 use Rattle.pin_rule.proofs.Frames.{Same, key_alike, content_same}
 use Rattle.pin_rule.proofs.Lists.{each_in, total_zero}
 use Rattle.pin_rule.proofs.Alone.{alone_unpinned}
-use Rattle.pin_rule.proofs.Versions.{newest_live, taken_live, is_role, my_log, caught_up}
+use Rattle.pin_rule.proofs.Versions.{newest_live, taken_live, older_below, is_role, my_log, caught_up}
 use Rattle.pin_rule.proofs.Numbers.{version_is, page_is}
 use Rattle.pin_rule.proofs.Counts.{few_taken}
 
@@ -121,9 +121,11 @@ module _ (L : List Entry → Type 0) (F : List Entry → List ℕ → Type 0) (v
   of_given_up page place n inside read r g row is up at_page e = let same = is_role L F v.sizes words views id v at h r is in
       h.carried.range g place row (ap (λ (x : Role). x.giving_up) (sym same) ∙ up) inside (ap (λ (p : ℕ). entry v.sizes words p place) at_page ∙ read ∙ e)
 
-  release_of : (o : Older) → In o h.role.older → IsReleaseOf v o (release v.sizes words o.live.page)
+  release_of : (o : Older) → In o h.role.older → IsReleaseOf v h.role o (release v.sizes words o.live.page)
   release_of o i = let live = taken_live v.sizes h.role h.live h.taken o.live o.taken (inr (o, i, refl, refl)) in
       let c = h.pins.counted o.live o.taken (inr (o, i, refl, refl)) in record {
+        apart = λ e. let below = older_below v.sizes h.role h.live o i in
+            let one = h.live.pages_differ h.role.newest o.live (newest_live h.role) live e in omega arith;
         from_base = h.pins.from_base o.live live;
         at_most = omega arith;
         all_dropped = λ all free. let none = total_zero (λ (u : View). pins_on o.live.version u.pinned) views (λ j u e. ap (pins_on o.live.version)
@@ -131,9 +133,11 @@ module _ (L : List Entry → Type 0) (F : List Entry → List ℕ → Type 0) (v
       }
 
   release_met : (page n : ℕ) → release v.sizes words page ≡ n → (r : Role) (o : Older) → v.role ≡ Some r → In o r.older → o.live.page ≡ page
-      → IsReleaseOf v o n
-  release_met page n read r o is i at_page = subst (IsReleaseOf v o) (ap (release v.sizes words) at_page ∙ read)
-      (release_of o (subst (λ (x : Role). In o x.older) (is_role L F v.sizes words views id v at h r is) i))
+      → IsReleaseOf v r o n
+  release_met page n read r o is i at_page = let same = is_role L F v.sizes words views id v at h r is in
+      subst (IsReleaseOf v r o) (ap (release v.sizes words) at_page ∙ read)
+      (subst (λ (x : Role). IsReleaseOf v x o (release v.sizes words o.live.page)) (sym same)
+      (release_of o (subst (λ (x : Role). In o x.older) same i)))
 
   pub meets : (o : Op) → IsIn v.sizes o → Meets v o (slice_index words (word_of v.sizes o))
   meets (op.LoadPlace page place) i = (as_known page place _ refl, of_given_up page place _ i.1 refl)

@@ -1,5 +1,5 @@
 -- The live versions by their numbers and pages.
-use Rattle.std.proofs.Common.{◌≡◌, ◌≢◌, ℕ, ◌≤◌, List, length, map, take, ◌++◌, inl, inr, ◌⊎◌, ne_eqb, eq-eqb, sym, refl, ap, ◌∙◌, subst, arith}
+use Rattle.std.proofs.Common.{◌≡◌, ◌≢◌, ℕ, ◌<◌, ◌≤◌, List, length, map, take, ◌++◌, inl, inr, ◌⊎◌, ne_eqb, eq-eqb, sym, refl, ap, ◌∙◌, subst, arith}
 use mathlib.Core.Option as maybe
 use mathlib.Core.Bool.{cond}
 use mathlib.Core.Logic.{dite}
@@ -41,6 +41,11 @@ module _ (z : Sizes) (role : Role) (h : IsVersions z role) where
     | inr x ↦ inr (subst (λ (m : Live). In m (map (λ (o : Older). o.live) role.older)) x.2
         (in_mapped (λ (o : Older). o.live) x.0 role.older x.1))
   ]
+
+  -- an older version is not the newest
+  pub older_below : (o : Older) → In o role.older → o.live.version < role.newest.version
+  older_below o i = let r = in_at o.live (map (λ (x : Older). x.live) role.older) (in_mapped (λ (x : Older). x.live) o role.older i) in
+      let e = h.consecutive (suc r.0) o.live r.1 in omega arith
 
   -- the page in the making is that of no live version
   pub making_apart : (m : Making) (l : Live) → role.making ≡ Some m → IsLive role l → l.page ≢ m.page

@@ -82,8 +82,9 @@ IsReadAsKnown v row index n = v.share ≡ whole → (k : KnownPlace) (word : ℕ
 abbrev pub IsOfGivenUp : View → ℕ → ℕ → Type 0
 IsOfGivenUp v page n = (r : Role) (g : GivingUp) (row : ℕ) → v.role ≡ Some r → r.giving_up ≡ Some g → g.page ≡ page → n ≡ suc row → row < v.sizes.rows
 
--- the pins dropped on an older version are at most those taken on it, and all of them where no seat has a pin
-pub record IsReleaseOf (v : View) (o : Older) (n : ℕ) : Type 0 where
+-- the pins dropped on an older version, whose page is not the newest one, are at most those taken on it, and all of them where no seat has a pin
+pub record IsReleaseOf (v : View) (r : Role) (o : Older) (n : ℕ) : Type 0 where
+  pub apart : r.newest.page ≢ o.live.page
   pub from_base : o.live.base ≤ n
   pub at_most : n ≤ o.live.base + o.taken
   pub all_dropped : v.share ≡ whole → v.pinned ≡ None → n ≡ o.live.base + o.taken
@@ -102,5 +103,5 @@ Meets v (LoadLog entry index) n = (e : Entry) → get_elem? v.log entry ≡ mayb
 Meets v (WriteLog entry index word) n = Unit {0}
 Meets v (WritePlace page place word) n = Unit {0}
 Meets v (SwapCurrent version page) n = (r : Role) → v.role ≡ Some r → (version_named n ≡ r.newest.version) × (page_named n ≡ r.newest.page)
-Meets v (LoadRelease page) n = (r : Role) (o : Older) → v.role ≡ Some r → In o r.older → o.live.page ≡ page → IsReleaseOf v o n
+Meets v (LoadRelease page) n = (r : Role) (o : Older) → v.role ≡ Some r → In o r.older → o.live.page ≡ page → IsReleaseOf v r o n
 Meets v (FreeRow row) n = Unit {0}
