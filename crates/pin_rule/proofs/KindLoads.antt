@@ -1,12 +1,12 @@
 -- A load of a place or of a row's word keeps the rule: the view may note what stands, and the editor may go on to the next place of the version that is
 -- being given up.
-use Rattle.std.proofs.Common.{◌≡◌, ℕ, zero, suc, ◌<◌, List, [], ◌∷◌, slice_index, set, ne_eqb, eq-eqb, inl, inr, sym, refl, ap, ◌∙◌, subst, arith, ◌⊎◌, eqb}
+use Rattle.std.proofs.Common.{◌≡◌, ℕ, suc, ◌<◌, List, [], ◌∷◌, set, ne_eqb, eq-eqb, inl, inr, sym, refl, ap, ◌∙◌, subst, arith}
 use mathlib.Core.Option as maybe
 use mathlib.Core.Bool.{cond}
 use mathlib.Core.Logic.{dite}
 use native.Mathlib.Decide.{ℕ_discrete}
 use lib.ListN.{get_elem?}
-use Rattle.std.specs.Prelude.{Some, None, Option, Bool, true, false}
+use Rattle.std.specs.Prelude.{Some, None, Option, true}
 use Rattle.pin_rule.specs.declared.sizes.Sizes.{Sizes}
 use Rattle.pin_rule.specs.declared.content.Entry.{Entry}
 use Rattle.pin_rule.specs.declared.view.View.{View}
@@ -18,26 +18,22 @@ use Rattle.pin_rule.specs.Layout.{row_word, entry, row_at, place_word}
 use Rattle.pin_rule.specs.Lists.{Each, In}
 use Rattle.pin_rule.specs.PartFacts.{EntryStands, WordStands, Knows, KnowsWhole}
 use Rattle.pin_rule.specs.Lawful.{Lawful}
-use Rattle.pin_rule.specs.Steps.{met_entry, met_word, version_of, after_load_row, after_load_place}
+use Rattle.pin_rule.specs.Steps.{met_word, version_of, after_load_row, after_load_place}
 use Rattle.pin_rule.specs.Keeps.{Keeps}
 use Rattle.pin_rule.proofs.Lists.{each_in}
 use Rattle.pin_rule.proofs.Frames.{set_same}
-use Rattle.pin_rule.proofs.Seats.{IsAlike, IsSteady, none_some, same_some, owned_before, owned_after, claims_by}
-use Rattle.pin_rule.proofs.Versions.{Speaks, speaks, is_role}
+use Rattle.pin_rule.proofs.Seats.{none_some, same_some, owned_before, owned_after, claims_by}
+use Rattle.pin_rule.proofs.Versions.{speaks, is_role}
 use Rattle.pin_rule.proofs.Known.{known_reads, known_meets}
-use Rattle.pin_rule.proofs.Settling.{settles, right_on}
-use Rattle.std.proofs.lemmas.Bool.{eqb-true}
 use Rattle.pin_rule.specs.declared.view.GivingUp.{GivingUp}
 use Rattle.pin_rule.specs.Views.{version_at}
-use Rattle.pin_rule.specs.GivingUp.{oldest, with_next, is_passed, is_reached, role_met}
+use Rattle.pin_rule.specs.GivingUp.{oldest, is_passed, role_met}
 use Rattle.pin_rule.specs.Pages.{IsToFree}
 use Rattle.pin_rule.specs.PartClaims.{Claims}
-use Rattle.pin_rule.proofs.Bools.{no_bool, both_true}
-use Rattle.pin_rule.proofs.Spare.{is_in_tells}
 use Rattle.pin_rule.proofs.Oldest.{oldest_live}
 use Rattle.pin_rule.proofs.GoingOn.{role_next, free_before, free_after, goes_on}
 use Rattle.pin_rule.proofs.Learning.{learns_met, met_stands}
-use Rattle.pin_rule.proofs.Passing.{Passes, met_cases, carried_row}
+use Rattle.pin_rule.proofs.Passing.{met_cases, carried_row}
 
 -- an entry of the view names the row
 pub names : (es : List EntryFact) (row version : ℕ) → version_of es row ≡ Some version → (e : EntryFact) × In e es × (e.row ≡ row) × (e.version ≡ version)

@@ -1,5 +1,5 @@
 -- A pin that is taken, and one that is dropped, keep the rule.
-use Rattle.std.proofs.Common.{◌≡◌, ◌≢◌, ℕ, suc, ◌+◌, ◌<◌, ◌≤◌, List, inl, inr, map, slice_index, set, length, length-set, sym, refl, ap, ◌∙◌, subst, arith}
+use Rattle.std.proofs.Common.{◌≡◌, ◌≢◌, ℕ, ◌+◌, ◌<◌, ◌≤◌, List, inl, inr, slice_index, set, length, length-set, sym, refl, ap, ◌∙◌, subst, arith}
 use mathlib.Core.Option as maybe
 use mathlib.Core.Logic.{dite}
 use native.Mathlib.Decide.{ℕ_discrete}
@@ -10,20 +10,17 @@ use Rattle.pin_rule.specs.declared.content.Entry.{Entry}
 use Rattle.pin_rule.specs.declared.view.View.{View}
 use Rattle.pin_rule.specs.declared.view.Pin.{Pin}
 use Rattle.pin_rule.specs.declared.view.Live.{Live}
-use Rattle.pin_rule.specs.declared.view.Older.{Older}
-use Rattle.pin_rule.specs.declared.view.Role.{Role}
 use Rattle.pin_rule.specs.declared.ops.Op.TheVariants as op
 use Rattle.pin_rule.specs.Layout.{release_word, word_count, version_named, page_named, release, claim, entry, logged, row_at}
-use Rattle.pin_rule.specs.Lists.{In}
 use Rattle.pin_rule.specs.PartCurrent.{KnowsLog, current_of}
 use Rattle.pin_rule.specs.PartShares.{IsRightful}
-use Rattle.pin_rule.specs.PartLive.{IsVersions, PinsLive, Pins, Budget, pins_on, one_pin, pins_of, pinning}
+use Rattle.pin_rule.specs.PartLive.{PinsLive, Pins, Budget, pins_on, one_pin, pins_of, pinning}
 use Rattle.pin_rule.specs.PartFacts.{Knows, KnowsWhole}
 use Rattle.pin_rule.specs.Lawful.{Lawful}
 use Rattle.pin_rule.specs.Ops.{one_more}
 use Rattle.pin_rule.specs.Steps.{pin_of, after_pin, after_unpin}
 use Rattle.pin_rule.specs.Keeps.{Keeps}
-use Rattle.pin_rule.proofs.Lists.{in_at, in_mapped, total_set, sum_same, sum_more}
+use Rattle.pin_rule.proofs.Lists.{total_set, sum_same, sum_more}
 use Rattle.pin_rule.proofs.Frames.{wrote, release_in, cur-release, cur-claim, cur-entry, cur-logged, cur-row, release-cur, release-release, release-claim}
 use Rattle.pin_rule.proofs.Frames.{release-entry, release-logged, release-row}
 use Rattle.pin_rule.proofs.Seats.{IsAlike, none_some, same_some, each_set, owned_before, owned_after, claims_by}

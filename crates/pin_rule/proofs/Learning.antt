@@ -1,9 +1,6 @@
 -- The rule while the words stay and a view notes what stands.
-use Rattle.std.proofs.Common.{◌≡◌, ℕ, zero, suc, ◌<◌, List, [], ◌∷◌, slice_index, set, ne_eqb, eq-eqb, inl, inr, sym, refl, ap, ◌∙◌, subst, arith}
+use Rattle.std.proofs.Common.{◌≡◌, ℕ, zero, suc, ◌<◌, List, slice_index, set, sym, refl, ap, ◌∙◌, subst}
 use mathlib.Core.Option as maybe
-use mathlib.Core.Bool.{cond}
-use mathlib.Core.Logic.{dite}
-use native.Mathlib.Decide.{ℕ_discrete}
 use lib.ListN.{get_elem?}
 use Rattle.std.specs.Prelude.{Some, None, Option}
 use Rattle.pin_rule.specs.declared.sizes.Sizes.{Sizes}
@@ -11,19 +8,14 @@ use Rattle.pin_rule.specs.declared.content.Entry.{Entry}
 use Rattle.pin_rule.specs.declared.view.View.{View}
 use Rattle.pin_rule.specs.declared.view.Role.{Role}
 use Rattle.pin_rule.specs.declared.view.EntryFact.{EntryFact}
-use Rattle.pin_rule.specs.declared.view.WordFact.{WordFact}
-use Rattle.pin_rule.specs.declared.ops.Op.TheVariants as op
-use Rattle.pin_rule.specs.Layout.{row_word, entry, row_at}
-use Rattle.pin_rule.specs.Lists.{Each, In}
-use Rattle.pin_rule.specs.PartFacts.{EntryStands, WordStands, Knows, KnowsWhole}
+use Rattle.pin_rule.specs.Layout.{entry}
+use Rattle.pin_rule.specs.Lists.{Each}
+use Rattle.pin_rule.specs.PartFacts.{EntryStands, Knows, KnowsWhole}
 use Rattle.pin_rule.specs.Lawful.{Lawful}
-use Rattle.pin_rule.specs.Steps.{met_entry, met_word, version_of, after_load_row}
-use Rattle.pin_rule.specs.Keeps.{Keeps}
-use Rattle.pin_rule.proofs.Lists.{each_in}
+use Rattle.pin_rule.specs.Steps.{met_entry}
 use Rattle.pin_rule.proofs.Frames.{set_same}
-use Rattle.pin_rule.proofs.Seats.{IsAlike, IsSteady, none_some, same_some, owned_before, owned_after, claims_by}
+use Rattle.pin_rule.proofs.Seats.{IsAlike, IsSteady, owned_before, owned_after, claims_by}
 use Rattle.pin_rule.proofs.Versions.{Speaks}
-use Rattle.pin_rule.proofs.Known.{known_reads}
 use Rattle.pin_rule.proofs.Settling.{settles, right_on}
 
 module _ (L : List Entry → Type 0) (F : List Entry → List ℕ → Type 0) (z : Sizes) (words : List ℕ) (views : List View) (id : ℕ) (v w : View)

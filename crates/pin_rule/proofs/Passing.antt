@@ -1,35 +1,16 @@
 -- Which loads of a place go on to the next place of the version that is being given up.
-use Rattle.std.proofs.Common.{◌≡◌, ℕ, zero, suc, ◌<◌, List, ◌⊎◌, eqb, eq-eqb, inl, inr, sym, refl, ap, ◌∙◌, subst, arith}
+use Rattle.std.proofs.Common.{◌≡◌, ℕ, zero, suc, ◌⊎◌, eqb, eq-eqb, inl, inr, sym, refl, ap, ◌∙◌, subst, arith}
 use Rattle.std.proofs.lemmas.Bool.{eqb-true}
-use mathlib.Core.Option as maybe
 use mathlib.Core.Bool.{cond}
-use lib.ListN.{get_elem?}
 use Rattle.std.specs.Prelude.{Some, None, Option, Bool, true, false}
 use Rattle.pin_rule.specs.declared.sizes.Sizes.{Sizes}
-use Rattle.pin_rule.specs.declared.content.Entry.{Entry}
-use Rattle.pin_rule.specs.declared.view.View.{View}
 use Rattle.pin_rule.specs.declared.view.Role.{Role}
 use Rattle.pin_rule.specs.declared.view.GivingUp.{GivingUp}
-use Rattle.pin_rule.specs.declared.ops.Op.TheVariants as op
-use Rattle.pin_rule.specs.Layout.{place_word, entry}
 use Rattle.pin_rule.specs.Lists.{In}
-use Rattle.pin_rule.specs.Views.{version_at}
 use Rattle.pin_rule.specs.GivingUp.{oldest, with_next, is_passed, is_reached, role_met}
-use Rattle.pin_rule.specs.Pages.{IsToFree}
-use Rattle.pin_rule.specs.PartClaims.{Claims}
-use Rattle.pin_rule.specs.PartFacts.{Knows, KnowsWhole}
-use Rattle.pin_rule.specs.Lawful.{Lawful}
-use Rattle.pin_rule.specs.Steps.{after_load_place}
-use Rattle.pin_rule.specs.Keeps.{Keeps}
 use Rattle.pin_rule.proofs.Bools.{no_bool, both_true}
-use Rattle.pin_rule.proofs.Frames.{set_same}
 use Rattle.pin_rule.proofs.Spare.{is_in_tells}
-use Rattle.pin_rule.proofs.Seats.{none_some, owned_before, owned_after, claims_by}
-use Rattle.pin_rule.proofs.Versions.{speaks, is_role}
-use Rattle.pin_rule.proofs.Oldest.{oldest_live}
-use Rattle.pin_rule.proofs.Known.{known_meets}
-use Rattle.pin_rule.proofs.Learning.{learns_met, met_stands}
-use Rattle.pin_rule.proofs.GoingOn.{role_next, free_before, free_after, goes_on}
+use Rattle.pin_rule.proofs.GoingOn.{role_next}
 
 -- the place is the one reached, and is passed
 pub record Passes (z : Sizes) (o : Option Role) (page place n : ℕ) : Type 0 where

@@ -1,5 +1,5 @@
 -- The live versions by their numbers and pages.
-use Rattle.std.proofs.Common.{◌≡◌, ◌≢◌, ℕ, ◌<◌, ◌≤◌, List, length, map, take, ◌++◌, inl, inr, ◌⊎◌, ne_eqb, eq-eqb, sym, refl, ap, ◌∙◌, subst, arith}
+use Rattle.std.proofs.Common.{◌≡◌, ◌≢◌, ℕ, suc, ◌<◌, ◌≤◌, List, length, map, take, ◌++◌, inl, inr, ◌⊎◌, ne_eqb, eq-eqb, sym, refl, ap, ◌∙◌, subst, arith}
 use mathlib.Core.Option as maybe
 use mathlib.Core.Bool.{cond}
 use mathlib.Core.Logic.{dite}
