@@ -1,5 +1,5 @@
 -- A load of a release word keeps the rule: the oldest version may leave the live ones.
-use Rattle.std.proofs.Common.{◌≡◌, ℕ, ◌+◌, List, [], ◌∷◌, ◌⊎◌, set, eqb, inl, inr, sym, refl, ap, ◌∙◌, subst}
+use Rattle.std.proofs.Common.{◌≡◌, ◌≢◌, ℕ, ◌+◌, List, [], ◌∷◌, ◌⊎◌, set, eqb, eq-eqb, ne_eqb, inl, inr, sym, refl, ap, ◌∙◌, subst}
 use Rattle.std.proofs.lemmas.Bool.{eqb-true}
 use mathlib.Core.Option as maybe
 use mathlib.Core.Bool.{cond}
@@ -67,6 +67,27 @@ module _ (page n : ℕ) where
   pub released_cases : (o : Option Role) → (role_released o page n ≡ o) ⊎ Drops o page n
   released_cases None = inl refl
   released_cases (Some r) = given_cases r r.giving_up refl
+
+-- What a load of the oldest version's release word makes of the role
+
+module _ (r : Role) (a : Older) (os : List Older) (n : ℕ) (idle : r.giving_up ≡ None) (older : r.older ≡ a ∷ os) where
+  abbrev last : Older
+  last = last_of a os
+
+  shown : (b : Bool) → shows_dropped last last.live.page n ≡ b
+      → role_released (Some r) last.live.page n ≡ Some (cond b (without_oldest r last (before_last a os) n) r)
+  shown b e = ap (λ (g : Option GivingUp). Some (if_idle r g last.live.page n)) idle
+      ∙ ap (λ (ls : List Older). Some (if_dropped r ls last.live.page n)) older
+      ∙ ap (λ (c : Bool). Some (cond c (without_oldest r last (before_last a os) n) r)) e
+
+  shows : shows_dropped last last.live.page n ≡ eqb n (last.live.base + last.taken)
+  shows = ap (λ (b : Bool). cond b (eqb n (last.live.base + last.taken)) false) (eq-eqb last.live.page last.live.page refl)
+
+  pub role_drops : n ≡ last.live.base + last.taken → role_released (Some r) last.live.page n ≡ Some (without_oldest r last (before_last a os) n)
+  role_drops e = shown true (shows ∙ eq-eqb n (last.live.base + last.taken) e)
+
+  pub role_keeps : n ≢ last.live.base + last.taken → role_released (Some r) last.live.page n ≡ Some r
+  role_keeps e = shown false (shows ∙ ne_eqb n (last.live.base + last.taken) e)
 
 module _ (L : List Entry → Type 0) (F : List Entry → List ℕ → Type 0) (v : View) (page : ℕ) (words : List ℕ) (views : List View) (id n : ℕ)
     (h : Lawful L F v.sizes words views) (at : get_elem? views id ≡ maybe.some v) (e : release v.sizes words page ≡ n) where

@@ -4,10 +4,12 @@ use Rattle.std.proofs.lemmas.Bool.{eqb-true}
 use mathlib.Core.Bool.{cond}
 use Rattle.std.specs.Prelude.{Some, None, Option, Bool, true, false}
 use Rattle.pin_rule.specs.declared.sizes.Sizes.{Sizes}
+use Rattle.pin_rule.specs.declared.view.View.{View}
 use Rattle.pin_rule.specs.declared.view.Role.{Role}
 use Rattle.pin_rule.specs.declared.view.GivingUp.{GivingUp}
 use Rattle.pin_rule.specs.Lists.{In}
 use Rattle.pin_rule.specs.GivingUp.{oldest, with_next, is_passed, is_reached, role_met}
+use Rattle.pin_rule.specs.Steps.{after_load_place}
 use Rattle.pin_rule.proofs.Bools.{no_bool, both_true}
 use Rattle.pin_rule.proofs.Spare.{is_in_tells}
 use Rattle.pin_rule.proofs.GoingOn.{role_next}
@@ -75,6 +77,13 @@ role_passes z r g n up passed = ap (λ (o : Option GivingUp). Some (cond (is_rea
 pub role_waits : (z : Sizes) (r : Role) (page place n : ℕ) → is_passed r n ≡ false → role_met z (Some r) page place n ≡ Some r
 role_waits z r page place n waits = ap (λ (c : Bool). Some (cond (is_reached r.giving_up page place) (cond c (with_next z r r.giving_up) r) r)) waits
     ∙ either_way (is_reached r.giving_up page place) r
+
+-- a view keeps its role over a load where it has none, or where no version is being given up
+pub load_keeps_none : (v : View) (page place n : ℕ) → v.role ≡ None → (after_load_place v page place n).role ≡ v.role
+load_keeps_none v page place n has = ap (λ (o : Option Role). role_met v.sizes o page place n) has ∙ sym has
+
+pub load_keeps_role : (v : View) (r : Role) (page place n : ℕ) → v.role ≡ Some r → r.giving_up ≡ None → (after_load_place v page place n).role ≡ v.role
+load_keeps_role v r page place n has idle = ap (λ (o : Option Role). role_met v.sizes o page place n) has ∙ role_stays v.sizes page place n r idle ∙ sym has
 
 -- a row that is passed was carried into the oldest live version
 pub carried_row : (r : Role) (n row : ℕ) → is_passed r n ≡ true → n ≡ suc row → In row (oldest r).carried
