@@ -1,0 +1,13 @@
+pub mod Growth
+pub mod Reached
+pub mod Saturated
+pub mod Sound
+pub mod Trails
+pub mod NewNodes
+pub mod PlacedNodes
+pub mod UpperNodes
+pub mod NewLinks
+pub mod LinkedParsers
+pub mod Growing
+pub mod ForestSpans
+pub mod Sizes
