@@ -13,7 +13,8 @@ use Rattle.script_text.specs.declared.command.Command.{Command}
 use Rattle.replies.specs.declared.reply.Outcome.{Outcome}
 use Rattle.replies.specs.declared.reply.Reply.{Reply}
 use Rattle.replies.specs.Lines.{reply_text}
-use Rattle.replies.specs.Replies.{grammar_after, kinds_of, IsResult, IsParse, too_large, forest, no_sentence, IsOutcome, scan, parse, IsReply, taken, refused}
+use Rattle.rekers.specs.Answers.{kinds_of}
+use Rattle.replies.specs.Replies.{grammar_after, IsResult, IsParse, too_large, forest, no_sentence, IsOutcome, scan, parse, IsReply, taken, refused}
 use Rattle.replies.specs.Replies.{parsed, scanned}
 use Rattle.replies.specs.Known.{AreKnownNodes, IsKnownOutcome, IsKnownResult, IsKnownReply}
 use Rattle.replies.proofs.TokenKinds.{known_tokens}
@@ -38,9 +39,9 @@ known_nodes grammar tokens tree formed is node has = named_within grammar tokens
 
 known_parse : (grammar : Grammar) (kinds : List SymbolId) (outcome : Outcome) → IsWellFormed grammar → IsParse grammar.rules kinds outcome
     → IsKnownOutcome grammar.symbols outcome
-known_parse grammar kinds outcome formed (too_large many) = tt
-known_parse grammar kinds outcome formed (forest {parsed = tree} few is) = known_nodes grammar kinds tree formed is
-known_parse grammar kinds outcome formed (no_sentence few not) = tt
+known_parse grammar kinds outcome formed (too_large above) = tt
+known_parse grammar kinds outcome formed (forest {parsed = tree} within is) = known_nodes grammar kinds tree formed is
+known_parse grammar kinds outcome formed (no_sentence within not last) = tt
 
 known_outcome : (grammar : Grammar) (text : List ℕ) (outcome : Outcome) → IsWellFormed grammar → IsOutcome grammar text outcome
     → IsKnownOutcome grammar.symbols outcome

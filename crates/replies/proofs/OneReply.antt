@@ -18,10 +18,15 @@ use Rattle.script_text.specs.declared.command.Command.{Command}
 use Rattle.script_text.specs.declared.command.Command.TheVariants.{Edit, Parse, Tokens, Stats}
 use Rattle.replies.specs.declared.reply.Outcome.{Outcome}
 use Rattle.replies.specs.declared.reply.Outcome.TheVariants.{Parsed, Scan}
-use Rattle.replies.specs.declared.reply.Parsed.TheVariants.{Forest as ForestOf}
+use Rattle.rekers.specs.declared.parsed.Parsed.TheVariants.{Forest as ForestOf, NoSentence}
+use Rattle.rekers.specs.declared.limits.TheConstants.{SIZE_LIMIT}
+use Rattle.rekers.specs.States.{IsLastViable}
+use Rattle.rekers.specs.Size.{IsAbove}
+use Rattle.rekers.specs.Answers.{kinds_of, IsWithin}
+use Rattle.rekers.proofs.Sizes.{size_above}
 use Rattle.replies.specs.declared.reply.Reply.{Reply}
 use Rattle.replies.specs.declared.reply.Reply.TheVariants.{Refused, Parse as Parsing, Tokens as Scanning}
-use Rattle.replies.specs.Replies.{kinds_of, IsRefusedFor, IsResult, IsParse, too_large, forest, no_sentence, IsOutcome, scan, parse, IsReply, taken, refused}
+use Rattle.replies.specs.Replies.{IsRefusedFor, IsResult, IsParse, too_large, forest, no_sentence, IsOutcome, scan, parse, IsReply, taken, refused}
 use Rattle.replies.specs.Replies.{parsed, scanned}
 use Rattle.isg_scan.proofs.OneScan.{one_scan}
 
@@ -44,17 +49,24 @@ same_forest f g e = with_nodes f.nodes f.ascending g.nodes e g.ascending
 
 -- ---- tokens are parsed in one way
 
+not_both : (rules : List Rule) (kinds : List SymbolId) → IsWithin rules kinds → IsAbove rules kinds SIZE_LIMIT → ⊥
+not_both rules kinds (size, is, within) above = omega (arith, within, size_above rules kinds size SIZE_LIMIT is above)
+
+one_last : (rules : List Rule) (kinds : List SymbolId) (a b : ℕ) → IsLastViable rules kinds a → IsLastViable rules kinds b → a ≡ b
+one_last rules kinds a b one other = omega (arith, one.none_behind other.kernel b other.reached, other.none_behind one.kernel a one.reached)
+
 one_parse : (rules : List Rule) (kinds : List SymbolId) (a b : Outcome) → IsParse rules kinds a → IsParse rules kinds b → a ≡ b
-one_parse rules kinds a b (too_large many) (too_large more) = refl
-one_parse rules kinds a b (too_large many) (forest few is) = absurd (omega (arith, many, few))
-one_parse rules kinds a b (too_large many) (no_sentence few not) = absurd (omega (arith, many, few))
-one_parse rules kinds a b (forest few is) (too_large many) = absurd (omega (arith, many, few))
-one_parse rules kinds a b (forest {parsed = f} few is) (forest {parsed = g} few' is') =
+one_parse rules kinds a b (too_large above) (too_large above') = refl
+one_parse rules kinds a b (too_large above) (forest within is) = absurd (not_both rules kinds within above)
+one_parse rules kinds a b (too_large above) (no_sentence within not last) = absurd (not_both rules kinds within above)
+one_parse rules kinds a b (forest within is) (too_large above) = absurd (not_both rules kinds within above)
+one_parse rules kinds a b (forest {parsed = f} within is) (forest {parsed = g} within' is') =
     ap (λ f. Parsed (ForestOf f)) (same_forest f g (one_forest rules kinds f g is is'))
-one_parse rules kinds a b (forest few is) (no_sentence few' not) = absurd (not is.derived)
-one_parse rules kinds a b (no_sentence few not) (too_large many) = absurd (omega (arith, many, few))
-one_parse rules kinds a b (no_sentence few not) (forest few' is) = absurd (not is.derived)
-one_parse rules kinds a b (no_sentence few not) (no_sentence few' not') = refl
+one_parse rules kinds a b (forest within is) (no_sentence within' not last) = absurd (not is.derived)
+one_parse rules kinds a b (no_sentence within not last) (too_large above) = absurd (not_both rules kinds within above)
+one_parse rules kinds a b (no_sentence within not last) (forest within' is) = absurd (not is.derived)
+one_parse rules kinds a b (no_sentence {at = i} within not last) (no_sentence {at = j} within' not' last') =
+    ap (λ at. Parsed (NoSentence at)) (one_last rules kinds i j last last')
 
 -- ---- a text is scanned in one way
 

@@ -2,34 +2,32 @@
 use Rattle.std.proofs.Common.{◌≡◌, ◌≤◌, ◌<◌, ◌+◌, ◌↔◌, ℕ, Result, Ok, Err, Some, None, List, refl, inl, inr, ap, sym, ◌∙◌, subst}
 use Rattle.std.proofs.lemmas.Bool.{cases_lt}
 use Rattle.grammar_text.specs.declared.edit.Edit.{Edit as AnEdit}
-use Rattle.plain_chart.specs.declared.ChartError.{ChartError}
-use Rattle.plain_chart.specs.declared.ChartError.TheVariants.{TooLarge}
 use Rattle.edit_log.specs.declared.refusal.Refusal.{Refusal}
 use Rattle.edit_log.specs.History.{Grammar, after}
 use Rattle.edit_log.specs.Verdict.{verdict}
+use Rattle.forest.specs.declared.symbols.SymbolId.{SymbolId}
 use Rattle.forest.specs.declared.symbols.Token.{Token}
+use Rattle.forest.specs.declared.rules.Rule.{Rule}
 use Rattle.isg_scan.specs.declared.scan_error.ScanError.{ScanError}
 use Rattle.isg_scan.specs.declared.scan_error.ScanError.TheVariants.{NoToken, TooManyTokens, NoMemory}
 use Rattle.isg_scan.specs.Answers.{EndsWith}
 use Rattle.script_text.specs.declared.command.Command.{Command}
 use Rattle.script_text.specs.declared.command.Command.TheVariants.{Parse, Tokens}
+use Rattle.rekers.specs.declared.parsed.Parsed.{Parsed as Found}
+use Rattle.rekers.specs.declared.parsed.Parsed.TheVariants.{Forest, NoSentence}
+use Rattle.rekers.specs.Answers.{TellsForest, TellsNoSentence, IsWithin}
 use Rattle.replies.specs.declared.reply.Outcome.{Outcome}
+use Rattle.replies.specs.declared.reply.Outcome.TheVariants.{Parsed}
 use Rattle.replies.specs.declared.reply.Reply.TheVariants.{Parse as Parsing, Tokens as Scanning}
-use Rattle.replies.specs.Replies.{IsRefusedFor, IsResult, IsOutcome, IsReply, parsed, scanned, unless_refused}
+use Rattle.replies.specs.Replies.{IsRefusedFor, IsResult, IsParse, forest, no_sentence, IsOutcome, IsReply, parsed, scanned, unless_refused}
 
 -- ---- parses
 
--- an answer that is no refusal comes only where there are few tokens
-pub few_kinds : {X : Type 0} (n : ℕ) (result : Result X ChartError) (answer : X)
-    → ((count : ℕ) → (result ≡ Err (TooLarge count)) ↔ ((64 < n) × (count ≡ n))) → result ≡ Ok answer → n ≤ 64
-few_kinds n result answer exact is = elim (cases_lt 64 n) [
-  | inl less ↦ cc (is, (exact n).1 (less, refl))
-  | inr more ↦ more
-]
-
-pub many_kinds : {X : Type 0} (n count : ℕ) (result : Result X ChartError)
-    → ((count : ℕ) → (result ≡ Err (TooLarge count)) ↔ ((64 < n) × (count ≡ n))) → result ≡ Err (TooLarge count) → 64 < n
-many_kinds n count result exact is = ((exact count).0 is).0
+-- an answer of the parser tells how the tokens are parsed
+pub parsed_so : (rules : List Rule) (kinds : List SymbolId) (found : Found) → TellsForest rules kinds found → TellsNoSentence rules kinds found
+    → IsWithin rules kinds → IsParse rules kinds (Parsed found)
+parsed_so rules kinds (Forest tree) is other within = forest within is
+parsed_so rules kinds (NoSentence at) other is within = no_sentence within is.0 is.1
 
 -- a scan that ends so is refused for it, unless memory ran out
 pub refused_for : (grammar : Grammar) (text : List ℕ) (error : ScanError) → (error ≡ NoMemory → ⊥) → EndsWith grammar text error

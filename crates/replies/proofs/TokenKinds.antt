@@ -21,7 +21,7 @@ use Rattle.edit_log.specs.Live.{is_literal, is_live_literal, kind_of, kind_of_de
 use Rattle.edit_log.specs.Facts.{IsNamed, IsWellFormed}
 use Rattle.edit_log.specs.Tokens.{Scan, tokens, no_token, too_many, before, token_at, TokenizesFrom, end, none, skipped, full, more, Tokenizes}
 use Rattle.replies.specs.Known.{AreKnownTokens}
-use Rattle.replies.specs.Replies.{kinds_of}
+use Rattle.rekers.specs.Answers.{kinds_of}
 
 -- ---- what holds of each token
 
@@ -72,7 +72,7 @@ are_few grammar offset room text scan (full longest wins kind) = tt
 are_few grammar offset room text scan (more {room = left} {piece = piece} {rest = rest} {kind = kind} {scan = others} longest wins is later) =
     more_few (token_at kind offset (offset + length piece)) left others (are_few grammar (offset + length piece) left rest others later)
 
-pub few_tokens : (grammar : Grammar) (text : List ℕ) (found : List Token) → Tokenizes grammar text (tokens found) → length found ≤ 4096
+pub few_tokens : (grammar : Grammar) (text : List ℕ) (found : List Token) → Tokenizes grammar text (tokens found) → length found ≤ TOKEN_LIMIT
 few_tokens grammar text found is = are_few grammar 0 TOKEN_LIMIT text (tokens found) is
 
 -- ---- the kind of a literal
@@ -178,7 +178,3 @@ pub terminal_tokens : (grammar : Grammar) (text : List ℕ) (found : List Token)
     → AreTerminals grammar.rules (kinds_of found)
 terminal_tokens grammar text found formed is kind has left =
     no_left_side grammar kind formed (kind_in grammar found kind (are_defined grammar 0 TOKEN_LIMIT text (tokens found) is) has) left
-
-pub kinds_of-length : (found : List Token) → length (kinds_of found) ≡ length found
-kinds_of-length [] = refl
-kinds_of-length (first ∷ found) = ap suc (kinds_of-length found)

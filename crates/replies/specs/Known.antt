@@ -7,7 +7,7 @@ use Rattle.edit_log.specs.Facts.{IsNamed}
 use Rattle.isg_scan.specs.declared.scan_error.ScanError.{ScanError}
 use Rattle.replies.specs.declared.reply.Outcome.{Outcome}
 use Rattle.replies.specs.declared.reply.Outcome.TheVariants.{Parsed, Scan, TooLarge}
-use Rattle.replies.specs.declared.reply.Parsed.TheVariants.{Forest as ForestOf, NoSentence}
+use Rattle.rekers.specs.declared.parsed.Parsed.TheVariants.{Forest as ForestOf, NoSentence}
 use Rattle.replies.specs.declared.reply.Reply.{Reply}
 use Rattle.replies.specs.declared.reply.Reply.TheVariants.{Edited, Refused, Parse, Tokens}
 
@@ -21,7 +21,7 @@ AreKnownTokens symbols found = (token : Token) → Contains found token → toke
 
 abbrev pub IsKnownOutcome : List Symbol → Outcome → Type 0
 IsKnownOutcome symbols (Parsed (ForestOf forest)) = AreKnownNodes symbols forest.nodes
-IsKnownOutcome symbols (Parsed NoSentence) = Unit {0}
+IsKnownOutcome symbols (Parsed (NoSentence at)) = Unit {0}
 IsKnownOutcome symbols (Scan error) = Unit {0}
 IsKnownOutcome symbols TooLarge = Unit {0}
 

@@ -15,7 +15,7 @@ use Rattle.script_text.specs.declared.bad_script.BadKind.TheVariants.{UnknownCom
 use Rattle.script_text.specs.declared.bad_script.BadKind.TheVariants.{TooManyCommands, SectionTooLong, StatsAfterPar}
 use Rattle.replies.specs.declared.reply.Outcome.{Outcome}
 use Rattle.replies.specs.declared.reply.Outcome.TheVariants.{Parsed, Scan, TooLarge}
-use Rattle.replies.specs.declared.reply.Parsed.TheVariants.{Forest as ForestOf, NoSentence}
+use Rattle.rekers.specs.declared.parsed.Parsed.TheVariants.{Forest as ForestOf, NoSentence}
 use Rattle.replies.specs.declared.reply.Reply.{Reply}
 use Rattle.replies.specs.declared.reply.Reply.TheVariants.{Edited, Refused, Parse, Tokens}
 
@@ -72,8 +72,9 @@ scan_line word version OutOfMemory = []
 abbrev pub too_large_line : ℕ → List ℕ
 too_large_line version = head (codes "parse") version ++ codes " too large\n"
 
-abbrev pub no_sentence_line : ℕ → List ℕ
-no_sentence_line version = head (codes "parse") version ++ codes " no sentence\n"
+-- START does not derive the tokens, and no text goes on behind this place between them
+abbrev pub no_sentence_line : ℕ → ℕ → List ℕ
+no_sentence_line version at = head (codes "parse") version ++ codes " no sentence at " ++ decimal at ++ codes "\n"
 
 -- how many nodes and splits a forest has
 unfoldable pub node_count_line : ℕ → List Node → List ℕ
@@ -88,7 +89,7 @@ forest_text symbols version nodes = node_count_line version nodes ++ nodes_text 
 -- how a parse came out
 abbrev pub outcome_text : List Symbol → ℕ → Outcome → List ℕ
 outcome_text symbols version (Parsed (ForestOf forest)) = forest_text symbols version forest.nodes
-outcome_text symbols version (Parsed NoSentence) = no_sentence_line version
+outcome_text symbols version (Parsed (NoSentence at)) = no_sentence_line version at
 outcome_text symbols version (Scan error) = scan_line (codes "parse") version error
 outcome_text symbols version TooLarge = too_large_line version
 

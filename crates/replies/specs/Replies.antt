@@ -1,5 +1,5 @@
 -- The replies to commands.
-use Rattle.std.specs.Prelude.{◌≡◌, ◌<◌, ◌≤◌, ℕ, ◌+◌, List, [], ◌∷◌, ◌++◌, length, map, Option, Some, None, Result, Ok, Err}
+use Rattle.std.specs.Prelude.{◌≡◌, ℕ, ◌+◌, List, [], ◌∷◌, ◌++◌, Option, Some, None, Result, Ok, Err}
 use Rattle.grammar_text.specs.declared.edit.Edit.{Edit as AnEdit}
 use Rattle.forest.specs.declared.symbols.SymbolId.{SymbolId}
 use Rattle.forest.specs.declared.symbols.Token.{Token}
@@ -7,20 +7,23 @@ use Rattle.forest.specs.declared.rules.Rule.{Rule}
 use Rattle.forest.specs.declared.forest.Forest.{Forest}
 use Rattle.forest.specs.Derivation.{IsSentence}
 use Rattle.forest.specs.Forests.{IsForestOf}
-use Rattle.plain_chart.specs.declared.limits.TheConstants.{MOST_TOKENS}
 use Rattle.edit_log.specs.declared.refusal.Refusal.{Refusal}
 use Rattle.edit_log.specs.History.{Grammar, after}
 use Rattle.edit_log.specs.Verdict.{verdict}
 use Rattle.edit_log.specs.Tokens.{tokens, no_token, too_many, Tokenizes}
 use Rattle.isg_scan.specs.declared.scan_error.ScanError.{ScanError}
 use Rattle.isg_scan.specs.declared.scan_error.ScanError.TheVariants.{NoToken, TooManyTokens, NoMemory}
+use Rattle.rekers.specs.declared.limits.TheConstants.{SIZE_LIMIT}
+use Rattle.rekers.specs.declared.parsed.Parsed.TheVariants.{Forest as ForestOf, NoSentence}
+use Rattle.rekers.specs.States.{IsLastViable}
+use Rattle.rekers.specs.Size.{IsAbove}
+use Rattle.rekers.specs.Answers.{kinds_of, IsWithin}
 use Rattle.script_text.specs.declared.command.Command.{Command}
 use Rattle.script_text.specs.declared.command.Command.TheVariants.{Edit, Parse, Tokens, Stats}
 use Rattle.script_text.specs.declared.command.Block.{Block}
 use Rattle.script_text.specs.declared.command.Block.TheVariants.{Alone}
 use Rattle.replies.specs.declared.reply.Outcome.{Outcome}
 use Rattle.replies.specs.declared.reply.Outcome.TheVariants.{Parsed, Scan, TooLarge}
-use Rattle.replies.specs.declared.reply.Parsed.TheVariants.{Forest as ForestOf, NoSentence}
 use Rattle.replies.specs.declared.reply.Reply.{Reply}
 use Rattle.replies.specs.declared.reply.Reply.TheVariants.{Edited, Refused, Parse as Parsing, Tokens as Scanning}
 use Rattle.replies.specs.Lines.{reply_text}
@@ -38,15 +41,11 @@ abbrev pub IsResult : Grammar → List ℕ → Result (List Token) ScanError →
 IsResult grammar text (Ok found) = Tokenizes grammar text (tokens found)
 IsResult grammar text (Err error) = IsRefusedFor grammar text error
 
--- the kinds of tokens
-abbrev pub kinds_of : List Token → List SymbolId
-kinds_of found = map (λ token. token.kind) found
-
--- how tokens of these kinds are parsed
+-- how tokens of these kinds are parsed: too large by the size of the parse, or the forest, or the last place up to which a sentence can go on
 pub data IsParse (rules : List Rule) (kinds : List SymbolId) : Outcome → Type 0 where
-  too_large : MOST_TOKENS < length kinds → IsParse rules kinds TooLarge
-  forest : {parsed : Forest} → length kinds ≤ MOST_TOKENS → IsForestOf rules kinds parsed → IsParse rules kinds (Parsed (ForestOf parsed))
-  no_sentence : length kinds ≤ MOST_TOKENS → (IsSentence rules kinds → ⊥) → IsParse rules kinds (Parsed NoSentence)
+  too_large : IsAbove rules kinds SIZE_LIMIT → IsParse rules kinds TooLarge
+  forest : {parsed : Forest} → IsWithin rules kinds → IsForestOf rules kinds parsed → IsParse rules kinds (Parsed (ForestOf parsed))
+  no_sentence : {at : ℕ} → IsWithin rules kinds → (IsSentence rules kinds → ⊥) → IsLastViable rules kinds at → IsParse rules kinds (Parsed (NoSentence at))
 
 -- how the text is parsed: its scan is refused, or its tokens are parsed
 pub data IsOutcome (grammar : Grammar) (text : List ℕ) : Outcome → Type 0 where

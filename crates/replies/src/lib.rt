@@ -14,7 +14,7 @@ mod text_lines;
 mod texts;
 
 pub use laws::one_reply;
-pub use reply::{Outcome, Parsed, Reply, TokenList};
+pub use reply::{Outcome, Reply, TokenList};
 pub use reply_lines::put_reply;
 pub use script_lines::put_bad_script;
 pub use session::Session;

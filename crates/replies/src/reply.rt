@@ -1,21 +1,13 @@
 //! Replies to commands, as data.
 
 use edit_log::Refusal;
-use forest::{Forest, Token};
+use forest::Token;
 use isg_scan::ScanError;
 use lists::ListOf;
+use rekers::Parsed;
 
 /// Tokens in the order of their text.
 pub type TokenList = ListOf<Token>;
-
-/// What the tokens of a text are.
-#[derive(Drop)]
-pub enum Parsed {
-    /// A sentence, with this forest.
-    Forest(Forest),
-    /// No sentence.
-    NoSentence,
-}
 
 /// How the parse of a text came out.
 #[derive(Drop)]
@@ -24,7 +16,7 @@ pub enum Outcome {
     Parsed(Parsed),
     /// It has none. This is never [`ScanError::NoMemory`].
     Scan(ScanError),
-    /// It has more tokens than are parsed.
+    /// Its parse is larger than [`rekers::SIZE_LIMIT`].
     TooLarge,
 }
 

@@ -13,14 +13,17 @@ use crate::reply_lines::put_reply;
 use crate::texts::{outcome_of, result_of};
 use edit_log::{Grammar, Refusal, may};
 use grammar_text::Edit;
+use rekers::Parser;
 use script_text::{Block, Command};
 use std::alloc::{AllocError, Global};
 use std::marker::Model;
 
-/// The grammar that the commands so far made.
+/// The grammar that the commands so far made, and the parser's memory, which serves text after text. A contract sees
+/// the grammar.
 #[derive(Drop)]
 pub struct Session {
     grammar: Grammar,
+    parser: Parser,
 }
 
 impl Model for Session {
@@ -38,6 +41,7 @@ impl Session {
     {
         Ok(Session {
             grammar: Grammar::empty(alloc)?,
+            parser: Parser::new(alloc),
         })
     }
 
@@ -70,7 +74,7 @@ impl Session {
             Command::Edit(edit) => self.edit(alloc, edit),
             Command::Parse(text) => {
                 let version = self.grammar.version();
-                let outcome = outcome_of(alloc, &self.grammar, text.bytes())?;
+                let outcome = outcome_of(alloc, &mut self.parser, &self.grammar, text.bytes())?;
                 Ok(Reply::Parse { version, outcome })
             }
             Command::Tokens(text) => {

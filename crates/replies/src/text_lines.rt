@@ -7,11 +7,12 @@ ghost use Rattle.replies.specs.Lines.{forest_text, outcome_text, token_lines, re
 ghost use Rattle.replies.specs.Known.{AreKnownNodes, AreKnownTokens, IsKnownOutcome, IsKnownResult};
 
 use crate::edit_lines::put_number;
-use crate::reply::{Outcome, Parsed, TokenList};
+use crate::reply::{Outcome, TokenList};
 use edit_log::Grammar;
 use forest::{Forest, Token};
 use forest_print::{print, print_tokens};
 use isg_scan::ScanError;
+use rekers::Parsed;
 use std::alloc::AllocError;
 
 /// Appends how each line begins that answers a text: the command's word and the version.
@@ -63,7 +64,7 @@ fn put_scan_error(
     }
 }
 
-/// Appends the line for a text with more tokens than are parsed.
+/// Appends the line for a text whose parse is larger than it may be.
 #[tactic(auto, using(std::proofs::Common::append_assoc))]
 fn put_too_large(out: &mut Vec<u8>, version: u32) -> Result<(), AllocError>
     ensures { OnOk result (out.new.items ≡ out.old.items ++ too_large_line version) }
@@ -73,13 +74,15 @@ fn put_too_large(out: &mut Vec<u8>, version: u32) -> Result<(), AllocError>
     Ok(())
 }
 
-/// Appends the line for a text that START does not derive.
+/// Appends the line for a text that START does not derive, with the last place up to which a sentence can go on.
 #[tactic(auto, using(std::proofs::Common::append_assoc))]
-fn put_no_sentence(out: &mut Vec<u8>, version: u32) -> Result<(), AllocError>
-    ensures { OnOk result (out.new.items ≡ out.old.items ++ no_sentence_line version) }
+fn put_no_sentence(out: &mut Vec<u8>, version: u32, at: u32) -> Result<(), AllocError>
+    ensures { OnOk result (out.new.items ≡ out.old.items ++ no_sentence_line version at) }
 {
     put_head(out, b"parse", version)?;
-    out.extend_from_slice(b" no sentence\n")?;
+    out.extend_from_slice(b" no sentence at ")?;
+    put_number(out, at)?;
+    out.extend_from_slice(b"\n")?;
     Ok(())
 }
 
@@ -123,7 +126,7 @@ pub(crate) fn put_outcome(
 {
     match outcome {
         Outcome::Parsed(Parsed::Forest(forest)) => put_forest(out, grammar, version, forest),
-        Outcome::Parsed(Parsed::NoSentence) => put_no_sentence(out, version),
+        Outcome::Parsed(Parsed::NoSentence { at }) => put_no_sentence(out, version, *at),
         Outcome::Scan(error) => put_scan_error(out, b"parse", version, *error),
         Outcome::TooLarge => put_too_large(out, version),
     }

@@ -1,19 +1,21 @@
 //! Scanning and parsing a text.
 
-ghost use Rattle.std.specs.Prelude.{◌≡◌, ◌<◌, ◌≤◌, ◌^◌, length, IfOk, IfErr};
+ghost use Rattle.std.specs.Prelude.{◌≡◌, ◌<◌, ◌≤◌, length, IfOk, IfErr};
 ghost use Rattle.forest.specs.Derivation.{AreTerminals};
+ghost use Rattle.edit_log.specs.declared.limits.TheConstants.{TOKEN_LIMIT};
 ghost use Rattle.edit_log.specs.Facts.{IsWellFormed};
 ghost use Rattle.edit_log.specs.Tokens.{tokens, Tokenizes};
 ghost use Rattle.isg_scan.specs.declared.scanning.TheConstants.{SCAN_LIMIT};
 ghost use Rattle.isg_scan.specs.Answers.{EndsWith};
-ghost use Rattle.replies.specs.Replies.{kinds_of, IsParse, IsOutcome, IsResult};
+ghost use Rattle.rekers.specs.Answers.{kinds_of};
+ghost use Rattle.replies.specs.Replies.{IsParse, IsOutcome, IsResult};
 
-use crate::reply::{Outcome, Parsed, TokenList};
+use crate::reply::{Outcome, TokenList};
 use edit_log::Grammar;
-use forest::{SymbolId, Token};
+use forest::Token;
 use isg_scan::{ScanError, scan};
-use live_graph::PrivateGraph;
-use plain_chart::{ChartError, chart};
+use live_graph::{Graph, PrivateGraph};
+use rekers::{ParseError, Parser};
 use std::alloc::{AllocError, Global};
 use std::marker::Brand;
 use std::sync::ledger::{Blank, Ledger};
@@ -63,34 +65,70 @@ pub(crate) fn result_of(
     }
 }
 
-/// The kinds of the tokens.
-fn kinds_of(alloc: Global, found: &[Token]) -> Result<Vec<SymbolId>, AllocError>
-    ensures { IfOk result (λ kinds. kinds.items ≡ kinds_of found.now) }
+/// Parses the tokens over the graph.
+fn parse_tokens<G: Graph, L: Ledger>(
+    alloc: Global,
+    parser: &mut Parser,
+    graph: &mut G,
+    tokens: &[Token],
+    steps: &mut Steps<L>,
+) -> Result<Outcome, AllocError>
+    requires few { length tokens.now ≤ TOKEN_LIMIT }
+    requires terminals { AreTerminals (G.means graph.old).grammar.rules (kinds_of tokens.now) }
+    ensures { IfOk result (IsParse (G.means graph.old).grammar.rules (kinds_of tokens.now)) }
 {
-    let mut kinds = Vec::with_capacity(alloc, found.len())?;
-    for token in found {
-        kinds.push(token.kind)?;
-    }
-    Ok(kinds)
-}
-
-/// Parses tokens of these kinds.
-fn parse(alloc: Global, grammar: &Grammar, kinds: &[SymbolId]) -> Result<Outcome, AllocError>
-    requires countable { length kinds.now < 2 ^ 32 }
-    requires terminals { AreTerminals grammar.now.grammar.rules kinds.now }
-    ensures { IfOk result (IsParse grammar.now.grammar.rules kinds.now) }
-{
-    match chart(alloc, grammar.rules(), kinds) {
-        Ok(Some(forest)) => Ok(Outcome::Parsed(Parsed::Forest(forest))),
-        Ok(None) => Ok(Outcome::Parsed(Parsed::NoSentence)),
-        Err(ChartError::TooLarge { .. }) => Ok(Outcome::TooLarge),
-        Err(ChartError::NoMemory) => Err(AllocError),
+    match parser.parse(alloc, graph, tokens, steps) {
+        Ok(parsed) => Ok(Outcome::Parsed(parsed)),
+        Err(ParseError::TooLarge { .. }) => Ok(Outcome::TooLarge),
+        Err(ParseError::NoMemory) => Err(AllocError),
     }
 }
 
-/// How a parse of the text comes out.
+/// Scans and parses the text over one graph.
+fn parse_over<G: Graph, L: Ledger>(
+    alloc: Global,
+    parser: &mut Parser,
+    graph: &mut G,
+    text: &[u8],
+    steps: &mut Steps<L>,
+) -> Result<Outcome, AllocError>
+    requires short { length text.now ≤ SCAN_LIMIT }
+    requires well_formed { IsWellFormed (G.means graph.old).grammar }
+    ensures { IfOk result (IsOutcome (G.means graph.old).grammar text.now) }
+{
+    let tokens = match scan(alloc, graph, text, steps) {
+        Ok(tokens) => tokens,
+        Err(ScanError::NoMemory) => return Err(AllocError),
+        Err(error) => return Ok(Outcome::Scan(error)),
+    };
+    let outcome = parse_tokens(alloc, parser, graph, &tokens, steps)?;
+    Ok(outcome)
+}
+
+/// Parses the text over a graph of its own, and counts its steps in the ledger of this blank.
+fn parse_with<L: Ledger>(
+    alloc: Global,
+    parser: &mut Parser,
+    grammar: &Grammar,
+    text: &[u8],
+    blank: Blank,
+) -> Result<Outcome, AllocError>
+    requires name { blank.name ≡ L.name }
+    requires parts { blank.parts ≡ L.parts }
+    requires some { 0 < L.parts }
+    requires short { length text.now ≤ SCAN_LIMIT }
+    requires well_formed { IsWellFormed grammar.now.grammar }
+    ensures { IfOk result (IsOutcome grammar.now.grammar text.now) }
+{
+    let mut graph = PrivateGraph::new(alloc, grammar)?;
+    let mut steps = Steps::<L>::new(blank);
+    parse_over(alloc, parser, &mut graph, text, &mut steps)
+}
+
+/// How a parse of the text comes out. Nobody reads the count of steps.
 pub(crate) fn outcome_of(
     alloc: Global,
+    parser: &mut Parser,
     grammar: &Grammar,
     text: &[u8],
 ) -> Result<Outcome, AllocError>
@@ -98,12 +136,5 @@ pub(crate) fn outcome_of(
     requires well_formed { IsWellFormed grammar.now.grammar }
     ensures { IfOk result (IsOutcome grammar.now.grammar text.now) }
 {
-    let found = match scan_text(alloc, grammar, text) {
-        Ok(found) => found,
-        Err(ScanError::NoMemory) => return Err(AllocError),
-        Err(error) => return Ok(Outcome::Scan(error)),
-    };
-    let kinds = kinds_of(alloc, &found)?;
-    let outcome = parse(alloc, grammar, &kinds)?;
-    Ok(outcome)
+    parse_with::<Brand>(alloc, parser, grammar, text, Blank::new(1))
 }

@@ -1,8 +1,8 @@
-use Rattle.std.proofs.Common.{append_assoc, codes}
+use Rattle.std.proofs.Common.{◌≡◌, ◌++◌, append_assoc, codes}
 use Rattle.replies.specs.Lines.{head}
 use Rattle.replies.proofs.text_lines.put_no_sentence.Goals as goal
 
 pub returns : goal.returns
 returns c =
-    rw (c.in_ok-extend_from_slice.ensures.items, c.in_ok-put_head.ensures) (append_assoc c.args.out.now.items (head (codes "parse") c.args.version)
-    (codes " no sentence\n"))
+    let first : c.put_head.new.out.items ≡ c.args.out.now.items ++ head (codes "parse") c.args.version = c.in_ok-put_head.ensures in
+    rw (c.in_ok-extend_from_slice-2.ensures.items, c.in_ok-put_number.ensures, c.in_ok-extend_from_slice.ensures.items, first) (simp append_assoc)

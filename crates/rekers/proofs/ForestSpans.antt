@@ -1,0 +1,1 @@
+-- Each span of the forest has a node whose state moves on its symbol, so each split of it is a visited split.

@@ -1,0 +1,175 @@
+-- Walks down trails: where they can go on, and what stays of them as more is found.
+use Rattle.std.proofs.Common.{◌≡◌, ℕ, zero, suc, ◌+◌, ◌<◌, ◌≤◌, ◌⊎◌, inl, inr, List, [], ◌∷◌, ◌++◌, length, drop, refl, sym, ◌∙◌, ap, subst, arith, Contains, slice_get, Some}
+use Rattle.std.proofs.lemmas.List.{length-append}
+use Rattle.std.proofs.lemmas.Option.{slice_get_within}
+use Rattle.forest.specs.declared.symbols.SymbolId.{SymbolId}
+use Rattle.forest.specs.declared.rules.Rule.{Rule}
+use Rattle.forest.specs.Derivation.{IsNonterminal}
+use Rattle.item_sets.specs.declared.item.Item.{Item}
+use Rattle.item_sets.proofs.Numbering.{IsNumbered}
+use Rattle.gss.specs.declared.stack_graph.Place.{Place}
+use Rattle.gss.specs.declared.stack_graph.Edge.{Edge}
+use Rattle.gss.specs.PlaceGraphs.{place_of, edge_of, LeadsFrom}
+use Rattle.packed_spans.specs.Packed.{PackedSplit}
+use Rattle.parser_states.specs.declared.reduction.Reduction.{Reduction}
+use Rattle.parser_states.specs.Reductions.{reduction_by}
+use Rattle.rekers.specs.Found.{Found, IsNode, Grows, IsTrail, here, over}
+use Rattle.rekers.specs.Reductions.{IsPartial, IsReducible, IsLinkTo, IsReduced, IsTold}
+use Rattle.rekers.specs.Sound.{IsSoundGraph}
+use Rattle.rekers.specs.Steps.{EndsWith}
+use Rattle.rekers.proofs.Growth.{one_at, one_kernel, keeps_back, trail_back, reduced_grows, told_grows, node_grows, partial_grows}
+use Rattle.rekers.proofs.Trails.{between, part_cases, one_told}
+
+-- ---- lists that end alike
+
+pub ends_longer : (trail end : List ℕ) (link : ℕ) → EndsWith trail (link ∷ end) → EndsWith trail end
+ends_longer trail end link (front, e) = (front ++ link ∷ [], e ∙ moved front)
+  where
+    moved : (xs : List ℕ) → xs ++ link ∷ end ≡ (xs ++ link ∷ []) ++ end
+    moved [] = refl
+    moved (x ∷ xs) = ap (λ ys. x ∷ ys) (moved xs)
+
+pub ends_equal : (trail end other : List ℕ) → end ≡ other → EndsWith trail end → EndsWith trail other
+ends_equal trail end other e is = subst (λ xs. EndsWith trail xs) e is
+
+-- a list that is not longer than its end is the end
+pub ends_whole : (trail end : List ℕ) → EndsWith trail end → length trail ≤ length end → trail ≡ end
+ends_whole trail end ([], e) l = e
+ends_whole trail end (x ∷ xs, e) l =
+    let size : length trail ≡ suc (length (xs ++ end)) = ap length e in
+    absurd (omega (arith, l, size, length-append xs end))
+
+-- before one end stands one number
+pub one_before : (end front other : List ℕ) (a b : ℕ) → front ++ a ∷ end ≡ other ++ b ∷ end → a ≡ b
+one_before end [] [] a b e = cc
+one_before end [] (y ∷ ys) a b e =
+    let size : suc (length end) ≡ suc (length (ys ++ b ∷ end)) = ap length e in
+    absurd (omega (arith, size, length-append ys (b ∷ end)))
+one_before end (x ∷ xs) [] a b e =
+    let size : suc (length (xs ++ a ∷ end)) ≡ suc (length end) = ap length e in
+    absurd (omega (arith, size, length-append xs (a ∷ end)))
+one_before end (x ∷ xs) (y ∷ ys) a b e =
+    let tail : xs ++ a ∷ end ≡ ys ++ b ∷ end = cc in
+    one_before end xs ys a b tail
+
+pub ends_in : (trail end : List ℕ) (link : ℕ) → EndsWith trail (link ∷ end) → Contains trail link
+ends_in trail end link (front, e) = subst (λ xs. Contains xs link) (sym e) (behind front)
+  where
+    behind : (xs : List ℕ) → Contains (xs ++ link ∷ end) link
+    behind [] = (0, omega arith, refl)
+    behind (x ∷ xs) = let (k, l, is) = behind xs in (suc k, omega (arith, l), is)
+
+-- ---- trails
+
+pub trail_size : {links : List Edge} {node top : ℕ} {trail labels : List ℕ} {xs : List SymbolId} → IsTrail links node trail xs labels top
+    → length trail ≡ length xs
+trail_size here = refl
+trail_size (over edge on) = ap suc (trail_size on)
+
+-- a trail's links tell where it begins and its labels
+pub one_labels : {links : List Edge} {a b top : ℕ} {trail labels others : List ℕ} {xs ys : List SymbolId} → IsTrail links a trail xs labels top
+    → IsTrail links b trail ys others top → (a ≡ b) × (labels ≡ others)
+one_labels here here = (refl, refl)
+one_labels {links} (over {link = link} {labels = labels} edge on) (over {label = label} edge' on') =
+    let same = one_at links link _ _ edge edge' in
+    let (middle, rest) = one_labels on on' in
+    (ap (λ (e : Edge). e.lower) same, ap (λ n. n ∷ labels) (ap (λ (e : Edge). e.label) same) ∙ ap (λ ns. label ∷ ns) rest)
+
+-- a longer trail with this end has a link more that leads from the node that the walk came down to
+pub next_down : {links : List Edge} {lower node top : ℕ} {trail labels others : List ℕ} {xs ys : List SymbolId} (front end : List ℕ)
+    → IsTrail links lower trail xs labels top → trail ≡ front ++ end → IsTrail links node end ys others top → length end < length trail
+    → (link : ℕ) × LeadsFrom links node link × EndsWith trail (link ∷ end)
+next_down [] end t e u l = absurd (omega (arith, l, ap length e))
+next_down (n ∷ front) end here e u l = absurd cc
+next_down {links} {node = node} {top = top} (n ∷ []) end (over {middle = middle} {link = link} {trail = rest} {xs = xs} {labels = labels} edge on) e u l =
+    let tail : rest ≡ end = cc in
+    let same = (one_labels (subst (λ t. IsTrail links middle t xs labels top) tail on) u).0 in
+    (link, (_, edge, same), ([], ap (λ t. link ∷ t) tail))
+next_down {links} {node = node} {top = top} (n ∷ m ∷ front) end (over {link = link} {trail = rest} edge on) e u l =
+    let tail : rest ≡ m ∷ front ++ end = cc in
+    let size : length rest ≡ suc (length (front ++ end)) = ap length tail in
+    let (below, leads, (before, is)) = next_down (m ∷ front) end on tail u (omega (arith, size, length-append front end)) in
+    (below, leads, (link ∷ before, ap (λ t. link ∷ t) is))
+
+-- what a trail begins with leads up to where its end begins
+pub record IsFront (links : List Edge) (lower : ℕ) (front : List ℕ) (node : ℕ) : Type 0 where
+  pub labels : List ℕ
+  pub symbols : List SymbolId
+  pub on : IsTrail links lower front symbols labels node
+
+pub front_trail : {links : List Edge} {lower node top : ℕ} {trail labels others : List ℕ} {xs ys : List SymbolId} (front end : List ℕ)
+    → IsTrail links lower trail xs labels top → trail ≡ front ++ end → IsTrail links node end ys others top → IsFront links lower front node
+front_trail {links} {lower} {node} {top} {labels = labels} {xs = xs} [] end t e u =
+    let same = (one_labels (subst (λ ts. IsTrail links lower ts xs labels top) e t) u).0 in
+    record { labels = []; symbols = []; on = subst (λ n. IsTrail links lower [] [] [] n) same here }
+front_trail (n ∷ front) end here e u = absurd cc
+front_trail {links} {node = node} (n ∷ front) end (over {lower = lower} {middle = middle} {link = link} {x = x} {label = label} {trail = rest} edge on) e u =
+    let head : link ≡ n = cc in
+    let tail : rest ≡ front ++ end = cc in
+    let part = front_trail front end on tail u in
+    record {
+      labels = label ∷ part.labels;
+      symbols = x ∷ part.symbols;
+      on = over (subst (λ l. slice_get links l ≡ Some (edge_of middle x lower label)) head edge) part.on;
+    }
+
+-- the lower end of a trail is a node, as its top is
+pub trail_node : {rules : List Rule} {tokens : List SymbolId} {f : Found} → IsSoundGraph rules tokens f → {node top : ℕ} {trail labels : List ℕ}
+    {xs : List SymbolId} → IsTrail f.links node trail xs labels top → {w : List Item} {j : ℕ} → IsNode f top w j
+    → (s : List Item) × (i : ℕ) × IsNode f node s i
+trail_node graph here {w} {j} n = (w, j, n)
+trail_node {rules} {tokens} {f} graph (over {link = link} edge on) n = let b = between rules tokens f graph link edge in (b.below, b.from, b.lower_is)
+
+-- ---- reductions
+
+pub partial_size : {rules : List Rule} {f : Found} {reduction : Reduction} {node left : ℕ} {trail labels : List ℕ} {top at : ℕ}
+    → (p : IsPartial rules f reduction node left trail labels top at) → length p.rule.right ≡ reduction.length
+partial_size p = ap (λ (r : Reduction). r.length) p.made
+
+pub partial_left : {rules : List Rule} {f : Found} {reduction : Reduction} {node left : ℕ} {trail labels : List ℕ} {top at : ℕ}
+    → IsPartial rules f reduction node left trail labels top at → IsNonterminal rules reduction.left
+partial_left p = (p.rule, p.live, ap (λ (r : Reduction). r.left) p.made)
+
+module _ (rules : List Rule) (tokens : List SymbolId) (f g : Found) (graph : IsSoundGraph rules tokens f) (grows : Grows f g) where
+  -- along old links to an old top the reduction was there before
+  pub partial_back : {reduction : Reduction} {node left : ℕ} {trail labels : List ℕ} {top at : ℕ} → IsPartial rules g reduction node left trail labels top at
+      → ((link : ℕ) → Contains trail link → link < length f.links) → {w : List Item} {i : ℕ} → IsNode f top w i
+      → IsPartial rules f reduction node left trail labels top at
+  partial_back {node = node} {top = top} {at = at} p below n =
+      let (kernel, place) = one_kernel (node_grows f g grows n) p.top_is in
+      let along = trail_back grows.links p.along below in
+      let (s, i, lower) = trail_node graph along n in
+      let (kernel', place') = one_kernel (node_grows f g grows lower) p.node_is in
+      record {
+        rule = p.rule;
+        live = p.live;
+        made = p.made;
+        upper = p.upper;
+        top_is = subst (λ k. IsNode f top p.upper k) place (subst (λ t. IsNode f top t _) kernel n);
+        finished = p.finished;
+        within = p.within;
+        along = along;
+        kernel = p.kernel;
+        from = p.from;
+        node_is = subst (λ k. IsNode f node p.kernel k) place' (subst (λ t. IsNode f node t i) kernel' lower);
+        dotted = p.dotted;
+      }
+
+  -- a made reduction stays made
+  pub reduced_on : {reduction : Reduction} {lower : ℕ} {labels : List ℕ} {at : ℕ} → IsNonterminal rules reduction.left
+      → IsReduced f reduction lower labels at → IsReduced g reduction lower labels at
+  reduced_on {reduction} x r =
+      let b = between rules tokens f graph r.link r.link_is.there in
+      let owned : r.label < length f.owners = elim (part_cases b.part) [
+        | inl t ↦ absurd (t.0 x)
+        | inr s ↦ omega (arith, slice_get_within f.spans r.label _ s.1, graph.owned)
+      ] in
+      reduced_grows f g grows r owned
+
+  -- how an old split was found was known before
+  pub told_back : IsNumbered rules → IsSoundGraph rules tokens g → (split : PackedSplit) (trail : List ℕ) (top : ℕ) → Contains f.splits split
+      → IsTold rules g split trail top → IsTold rules f split trail top
+  told_back numbers graph' split trail top c t =
+      let (trail', top', told) = graph.told split c in
+      let (same, tops) = one_told rules tokens g graph' numbers t (told_grows f g grows told) in
+      subst (λ n. IsTold rules f split trail n) (sym tops) (subst (λ ts. IsTold rules f split ts top') (sym same) told)

@@ -1,0 +1,47 @@
+//! The parser: its states, its stacks and what it has packed.
+
+use crate::level::Level;
+use gss::StackGraph;
+use packed_spans::PackedSpans;
+use parser_states::States;
+use std::alloc::Global;
+
+/// The buffers of a parse, which keep their memory from text to text.
+#[derive(Drop)]
+pub struct Parser {
+    pub(crate) states: States,
+    pub(crate) stacks: StackGraph,
+    pub(crate) spans: PackedSpans,
+    /// Of each span, the link that made it.
+    pub(crate) owners: Vec<u32>,
+    /// Of each place of the text, a node before which none there moves on a left side.
+    pub(crate) openers: Vec<u32>,
+    /// The links of the walk that is under way, the lowest first.
+    pub(crate) trail: Vec<u32>,
+    /// The labels of the trail.
+    pub(crate) parts: Vec<u32>,
+    pub(crate) level: Level,
+    /// Whether no link joins two nodes of the level.
+    pub(crate) is_flat: bool,
+}
+
+impl Parser {
+    /// A parser that has met nothing.
+    pub fn new(alloc: Global) -> Parser {
+        Parser {
+            states: States::new(alloc),
+            stacks: StackGraph::new(alloc),
+            spans: PackedSpans::new(alloc),
+            owners: Vec::new(alloc),
+            openers: Vec::new(alloc),
+            trail: Vec::new(alloc),
+            parts: Vec::new(alloc),
+            level: Level {
+                at: 0,
+                first_node: 0,
+                first_link: 0,
+            },
+            is_flat: true,
+        }
+    }
+}

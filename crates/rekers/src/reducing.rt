@@ -1,0 +1,104 @@
+//! Reductions, each along one trail of links.
+
+ghost use Rattle.std.specs.Prelude.{◌≡◌, ◌≤◌, ◌<◌, ◌+◌, ◌^◌, ◌++◌, ◌∷◌, [], IfErr, OnOk, ℕ, length, Contains};
+ghost use Rattle.parser_states.specs.Asked.{Stands};
+ghost use Rattle.rekers.specs.Answers.{kinds_of, UnlessNoMemory};
+ghost use Rattle.rekers.specs.Found.{found, Grows};
+ghost use Rattle.rekers.specs.Reductions.{IsLinkTo};
+ghost use Rattle.rekers.specs.Sound.{IsSound};
+ghost use Rattle.rekers.specs.Steps.{IsStep, IsToReduce, Reduces, HasFewNodes, IsWithinLimit, IsAboveLimit, labels_of, IsLinkBy};
+
+use crate::limits::SIZE_LIMIT;
+use crate::parse_error::ParseError;
+use crate::parser::Parser;
+use forest::Token;
+use gss::StackGraph;
+use live_graph::{Graph, NoMemory};
+use parser_states::Reduction;
+use std::sync::ledger::Ledger;
+use steps::Steps;
+
+/// Puts the labels of the links into the buffer.
+fn fill(stacks: &StackGraph, trail: &[u32], parts: &mut Vec<u32>) -> Result<(), NoMemory>
+    requires { (link : ℕ) → Contains trail.now link → link < length stacks.now.links }
+    ensures { OnOk result (parts.new.items ≡ labels_of stacks.now.links trail.now) }
+{
+    parts.clear();
+    for link in trail {
+        parts.push(stacks.edge(*link).label)?;
+    }
+    Ok(())
+}
+
+impl Parser {
+    /// Refuses where there are more links and splits than a parse may have.
+    pub(crate) fn check_size(&self) -> Result<(), ParseError>
+        requires { HasFewNodes self.now }
+        ensures within { OnOk result (IsWithinLimit self.now) }
+        ensures above { IfErr result (IsAboveLimit self.now) }
+    {
+        let links = self.stacks.link_count();
+        let count = links.saturating_add(self.spans.split_count());
+        if count > SIZE_LIMIT as usize {
+            return Err(ParseError::TooLarge {
+                count: SIZE_LIMIT + 1,
+            });
+        }
+        Ok(())
+    }
+
+    /// Adds the split of the trail to the span of the link, if the link made the span.
+    fn split<G: Graph>(
+        &mut self,
+        _graph: &G,
+        _tokens: &[Token],
+        reduction: Reduction,
+        link: u32,
+        lower: u32,
+        top: u32,
+    ) -> Result<(), NoMemory>
+        requires sound { IsSound (G.means _graph.now).grammar.rules (kinds_of _tokens.now) self.old }
+        requires link { IsLinkBy (found self.old) link lower reduction.left self.old.level.at }
+        requires reduces { IsToReduce (G.means _graph.now).grammar.rules (found self.old) reduction lower self.old.trail.items top self.old.level.at }
+        ensures sound { OnOk result (IsSound (G.means _graph.now).grammar.rules (kinds_of _tokens.now) self.new) }
+        ensures grows { OnOk result (Grows (found self.old) (found self.new)) }
+        ensures reduced { OnOk result (Reduces (G.means _graph.now).grammar.rules (found self.old) (found self.new) reduction lower self.old.trail.items top self.old.level.at) }
+        ensures same { OnOk result (self.new ≡ record self.old { spans = self.new.spans; parts = self.new.parts }) }
+        ensures spans { OnOk result (self.new.spans.spans ≡ self.old.spans.spans) }
+    {
+        let span = self.stacks.edge(link).label;
+        if self.owners[span as usize] != link {
+            return Ok(());
+        }
+        fill(&self.stacks, &self.trail, &mut self.parts)?;
+        self.spans.add_split(span, reduction.rule, &self.parts)?;
+        Ok(())
+    }
+
+    /// Makes the reduction along the trail, which leads from the node up to the top.
+    pub(crate) fn reduce<G: Graph, L: Ledger>(
+        &mut self,
+        graph: &mut G,
+        tokens: &[Token],
+        reduction: Reduction,
+        lower: u32,
+        top: u32,
+        steps: &mut Steps<L>,
+    ) -> Result<(), ParseError>
+        requires sound { IsSound (G.means graph.old).grammar.rules (kinds_of tokens.now) self.old }
+        requires within { IsWithinLimit self.old }
+        requires reduces { IsToReduce (G.means graph.old).grammar.rules (found self.old) reduction lower self.old.trail.items top self.old.level.at }
+        ensures step { UnlessNoMemory result (IsStep (kinds_of tokens.now) self.old self.new (G.means graph.old) (G.means graph.new) steps.old steps.new) }
+        ensures reduced { OnOk result (Reduces (G.means graph.old).grammar.rules (found self.old) (found self.new) reduction lower self.old.trail.items top self.old.level.at) }
+        ensures within { OnOk result (IsWithinLimit self.new) }
+        ensures above { IfErr result (IsAboveLimit self.new) }
+        ensures trail { OnOk result (self.new.trail ≡ self.old.trail) }
+        ensures stands { Stands (G.means graph.old) (G.means graph.new) }
+        ensures never_back { steps.old ≤ steps.new }
+    {
+        let link = self.link(graph, tokens, lower, reduction.left, steps)?;
+        self.split(graph, tokens, reduction, link, lower, top)?;
+        self.check_size()?;
+        Ok(())
+    }
+}
