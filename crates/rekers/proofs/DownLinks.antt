@@ -23,7 +23,7 @@ use Rattle.rekers.specs.Answers.{UnlessNoMemory}
 use Rattle.rekers.specs.declared.level.Level.{Level}
 use Rattle.rekers.specs.Found.{Found, found, Keeps, Grows}
 use Rattle.rekers.specs.Reductions.{IsPartial}
-use Rattle.rekers.specs.Sound.{IsSound, IsSoundGraph}
+use Rattle.rekers.specs.Sound.{IsSound}
 use Rattle.rekers.specs.Steps.{IsStep, IsWithinLimit, IsWalking, IsWalked, IsFresh, IsThrough, IsToReduce, Reduces}
 use Rattle.rekers.proofs.Growth.{one_at, node_grows, partial_grows}
 use Rattle.rekers.proofs.Trails.{one_down}
@@ -59,10 +59,12 @@ next_after links node link next (edge, there, upper) = by next
   where
     same : (l : ℕ) → LeadsFromBehind links node (link + 1) l → LeadsFromSame links link l
     same l (above, leads) = (omega (arith, above), edge, there, subst (λ n. LeadsFrom links n l) (sym upper) leads)
+
     back : (l : ℕ) → LeadsFromSame links link l → LeadsFromBehind links node (link + 1) l
     back l (above, other, at, leads) =
-      let is : other ≡ edge = one_at links link other edge at there in
-      (omega (arith, above), subst (λ n. LeadsFrom links n l) (ap (λ (e : Edge). e.upper) is ∙ upper) leads)
+        let is : other ≡ edge = one_at links link other edge at there in
+        (omega (arith, above), subst (λ n. LeadsFrom links n l) (ap (λ (e : Edge). e.upper) is ∙ upper) leads)
+
     by : (next : Option ℕ) → IfSome next (IsLeast (LeadsFromSame links link)) → IfNone next (HasNone (LeadsFromSame links link)) → IsNext links node (link + 1) next
     by None some none = λ l leads. none l (same l leads)
     by (Some first) some none = record { is = back first some.is; least = λ l less leads. some.least l less (same l leads) }
@@ -117,8 +119,8 @@ module _ {Base : Type 0} (tokens : List SymbolId) (old p : Parser) (graph first 
 
     end_is : drop (left - 1) trail.items ≡ link ∷ drop left old.trail.items
     end_is =
-      let same : left - 1 + 1 ≡ left = omega (arith, some) in
-      puts ∙ ap (λ ns. link ∷ ns) (ap (λ n. drop n p.trail.items) same ∙ down.end)
+        let same : left - 1 + 1 ≡ left = omega (arith, some) in
+        puts ∙ ap (λ ns. link ∷ ns) (ap (λ n. drop n p.trail.items) same ∙ down.end)
 
     through_below : walk.through < length p.stacks.links
     through_below = still_below old.stacks.links p.stacks.links walk.through down.step.grows.links walking.link
@@ -127,17 +129,17 @@ module _ {Base : Type 0} (tokens : List SymbolId) (old p : Parser) (graph first 
         → link ≤ walk.through → (IsTrue meets ↔ (IsTrue met ⊎ (link ≡ walk.through)))
         → IsWalking first.grammar.rules (found p) p.level.first_link p.level.at walk lower.lower (left - 1) meets trail.items
     walks_on edge meets there size within meets_is =
-      let rules = graph.grammar.rules in
-      let end = drop left old.trail.items in
-      let (other, at, upper) = down.next_is.is.1 in
-      let same : edge.upper ≡ node = ap (λ (e : Edge). e.upper) (one_at p.stacks.links link edge other there at) ∙ upper in
-      let leads : slice_get p.stacks.links link ≡ Some (edge_of node edge.symbol edge.lower edge.label) =
+        let rules = graph.grammar.rules in
+        let end = drop left old.trail.items in
+        let (other, at, upper) = down.next_is.is.1 in
+        let same : edge.upper ≡ node = ap (λ (e : Edge). e.upper) (one_at p.stacks.links link edge other there at) ∙ upper in
+        let leads : slice_get p.stacks.links link ≡ Some (edge_of node edge.symbol edge.lower edge.label) =
         subst (λ n. slice_get p.stacks.links link ≡ Some (edge_of n edge.symbol edge.lower edge.label)) same there in
-      let is_suc : left ≡ suc (left - 1) = omega (arith, some) in
-      let partial = subst (λ n. IsPartial rules (found p) walk.reduction node n end walking.labels walk.top old.level.at) is_suc
-          (partial_grows (found old) (found p) down.step.grows walking.partial) in
-      let lower = one_down rules tokens (found p) now.graph now.numbered partial link edge.lower edge.label edge.symbol leads in
-      let here : IsWalking rules (found p) old.level.first_link old.level.at walk edge.lower (left - 1) meets trail.items =
+        let is_suc : left ≡ suc (left - 1) = omega (arith, some) in
+        let partial = subst (λ n. IsPartial rules (found p) walk.reduction node n end walking.labels walk.top old.level.at) is_suc
+        (partial_grows (found old) (found p) down.step.grows walking.partial) in
+        let lower = one_down rules tokens (found p) now.graph now.numbered partial link edge.lower edge.label edge.symbol leads in
+        let here : IsWalking rules (found p) old.level.first_link old.level.at walk edge.lower (left - 1) meets trail.items =
         record {
           labels = edge.label ∷ walking.labels;
           room = omega (arith, walking.room, size, down.size);
@@ -163,17 +165,17 @@ module _ {Base : Type 0} (tokens : List SymbolId) (old p : Parser) (graph first 
               (fresh_next rules tokens now.numbered (found old) (found p) sound.graph now.graph down.step.grows walk old.level.at node end down.bound link
               walking.fresh down.walked down.next_is.is.0);
         } in
-      let leveled = subst (λ (lv : Level). IsWalking rules (found p) lv.first_link lv.at walk edge.lower (left - 1) meets trail.items) (sym down.step.level) here in
-      subst (λ (gr : Grammar). IsWalking gr.rules (found p) p.level.first_link p.level.at walk edge.lower (left - 1) meets trail.items)
+        let leveled = subst (λ (lv : Level). IsWalking rules (found p) lv.first_link lv.at walk edge.lower (left - 1) meets trail.items) (sym down.step.level) here in
+        subst (λ (gr : Grammar). IsWalking gr.rules (found p) p.level.first_link p.level.at walk edge.lower (left - 1) meets trail.items)
         (sym down.stands.grammar) leveled
 
     -- and comes back
     module _ (q : Parser) (second : Meaning Base) (after : ℕ) (step : IsStep tokens (record p { trail = trail }) q first second between after) where
       step_both : IsStep tokens old q graph second before after
       step_both =
-        let on : IsStep tokens p q first second between after =
+          let on : IsStep tokens p q first second between after =
           record { sound = step.sound; grows = step.grows; placed = step.placed; level = step.level; asks = step.asks } in
-        step_on tokens old p q graph first second before between after down.step on
+          step_on tokens old p q graph first second before between after down.step on
 
       pub step_back : IsStep tokens old q graph second before after
       step_back = step_both
@@ -183,30 +185,30 @@ module _ {Base : Type 0} (tokens : List SymbolId) (old p : Parser) (graph first 
           → Stands first second → between ≤ after → (next : Option ℕ) → IfSome next (IsLeast (LeadsFromSame q.stacks.links link))
           → IfNone next (HasNone (LeadsFromSame q.stacks.links link)) → IsDown tokens old q graph second before after walk node left next
       down_more walked within kept size same_size stands back next is_some is_none =
-        let rules = graph.grammar.rules in
-        let end = drop left old.trail.items in
-        let both = stands_on graph first second down.stands stands in
-        let later : IsSound rules tokens q = subst (λ (gr : Grammar). IsSound gr.rules tokens q) both.grammar step_both.sound in
-        let by_rules : IsWalked rules (found p) (found q) walk p.level.at (drop (left - 1) trail.items) =
+          let rules = graph.grammar.rules in
+          let end = drop left old.trail.items in
+          let both = stands_on graph first second down.stands stands in
+          let later : IsSound rules tokens q = subst (λ (gr : Grammar). IsSound gr.rules tokens q) both.grammar step_both.sound in
+          let by_rules : IsWalked rules (found p) (found q) walk p.level.at (drop (left - 1) trail.items) =
           subst (λ (gr : Grammar). IsWalked gr.rules (found p) (found q) walk p.level.at (drop (left - 1) trail.items)) down.stands.grammar walked in
-        let by_level : IsWalked rules (found p) (found q) walk old.level.at (drop (left - 1) trail.items) =
+          let by_level : IsWalked rules (found p) (found q) walk old.level.at (drop (left - 1) trail.items) =
           subst (λ (lv : Level). IsWalked rules (found p) (found q) walk lv.at (drop (left - 1) trail.items)) down.step.level by_rules in
-        let by_end : IsWalked rules (found p) (found q) walk old.level.at (link ∷ end) =
+          let by_end : IsWalked rules (found p) (found q) walk old.level.at (link ∷ end) =
           subst (λ ns. IsWalked rules (found p) (found q) walk old.level.at ns) end_is by_level in
-        let is_suc : left ≡ suc (left - 1) = omega (arith, some) in
-        let (edge, there, upper) = down.next_is.is.1 in
-        record {
-          step = step_both;
-          stands = both;
-          back = omega (arith, down.back, back);
-          within = within;
-          end = ap (λ n. drop n q.trail.items) is_suc ∙ sym (drop_one (left - 1) q.trail.items) ∙ ap (λ ns. drop 1 ns) (kept ∙ end_is);
-          size = size ∙ same_size ∙ down.size;
-          bound = link + 1;
-          walked = walked_more rules tokens now.numbered (found old) (found p) (found q) now.graph later.graph step.grows walk old.level.at node end down.bound
-              down.walked link inside down.next_is through_below (node_grows (found old) (found p) down.step.grows walking.partial.top_is) by_end;
-          next_is = next_after q.stacks.links node link next (edge, step.grows.links link edge there, upper) is_some is_none;
-        }
+          let is_suc : left ≡ suc (left - 1) = omega (arith, some) in
+          let (edge, there, upper) = down.next_is.is.1 in
+          record {
+            step = step_both;
+            stands = both;
+            back = omega (arith, down.back, back);
+            within = within;
+            end = ap (λ n. drop n q.trail.items) is_suc ∙ sym (drop_one (left - 1) q.trail.items) ∙ ap (λ ns. drop 1 ns) (kept ∙ end_is);
+            size = size ∙ same_size ∙ down.size;
+            bound = link + 1;
+            walked = walked_more rules tokens now.numbered (found old) (found p) (found q) now.graph later.graph step.grows walk old.level.at node end down.bound
+                down.walked link inside down.next_is through_below (node_grows (found old) (found p) down.step.grows walking.partial.top_is) by_end;
+            next_is = next_after q.stacks.links node link next (edge, step.grows.links link edge there, upper) is_some is_none;
+          }
 
   -- no link is left
   pub down_all : IsDown tokens old p graph first before between walk node left None → 0 < left

@@ -20,7 +20,7 @@ use Rattle.parser_states.specs.Expanded.{OfState}
 use Rattle.parser_states.specs.Asked.{Stands}
 use Rattle.rekers.specs.declared.parser.Parser.{Parser}
 use Rattle.rekers.specs.declared.level.Level.{Level}
-use Rattle.rekers.specs.Found.{Found, found, IsNode}
+use Rattle.rekers.specs.Found.{found, IsNode}
 use Rattle.rekers.specs.Reductions.{IsReducible, IsReduced, IsTold, IsWorked}
 use Rattle.rekers.specs.Sound.{IsSound}
 use Rattle.rekers.specs.Steps.{IsStep, IsWithinLimit, IsToReduce, Reduces}

@@ -9,7 +9,7 @@ use Rattle.item_sets.specs.declared.item.Item.{Item}
 use Rattle.item_sets.proofs.Chains.{at_below}
 use Rattle.gss.specs.declared.stack_graph.Place.{Place}
 use Rattle.gss.specs.declared.stack_graph.Edge.{Edge}
-use Rattle.gss.specs.PlaceGraphs.{place_of, edge_of}
+use Rattle.gss.specs.PlaceGraphs.{place_of}
 use Rattle.packed_spans.specs.Packed.{PackedSplit}
 use Rattle.parser_states.specs.declared.reduction.Reduction.{Reduction}
 use Rattle.rekers.specs.Found.{Found, IsNode, Keeps, Grows, IsTrail, here, over}
@@ -66,8 +66,7 @@ grows_on f g h a b = record {
 pub one_kernel : {f : Found} {node : ℕ} {s t : List Item} {i j : ℕ} → IsNode f node s i → IsNode f node t j → (s ≡ t) × (i ≡ j)
 one_kernel {f} {node} {s} {t} {i} {j} a b =
     let same : place_of a.state i ≡ place_of b.state j = one_at f.nodes node _ _ a.there b.there in
-    let state : a.state ≡ b.state = ap (λ (p : Place). p.state) same in
-    (
+    let state : a.state ≡ b.state = ap (λ (p : Place). p.state) same in (
       one_at f.kernels a.state s t a.is_kernel (subst (λ n. slice_get f.kernels n ≡ Some t) (sym state) b.is_kernel),
       ap (λ (p : Place). p.at) same,
     )

@@ -194,7 +194,7 @@ module _ {Base : Type 0} (tokens : List SymbolId) (old p : Parser) (graph first 
   pub still_fresh : IsWorked graph.grammar.rules (found old) link nodes → IsAnyFresh first.grammar.rules (found p) node link
   still_fresh worked = subst (λ (gr : Grammar). IsAnyFresh gr.rules (found p) node link) (sym way.stands.grammar)
       (any_fresh graph.grammar.rules tokens now.numbered (found old) (found p) sound.graph now.graph way.step.grows link old.level.at begin node nodes
-          worked way.walked)
+      worked way.walked)
 
   pub link_way_on : (q : Parser) (second : Meaning Base) (after : ℕ) → IsStep tokens p q first second between after
       → IsStep tokens old q graph second before after
@@ -234,11 +234,11 @@ module _ {Base : Type 0} (tokens : List SymbolId) (old p : Parser) (graph first 
 
 module _ {Base : Type 0} (tokens : List SymbolId) (p : Parser) (graph : Meaning Base) (link nodes : ℕ) (edge : Edge)
     (sound : IsSound graph.grammar.rules tokens p) (of_level : IsOfLevel (found p) p.level.first_link link)
-        (there : slice_get p.stacks.links link ≡ Some edge) where
+    (there : slice_get p.stacks.links link ≡ Some edge) where
   pub upper_within : edge.upper < length p.stacks.nodes
   upper_within =
       let b = between graph.grammar.rules tokens (found p) sound.graph link {upper = edge.upper} {x = edge.symbol} {lower = edge.lower}
-          {label = edge.label} there in
+      {label = edge.label} there in
       node_below b.upper_is
 
   pub upper_worked : (q : Parser) (second : Meaning Base) (before after : ℕ) → IsStep tokens p q graph second before after → Stands graph second

@@ -1,5 +1,5 @@
 -- Steps of a parser, one after the other, and what a link is known by.
-use Rattle.std.proofs.Common.{◌≡◌, ℕ, ◌+◌, ◌<◌, ◌≤◌, ◌≢◌, ◌⊎◌, inl, inr, List, [], ◌∷◌, ◌++◌, length, refl, sym, ◌∙◌, ap, subst, arith, Contains, slice_get, Some}
+use Rattle.std.proofs.Common.{◌≡◌, ℕ, ◌<◌, ◌≤◌, ◌≢◌, inl, inr, List, [], ◌∷◌, ◌++◌, length, refl, sym, ◌∙◌, ap, subst, arith, Contains, slice_get, Some}
 use Rattle.std.proofs.lemmas.Bool.{cases_lt}
 use Rattle.std.proofs.lemmas.Option.{slice_get_within}
 use Rattle.forest.specs.declared.symbols.SymbolId.{SymbolId}
@@ -13,16 +13,15 @@ use Rattle.gss.specs.PlaceGraphs.{place_of, edge_of, LeadsToBy}
 use Rattle.edit_log.specs.History.{Grammar}
 use Rattle.live_graph.specs.Meaning.{Meaning}
 use Rattle.packed_spans.specs.Complete.{IsPartAt}
-use Rattle.parser_states.specs.Reductions.{Opens}
 use Rattle.parser_states.specs.Asked.{AsksNew}
 use Rattle.parser_states.proofs.AskedKernels.{asks_none, asks_join}
 use Rattle.rekers.specs.declared.parser.Parser.{Parser}
 use Rattle.rekers.specs.declared.level.Level.{Level}
 use Rattle.rekers.specs.Found.{Found, found, IsNode, Grows}
 use Rattle.rekers.specs.Reductions.{IsLinkTo}
-use Rattle.rekers.specs.Sound.{IsSound, IsSoundGraph, ArePlaced, IsFirst, IsLevel, AreOpeners}
+use Rattle.rekers.specs.Sound.{IsSound, IsSoundGraph, IsFirst}
 use Rattle.rekers.specs.Steps.{IsStep, IsLinkable, IsUnlinked, IsLinkBy, IsFirstOf}
-use Rattle.rekers.proofs.Growth.{one_at, one_kernel, kernel_at, grows_same, grows_on, node_grows, node_below}
+use Rattle.rekers.proofs.Growth.{one_at, one_kernel, grows_same, grows_on, node_grows}
 use Rattle.rekers.proofs.Trails.{between, part_cases}
 use Rattle.rekers.proofs.PlacedNodes.{highest}
 use Rattle.rekers.proofs.NewNodes.{old_or_last, first_stays}

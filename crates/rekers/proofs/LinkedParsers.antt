@@ -1,28 +1,26 @@
 -- A parser with one more link is sound.
-use Rattle.std.proofs.Common.{◌≡◌, ℕ, ◌+◌, ◌<◌, ◌≤◌, ◌⊎◌, inl, inr, List, [], ◌∷◌, ◌++◌, length, refl, sym, ◌∙◌, ap, subst, arith, Contains, slice_get, Some, length-append, Bool, IsTrue}
+use Rattle.std.proofs.Common.{◌≡◌, ℕ, ◌<◌, inl, inr, List, [], ◌∷◌, ◌++◌, length, sym, ◌∙◌, ap, subst, arith, slice_get, Some, length-append, Bool, IsTrue}
 use Rattle.std.specs.declared.alloc.Global.{Global}
 use Rattle.std.specs.declared.vec.Vec.{Vec}
-use Rattle.std.proofs.lemmas.Option.{slice_get_within}
 use Rattle.forest.specs.declared.symbols.SymbolId.{SymbolId}
 use Rattle.forest.specs.declared.rules.Rule.{Rule}
 use Rattle.forest.specs.Derivation.{IsNonterminal}
 use Rattle.item_sets.specs.declared.item.Item.{Item}
-use Rattle.gss.specs.declared.stack_graph.Place.{Place}
 use Rattle.gss.specs.declared.stack_graph.Edge.{Edge}
-use Rattle.gss.specs.PlaceGraphs.{PlaceGraph, place_of, edge_of}
+use Rattle.gss.specs.PlaceGraphs.{PlaceGraph, edge_of}
 use Rattle.packed_spans.specs.declared.span.Span.{Span}
 use Rattle.packed_spans.specs.declared.span.TheConstants.{TOKEN_PART}
 use Rattle.packed_spans.specs.Packed.{Packed, PackedSplit}
-use Rattle.packed_spans.specs.Complete.{IsPartAt, of_token, of_span}
+use Rattle.packed_spans.specs.Complete.{IsPartAt, of_span}
 use Rattle.rekers.specs.declared.parser.Parser.{Parser}
-use Rattle.rekers.specs.Found.{Found, found, Keeps, Grows}
+use Rattle.rekers.specs.Found.{found, Keeps, Grows}
 use Rattle.rekers.specs.Reductions.{IsLinkTo}
 use Rattle.rekers.specs.Sound.{IsSound, IsFirst, IsFlat, IsOwner}
 use Rattle.rekers.specs.Steps.{IsLinkable, IsUpper, IsUnlinked}
-use Rattle.rekers.proofs.Growth.{keeps_same, keeps_append, one_at}
+use Rattle.rekers.proofs.Growth.{keeps_same, keeps_append}
 use Rattle.rekers.proofs.NewNodes.{at_end, old_or_last}
 use Rattle.rekers.proofs.PlacedNodes.{graph_is}
-use Rattle.rekers.proofs.NewLinks.{with_link, link_grows_by, link_joins, link_level, link_openers, link_there, new_owner}
+use Rattle.rekers.proofs.NewLinks.{with_link, link_grows_by, link_joins, link_level, link_openers, new_owner}
 
 -- what is packed is told by its spans and splits
 packed_is : (packed : Packed) (spans : List Span) (p : Packed) → packed.spans ≡ spans → packed.splits ≡ p.splits → record { spans = spans; splits = p.splits } ≡ packed

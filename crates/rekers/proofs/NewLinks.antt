@@ -1,25 +1,20 @@
 -- One more link keeps what is found sound, under a label that is known or as the owner of a new span.
-use Rattle.std.proofs.Common.{◌≡◌, ℕ, ◌+◌, ◌<◌, ◌≤◌, ◌⊎◌, inl, inr, List, [], ◌∷◌, ◌++◌, length, refl, sym, ◌∙◌, ap, subst, arith, Contains, slice_get, Some, length-append}
+use Rattle.std.proofs.Common.{◌≡◌, ℕ, ◌≤◌, ◌⊎◌, inl, inr, List, [], ◌∷◌, ◌++◌, length, refl, sym, ◌∙◌, ap, subst, arith, slice_get, Some, length-append}
 use Rattle.std.proofs.lemmas.Bool.{cases_lt}
-use Rattle.std.proofs.lemmas.Option.{slice_get_within}
 use Rattle.forest.specs.declared.symbols.SymbolId.{SymbolId}
 use Rattle.forest.specs.declared.rules.Rule.{Rule}
-use Rattle.forest.specs.Derivation.{Derives, IsNonterminal}
-use Rattle.item_sets.specs.declared.item.Item.{Item}
-use Rattle.item_sets.specs.Expansions.{HasMove, IsMoveOf}
+use Rattle.forest.specs.Derivation.{IsNonterminal}
+use Rattle.item_sets.specs.Expansions.{IsMoveOf}
 use Rattle.gss.specs.declared.stack_graph.Place.{Place}
 use Rattle.gss.specs.declared.stack_graph.Edge.{Edge}
 use Rattle.gss.specs.PlaceGraphs.{place_of, edge_of}
 use Rattle.packed_spans.specs.declared.span.Span.{Span}
-use Rattle.packed_spans.specs.Complete.{IsPartAt, of_token, of_span}
-use Rattle.packed_spans.specs.Packed.{PackedSplit}
-use Rattle.rekers.specs.States.{IsStateAt}
-use Rattle.rekers.specs.Size.{IsLink}
-use Rattle.rekers.specs.Found.{Found, IsNode, Keeps, Grows}
+use Rattle.packed_spans.specs.Complete.{IsPartAt}
+use Rattle.rekers.specs.Found.{Found, Keeps, Grows}
 use Rattle.rekers.specs.Reductions.{IsLinkTo}
-use Rattle.rekers.specs.Sound.{IsSoundGraph, IsSoundLink, IsOwner, IsFirst, IsLevel, IsOpener, AreOpeners, link_of}
+use Rattle.rekers.specs.Sound.{IsSoundGraph, IsSoundLink, IsOwner, IsFirst, IsLevel, AreOpeners}
 use Rattle.rekers.specs.Steps.{IsLinkable, IsUpper, IsUnlinked}
-use Rattle.rekers.proofs.Growth.{one_at, one_kernel, kernel_at, keeps_same, keeps_append, keeps_back, node_grows, node_below, told_grows}
+use Rattle.rekers.proofs.Growth.{one_at, one_kernel, keeps_same, keeps_append, node_grows, node_below, told_grows}
 use Rattle.rekers.proofs.NewNodes.{at_end, old_or_last, link_stays, owner_stays, first_stays}
 use Rattle.rekers.proofs.Trails.{node_state}
 

@@ -1,12 +1,11 @@
 -- More states and one more node keep what is found sound.
-use Rattle.std.proofs.Common.{◌≡◌, ℕ, suc, ◌+◌, ◌<◌, ◌≤◌, ◌⊎◌, inl, inr, List, [], ◌∷◌, ◌++◌, length, refl, sym, ◌∙◌, ap, subst, arith, Contains, slice_get, Some}
+use Rattle.std.proofs.Common.{◌≡◌, ℕ, ◌+◌, ◌<◌, ◌≤◌, ◌⊎◌, inl, inr, List, [], ◌∷◌, ◌++◌, length, refl, sym, ◌∙◌, ap, subst, arith, slice_get, Some}
 use Rattle.std.proofs.Common.{length-append}
 use Rattle.std.proofs.lemmas.Bool.{cases_lt}
-use Rattle.std.proofs.lemmas.Option.{slice_get_within, slice_get_past}
+use Rattle.std.proofs.lemmas.Option.{slice_get_within}
 use Rattle.forest.specs.declared.symbols.SymbolId.{SymbolId}
 use Rattle.forest.specs.declared.rules.Rule.{Rule}
 use Rattle.item_sets.specs.declared.item.Item.{Item}
-use Rattle.item_sets.specs.Expansions.{HasMove}
 use Rattle.gss.specs.declared.stack_graph.Place.{Place}
 use Rattle.gss.specs.declared.stack_graph.Edge.{Edge}
 use Rattle.gss.specs.PlaceGraphs.{place_of, HasNode}
@@ -15,7 +14,6 @@ use Rattle.parser_states.specs.Reductions.{Opens}
 use Rattle.rekers.specs.States.{IsStateAt}
 use Rattle.rekers.specs.Found.{Found, IsNode, Keeps, Grows}
 use Rattle.rekers.specs.Sound.{IsSoundGraph, IsSoundLink, IsFirst, IsOwner, IsLevel, IsOpener, AreOpeners}
-use Rattle.rekers.specs.Steps.{AddsNode}
 use Rattle.rekers.proofs.Growth.{one_at, keeps_same, keeps_back, keeps_append, node_grows, one_kernel, node_below, told_grows}
 
 -- ---- the last element
@@ -30,10 +28,10 @@ pub old_or_last : {X : Type 0} (xs : List X) (x : X) (place : ℕ) (y : X) → s
 old_or_last xs x place y e = elim (cases_lt place (length xs)) [
   | inl below ↦ inl (keeps_back xs (xs ++ x ∷ []) (keeps_append xs (x ∷ [])) place y below e)
   | inr past ↦
-    let within : place < length (xs ++ x ∷ []) = slice_get_within (xs ++ x ∷ []) place y e in
-    let here : place ≡ length xs = omega (arith, within, length-append xs (x ∷ [])) in
-    let last : slice_get (xs ++ x ∷ []) place ≡ Some x = subst (λ n. slice_get (xs ++ x ∷ []) n ≡ Some x) (sym here) (at_end xs x) in
-    inr (here, one_at (xs ++ x ∷ []) place y x e last)
+      let within : place < length (xs ++ x ∷ []) = slice_get_within (xs ++ x ∷ []) place y e in
+      let here : place ≡ length xs = omega (arith, within, length-append xs (x ∷ [])) in
+      let last : slice_get (xs ++ x ∷ []) place ≡ Some x = subst (λ n. slice_get (xs ++ x ∷ []) n ≡ Some x) (sym here) (at_end xs x) in
+      inr (here, one_at (xs ++ x ∷ []) place y x e last)
 ]
 
 -- ---- states and nodes join
@@ -178,11 +176,11 @@ module _ (rules : List Rule) (tokens : List SymbolId) (f : Found) (sound : IsSou
         | inr last ↦ absurd (omega (arith, l, last.0, slice_get_within f.nodes b high old))
       ]
       | inr last ↦
-        let top : high.at ≡ at = ap (λ (p : Place). p.at) last.1 in
-        elim (old_or_last f.nodes (place_of state at) a low e) [
-          | inl old ↦ omega (arith, highest a low old, top)
-          | inr also ↦ let same : low.at ≡ at = ap (λ (p : Place). p.at) also.1 in omega (arith, same, top)
-        ]
+          let top : high.at ≡ at = ap (λ (p : Place). p.at) last.1 in
+          elim (old_or_last f.nodes (place_of state at) a low e) [
+            | inl old ↦ omega (arith, highest a low old, top)
+            | inr also ↦ let same : low.at ≡ at = ap (λ (p : Place). p.at) also.1 in omega (arith, same, top)
+          ]
     ];
     links = λ link edge e. link_stays rules tokens f with_node sound node_grows_by (sound.links link edge e);
     one_link = λ a b edge other upper above e g low x up up' level. sound.one_link a b edge other upper above e g low x (old_upper a edge upper e up)
@@ -214,7 +212,7 @@ module _ (rules : List Rule) (tokens : List SymbolId) (f : Found) (sound : IsSou
   -- what is noted of openers holds on, where the new node opens or was passed over
   pub openers_join : (openers openers' : List ℕ) → AreOpeners rules f openers at → length openers' ≡ length openers
       → ((i node : ℕ) → slice_get openers' i ≡ Some node
-        → (slice_get openers i ≡ Some node) ⊎ ((i ≡ at) × (node ≡ length f.nodes + 1) × (slice_get openers at ≡ Some (length f.nodes)) × (Opens rules kernel → ⊥)))
+      → (slice_get openers i ≡ Some node) ⊎ ((i ≡ at) × (node ≡ length f.nodes + 1) × (slice_get openers at ≡ Some (length f.nodes)) × (Opens rules kernel → ⊥)))
       → AreOpeners rules (with_nodes f f.kernels (f.nodes ++ place_of state at ∷ [])) openers' at
   unfolding with_node
   openers_join openers openers' are size noted = record { size = size ∙ are.size; each = each }
@@ -225,7 +223,7 @@ module _ (rules : List Rule) (tokens : List SymbolId) (f : Found) (sound : IsSou
       new_node : {other : ℕ} {own : List Item} {i : ℕ} → IsNode with_node other own i → other ≡ length f.nodes → (own ≡ kernel) × (i ≡ at)
       new_node {other} {own} {i} n e =
           let last : slice_get (f.nodes ++ place_of state at ∷ []) other ≡ Some (place_of state at) =
-            subst (λ m. slice_get (f.nodes ++ place_of state at ∷ []) m ≡ Some (place_of state at)) (sym e) (at_end f.nodes (place_of state at)) in
+          subst (λ m. slice_get (f.nodes ++ place_of state at ∷ []) m ≡ Some (place_of state at)) (sym e) (at_end f.nodes (place_of state at)) in
           let is : IsNode with_node other kernel at = record { state = state; there = last; is_kernel = named } in
           one_kernel n is
 
@@ -244,16 +242,16 @@ module _ (rules : List Rule) (tokens : List SymbolId) (f : Found) (sound : IsSou
       each i node e = elim (noted i node e) [
         | inl old ↦ kept i node (are.each i node old) (omega (arith, are.size, slice_get_within openers i node old))
         | inr (here, past, was, closed) ↦
-          let is = are.each at (length f.nodes) was in
-          record {
-            within = omega (arith, past, longer_by);
-            behind = λ other place e m. absurd (omega (arith, past, m, longer_by, slice_get_within (f.nodes ++ place_of state at ∷ []) other place e));
-            none_before = λ other own n m. elim (cases_lt other (length f.nodes)) [
-              | inl below ↦ is.none_before other own
-                  (subst (λ k. IsNode f other own k) here (node_back rules tokens f with_node sound node_grows_by below n)) below
-              | inr above ↦
-                let same = (new_node n (omega (arith, past, m, above))).0 in
-                λ opens. closed (subst (λ k. Opens rules k) same opens)
-            ];
-          }
+            let is = are.each at (length f.nodes) was in
+            record {
+              within = omega (arith, past, longer_by);
+              behind = λ other place e m. absurd (omega (arith, past, m, longer_by, slice_get_within (f.nodes ++ place_of state at ∷ []) other place e));
+              none_before = λ other own n m. elim (cases_lt other (length f.nodes)) [
+                | inl below ↦ is.none_before other own
+                    (subst (λ k. IsNode f other own k) here (node_back rules tokens f with_node sound node_grows_by below n)) below
+                | inr above ↦
+                    let same = (new_node n (omega (arith, past, m, above))).0 in
+                    λ opens. closed (subst (λ k. Opens rules k) same opens)
+              ];
+            }
       ]

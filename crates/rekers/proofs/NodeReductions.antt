@@ -67,7 +67,7 @@ same_list (x ∷ xs) (y ∷ ys) a b f g =
     (λ z c. elim (contains_cases x xs z (g z (contains_there y ys z c))) [
       | inl e ↦
           let less : number_cmp y y ≡ Less = subst (λ w. number_cmp y w ≡ Less) (sym (sym heads ∙ e))
-              (each_contained (λ z. number_cmp y z ≡ Less) ys z b.0 c) in
+          (each_contained (λ z. number_cmp y z ≡ Less) ys z b.0 c) in
           absurd (asymmetric y y less less)
       | inr d ↦ d
     ]) in
@@ -301,11 +301,11 @@ module _ {Base : Type 0} (tokens : List SymbolId) (old p : Parser) (graph first 
       next_is_fresh fresh =
           subst (λ (gr : Grammar). IsFresh gr.rules (found p) (walk_of reduction node link) []) (sym way.stands.grammar)
           (next_fresh graph.grammar.rules tokens now.numbered (found old) (found p) sound.graph now.graph way.step.grows node link old.level.at way.list
-              count reduction there way.walked way.lists.ascends fresh)
+          count reduction there way.walked way.lists.ascends fresh)
 
       pub under_way_more : (q : Parser) (second : Meaning Base) (after : ℕ) → IsStep tokens p q first second between after
           → IsWalked first.grammar.rules (found p) (found q) (walk_of reduction node link) p.level.at [] → IsWithinLimit q → Stands first second
-              → between ≤ after
+          → between ≤ after
           → IsNodeUnderWay tokens old q graph second before after node link state size (count + 1)
       under_way_more q second after step walked within stands back =
           let both = step_on tokens old p q graph first second before between after way.step step in

@@ -1,5 +1,5 @@
 -- A parser with more states, and with one more node, is sound.
-use Rattle.std.proofs.Common.{◌≡◌, ℕ, ◌+◌, ◌<◌, ◌≤◌, ◌⊎◌, inl, inr, List, [], ◌∷◌, ◌++◌, length, refl, sym, ◌∙◌, ap, subst, arith, Contains, slice_get, Some, false, true, Bool, IsTrue}
+use Rattle.std.proofs.Common.{◌≡◌, ℕ, ◌+◌, ◌≤◌, ◌⊎◌, inl, inr, List, [], ◌∷◌, ◌++◌, length, sym, ◌∙◌, ap, subst, arith, slice_get, Some, false, IsTrue}
 use Rattle.std.specs.declared.alloc.Global.{Global}
 use Rattle.std.specs.declared.vec.Vec.{Vec}
 use Rattle.std.proofs.lemmas.Bool.{cases_lt}
@@ -15,10 +15,9 @@ use Rattle.parser_states.specs.Reductions.{Opens}
 use Rattle.parser_states.specs.Expanded.{AreExpandedIn}
 use Rattle.rekers.specs.declared.parser.Parser.{Parser}
 use Rattle.rekers.specs.States.{IsStateAt}
-use Rattle.rekers.specs.Found.{Found, found, IsNode, Keeps}
-use Rattle.rekers.specs.Sound.{IsSound, IsSoundGraph, IsLevel}
-use Rattle.rekers.specs.Steps.{AddsNode, IsPassed}
-use Rattle.rekers.proofs.Growth.{one_at}
+use Rattle.rekers.specs.Found.{Found, found, Keeps}
+use Rattle.rekers.specs.Sound.{IsSound, IsLevel}
+use Rattle.rekers.specs.Steps.{AddsNode}
 use Rattle.rekers.proofs.NewNodes.{old_or_last, states_join, node_joins, level_joins, openers_join, opener_stays}
 
 pub never_true : IsTrue false → ⊥
@@ -76,18 +75,18 @@ module _ (rules : List Rule) (tokens : List SymbolId) (p : Parser) (sound : IsSo
     node_sound graph openers new nodes links size notes =
         let all = highest (found p) p.level.at p.level.first_node p.level.first_link sound.level in
         let joined : IsSound rules tokens (record p { stacks = record { nodes = p.stacks.nodes ++ place_of state p.level.at ∷ []; links = p.stacks.links }; openers = openers }) =
-          record {
-            numbered = sound.numbered;
-            terminals = sound.terminals;
-            expanded = sound.expanded;
-            graph = node_joins rules tokens (found p) sound.graph state p.level.at kernel named reached all new;
-            level = level_joins rules tokens (found p) sound.graph state p.level.at kernel named reached all new p.level.first_node p.level.first_link sound.level;
-            openers = openers_join rules tokens (found p) sound.graph state p.level.at kernel named reached all new p.openers.items openers.items sound.openers size notes;
-            flat = sound.flat;
-            spans_below = sound.spans_below;
-          } in
+        record {
+          numbered = sound.numbered;
+          terminals = sound.terminals;
+          expanded = sound.expanded;
+          graph = node_joins rules tokens (found p) sound.graph state p.level.at kernel named reached all new;
+          level = level_joins rules tokens (found p) sound.graph state p.level.at kernel named reached all new p.level.first_node p.level.first_link sound.level;
+          openers = openers_join rules tokens (found p) sound.graph state p.level.at kernel named reached all new p.openers.items openers.items sound.openers size notes;
+          flat = sound.flat;
+          spans_below = sound.spans_below;
+        } in
         subst (λ (g : PlaceGraph). IsSound rules tokens (record p { stacks = g; openers = openers }))
-          (graph_is graph (p.stacks.nodes ++ place_of state p.level.at ∷ []) p.stacks.links nodes links) joined
+        (graph_is graph (p.stacks.nodes ++ place_of state p.level.at ∷ []) p.stacks.links nodes links) joined
 
     -- with no node more
     pub same_sound : (graph : PlaceGraph) → graph.nodes ≡ p.stacks.nodes → graph.links ≡ p.stacks.links → IsSound rules tokens (record p { stacks = graph })

@@ -3,12 +3,11 @@ use Rattle.std.proofs.Common.{◌≡◌, ℕ, zero, suc, ◌+◌, ◌<◌, inl, 
 use Rattle.forest.specs.declared.symbols.SymbolId.{SymbolId}
 use Rattle.forest.specs.declared.rules.RuleId.{RuleId}
 use Rattle.forest.specs.declared.rules.Rule.{Rule}
-use Rattle.forest.specs.declared.nodes.Split.{Split}
 use Rattle.forest.specs.Derivation.{DerivesAlong, by_rule, done, part}
 use Rattle.item_sets.specs.declared.item.Item.{Item}
-use Rattle.item_sets.specs.Prefixes.{rule_zero, item_at, HasRight, live, IsNext}
+use Rattle.item_sets.specs.Prefixes.{item_at, HasRight, live, IsNext}
 use Rattle.item_sets.specs.Expansions.{InClosure, own, added, InMove, past, HasMove, IsMoveOf}
-use Rattle.item_sets.proofs.Numbering.{IsNumbered, one_right}
+use Rattle.item_sets.proofs.Numbering.{IsNumbered}
 use Rattle.rekers.specs.States.{IsStateAt}
 use Rattle.rekers.specs.Size.{IsLink, IsVisited}
 use Rattle.rekers.proofs.Saturated.{IsPath, here, over, link_of}

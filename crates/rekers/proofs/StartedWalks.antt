@@ -55,7 +55,7 @@ module _ (rules : List Rule) (tokens : List SymbolId) (f : Found) (graph : IsSou
     | inl before ↦
         let b = between rules tokens f graph link {upper = edge.upper} {x = edge.symbol} {lower = edge.lower} {label = edge.label} there in
         let rises = link_rises rules tokens f graph link {upper = edge.upper} {x = edge.symbol} {lower = edge.lower} {label = edge.label} there b.lower_is
-            b.upper_is in
+        b.upper_is in
         let low = level.nodes_here edge.lower _ b.lower_is.there (omega (arith, is, of_level)) in
         let high = level.nodes_before edge.upper _ b.upper_is.there (level.links_before link edge there before) in
         omega (arith, rises, low, high)
@@ -65,7 +65,7 @@ module _ (rules : List Rule) (tokens : List SymbolId) (f : Found) (graph : IsSou
   -- a trail through a link of the level begins with it
   pub ends_up : {lower top : ℕ} {trail labels : List ℕ} {xs : List SymbolId} → IsTrail f.links lower trail xs labels top
       → (through : ℕ) (edge : Edge) → slice_get f.links through ≡ Some edge → first_link ≤ through → Contains trail through → EndsUp trail through
-          edge.upper top
+      edge.upper top
   ends_up here through edge there of_level (k, l, e) = absurd (omega (arith, l))
   ends_up {top = top} (over {lower = lower} {middle = middle} {link = link} {x = x} {label = label} {trail = rest} first on) through edge there of_level c =
       elim (contains_cases link rest through c) [

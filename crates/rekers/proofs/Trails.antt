@@ -1,30 +1,28 @@
 -- Trails of links: what they derive, that they are told by their labels, and how a walk takes one link more.
-use Rattle.std.proofs.Common.{◌≡◌, ℕ, zero, suc, ◌+◌, ◌<◌, ◌≤◌, ◌⊎◌, inl, inr, List, [], ◌∷◌, ◌++◌, length, drop, refl, sym, ◌∙◌, ap, subst, arith, Contains, slice_get, Some}
+use Rattle.std.proofs.Common.{◌≡◌, ℕ, suc, ◌≤◌, ◌⊎◌, inl, inr, List, [], ◌∷◌, drop, refl, sym, ◌∙◌, ap, subst, arith, Contains, slice_get, Some}
 use Rattle.std.proofs.lemmas.Option.{slice_get_within}
 use Rattle.forest.specs.declared.symbols.SymbolId.{SymbolId}
-use Rattle.forest.specs.declared.rules.RuleId.{RuleId}
 use Rattle.forest.specs.declared.rules.Rule.{Rule}
 use Rattle.forest.specs.Derivation.{Derives, DerivesAlong, by_rule, done, part, IsNonterminal}
 use Rattle.forest.proofs.Ascending.{contains_cases}
 use Rattle.forest.proofs.Derivations.{Derives-le}
 use Rattle.item_sets.specs.declared.item.Item.{Item}
 use Rattle.item_sets.specs.Prefixes.{item_at, live}
-use Rattle.item_sets.specs.Expansions.{InClosure, own, HasMove, IsMoveOf}
+use Rattle.item_sets.specs.Expansions.{InClosure, HasMove}
 use Rattle.item_sets.proofs.Numbering.{IsNumbered, one_right}
 use Rattle.gss.specs.declared.stack_graph.Place.{Place}
 use Rattle.gss.specs.declared.stack_graph.Edge.{Edge}
-use Rattle.gss.specs.PlaceGraphs.{place_of, edge_of}
+use Rattle.gss.specs.PlaceGraphs.{edge_of}
 use Rattle.packed_spans.specs.declared.span.Span.{Span}
 use Rattle.packed_spans.specs.declared.span.TheConstants.{TOKEN_PART}
 use Rattle.packed_spans.specs.Complete.{IsPartAt, of_token, of_span, StandsAlong, no_parts as stands, next_part as stands_on}
 use Rattle.packed_spans.specs.Packed.{PackedSplit}
 use Rattle.parser_states.specs.declared.reduction.Reduction.{Reduction}
-use Rattle.parser_states.specs.Reductions.{reduction_by}
 use Rattle.rekers.specs.States.{IsStateAt}
 use Rattle.rekers.specs.Size.{IsLink}
 use Rattle.rekers.specs.Found.{Found, IsNode, IsTrail, here, over}
-use Rattle.rekers.specs.Reductions.{IsPartial, IsReducible, IsLinkTo, IsTold}
-use Rattle.rekers.specs.Sound.{IsSoundGraph, IsSoundLink, link_of}
+use Rattle.rekers.specs.Reductions.{IsPartial, IsReducible, IsTold}
+use Rattle.rekers.specs.Sound.{IsSoundGraph, link_of}
 use Rattle.rekers.proofs.Growth.{one_at, one_kernel}
 use Rattle.rekers.proofs.Sound.{own_moved, before_dot, drop_at, move_on_left}
 
@@ -172,7 +170,7 @@ module _ (rules : List Rule) (tokens : List SymbolId) (f : Found) (graph : IsSou
       let b = between link edge in
       let (kernel, place) = one_kernel b.upper_is p.node_is in
       let dotted : InClosure rules (Contains b.above) (item_at p.rule.number (suc left)) =
-        subst (λ t. InClosure rules (Contains t) (item_at p.rule.number (suc left))) (sym kernel) p.dotted in
+      subst (λ t. InClosure rules (Contains t) (item_at p.rule.number (suc left))) (sym kernel) p.dotted in
       let (back, next) = before_dot (b.link.move.list.within (item_at p.rule.number (suc left)) (own_moved dotted (omega arith))) left refl in
       let same : next.right ≡ p.rule.right = (one_right rules numbers).one p.rule.number _ _ next.has (live p.live) in
       let at : slice_get p.rule.right left ≡ Some x = rw same at next.at_dot in
@@ -229,7 +227,7 @@ module _ (rules : List Rule) (tokens : List SymbolId) (f : Found) (graph : IsSou
   one_told numbers {split} {trail} {trail'} {top} {above} a b =
       let owner : a.owner ≡ b.owner = one_at f.owners split.span _ _ a.owns b.owns in
       let edges = one_at f.links b.owner _ _
-        (subst (λ l. slice_get f.links l ≡ Some (edge_of a.owner_is.upper a.reduction.left a.lower split.span)) owner a.owner_is.there) b.owner_is.there in
+      (subst (λ l. slice_get f.links l ≡ Some (edge_of a.owner_is.upper a.reduction.left a.lower split.span)) owner a.owner_is.there) b.owner_is.there in
       let lower : b.lower ≡ a.lower = ap (λ (e : Edge). e.lower) (sym edges) in
       one_reducible numbers a.reducible (subst (λ n. IsReducible rules f b.reduction n trail' split.parts above b.at) lower b.reducible) (a.number ∙ sym b.number)
 
@@ -248,13 +246,13 @@ module _ (rules : List Rule) (tokens : List SymbolId) (f : Found) (graph : IsSou
   trail_rises (over {lower = lower} {middle = middle} {upper = top} {link = first} {x = x} {label = label} {trail = rest} here_is on) link c edge at upper last up there =
       elim (contains_cases first rest link c) [
         | inl same ↦
-          let edges = one_at f.links link _ _ (subst (λ l. slice_get f.links l ≡ Some (edge_of middle x lower label)) same here_is) at in
-          let mid : slice_get f.nodes middle ≡ Some upper = subst (λ (e : Edge). slice_get f.nodes e.upper ≡ Some upper) (sym edges) up in
-          let (kernel, is, reached) = graph.nodes middle upper mid in
-          let (kernel', is', reached') = graph.nodes top last there in
-          let low : IsNode f middle kernel upper.at = record { state = upper.state; there = mid; is_kernel = is } in
-          let high : IsNode f top kernel' last.at = record { state = last.state; there = there; is_kernel = is' } in
-          omega (arith, along_rises on low high)
+            let edges = one_at f.links link _ _ (subst (λ l. slice_get f.links l ≡ Some (edge_of middle x lower label)) same here_is) at in
+            let mid : slice_get f.nodes middle ≡ Some upper = subst (λ (e : Edge). slice_get f.nodes e.upper ≡ Some upper) (sym edges) up in
+            let (kernel, is, reached) = graph.nodes middle upper mid in
+            let (kernel', is', reached') = graph.nodes top last there in
+            let low : IsNode f middle kernel upper.at = record { state = upper.state; there = mid; is_kernel = is } in
+            let high : IsNode f top kernel' last.at = record { state = last.state; there = there; is_kernel = is' } in
+            omega (arith, along_rises on low high)
         | inr d ↦ trail_rises on link d edge at upper last up there
       ]
     where

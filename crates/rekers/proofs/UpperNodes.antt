@@ -1,5 +1,5 @@
 -- The node behind a move: its state is asked for, and then it is placed.
-use Rattle.std.proofs.Common.{◌≡◌, ℕ, ◌+◌, ◌≤◌, ◌⊎◌, inl, inr, List, [], ◌∷◌, ◌++◌, length, refl, sym, ◌∙◌, ap, subst, arith, Contains, slice_get, Some, length-append}
+use Rattle.std.proofs.Common.{◌≡◌, ℕ, ◌+◌, ◌≤◌, ◌⊎◌, inl, inr, List, [], ◌∷◌, length, sym, ◌∙◌, ap, subst, arith, Contains, slice_get, Some, length-append}
 use Rattle.forest.specs.declared.symbols.SymbolId.{SymbolId}
 use Rattle.forest.specs.declared.rules.Rule.{Rule}
 use Rattle.item_sets.specs.declared.item.Item.{Item}
@@ -8,7 +8,7 @@ use Rattle.item_sets.proofs.Numbering.{one_right}
 use Rattle.gss.specs.declared.stack_graph.Place.{Place}
 use Rattle.gss.specs.PlaceGraphs.{PlaceGraph, place_of}
 use Rattle.live_graph.specs.Asking.{Joins}
-use Rattle.parser_states.specs.Leads.{LeadsTo, KeepsNumbers}
+use Rattle.parser_states.specs.Leads.{KeepsNumbers}
 use Rattle.rekers.specs.declared.parser.Parser.{Parser}
 use Rattle.rekers.specs.States.{IsStateAt}
 use Rattle.rekers.specs.Found.{Found, found, IsNode, Keeps, Grows}
@@ -17,7 +17,7 @@ use Rattle.rekers.specs.Steps.{AddsNode, IsLinkable, IsBehind, IsUpper}
 use Rattle.rekers.proofs.Reached.{next_state}
 use Rattle.rekers.proofs.Growth.{one_at, one_kernel, keeps_same, keeps_append, node_grows}
 use Rattle.rekers.proofs.Trails.{node_state}
-use Rattle.rekers.proofs.NewNodes.{at_end, old_or_last}
+use Rattle.rekers.proofs.NewNodes.{old_or_last}
 
 -- of new states all but the one behind the move were there before
 pub others_old : (old new : List (List Item)) (upper : List Item) (number : ℕ) → Joins old upper new → slice_get new number ≡ Some upper

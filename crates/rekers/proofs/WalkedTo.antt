@@ -1,29 +1,25 @@
 -- What a walk has done that went down some of a node's links, from the oldest.
-use Rattle.std.proofs.Common.{◌≡◌, ℕ, zero, suc, ◌+◌, ◌-◌, ◌<◌, ◌≤◌, ◌⊎◌, inl, inr, List, [], ◌∷◌, ◌++◌, length, drop, Option, None, Some, MatchOption, IsTrue, Bool}
+use Rattle.std.proofs.Common.{◌≡◌, ℕ, ◌+◌, ◌-◌, ◌<◌, ◌≤◌, ◌⊎◌, inl, inr, List, [], ◌∷◌, length, drop, Option, Some, MatchOption}
 use Rattle.std.proofs.Common.{refl, sym, ◌∙◌, ap, subst, arith, Contains, slice_get}
 use Rattle.std.proofs.lemmas.Bool.{cases_lt}
-use Rattle.std.proofs.lemmas.Option.{slice_get_within}
 use Rattle.std.proofs.lemmas.List.{length-drop}
 use Rattle.std.proofs.lemmas.List.Elements.{Contains-append_cases}
 use Rattle.forest.specs.declared.symbols.SymbolId.{SymbolId}
 use Rattle.forest.specs.declared.rules.Rule.{Rule}
-use Rattle.forest.proofs.Ascending.{contains_here, contains_there, contains_cases}
 use Rattle.item_sets.specs.declared.item.Item.{Item}
 use Rattle.item_sets.proofs.Numbering.{IsNumbered}
 use Rattle.item_sets.proofs.Chains.{at_below}
-use Rattle.gss.specs.declared.stack_graph.Place.{Place}
 use Rattle.gss.specs.declared.stack_graph.Edge.{Edge}
 use Rattle.gss.specs.Numbers.{IsLeast, HasNone}
-use Rattle.gss.specs.PlaceGraphs.{place_of, edge_of, LeadsFrom, LeadsFromSame}
+use Rattle.gss.specs.PlaceGraphs.{place_of, LeadsFrom}
 use Rattle.packed_spans.specs.Packed.{PackedSplit}
-use Rattle.parser_states.specs.declared.reduction.Reduction.{Reduction}
 use Rattle.rekers.specs.declared.walk.Walk.{Walk}
 use Rattle.rekers.specs.Found.{Found, IsNode, Grows, IsTrail}
-use Rattle.rekers.specs.Reductions.{IsPartial, IsReducible, IsReduced, IsTold}
+use Rattle.rekers.specs.Reductions.{IsPartial, IsReducible, IsReduced}
 use Rattle.rekers.specs.Sound.{IsSoundGraph, IsLevel}
-use Rattle.rekers.specs.Steps.{EndsWith, IsThrough, IsFoundOn, IsFresh, IsWalked, IsWalking, IsToReduce, Reduces}
-use Rattle.rekers.proofs.Growth.{one_at, keeps_back, trail_links, partial_grows, told_grows, node_grows}
-use Rattle.rekers.proofs.Trails.{one_told, one_down, trail_rises}
+use Rattle.rekers.specs.Steps.{EndsWith, IsThrough, IsFoundOn, IsFresh, IsWalked, Reduces}
+use Rattle.rekers.proofs.Growth.{keeps_back, trail_links, partial_grows, told_grows}
+use Rattle.rekers.proofs.Trails.{one_told, trail_rises}
 use Rattle.rekers.proofs.Walks.{ends_longer, ends_whole, ends_in, one_before, one_labels, next_down, trail_size, partial_size, partial_left, partial_back}
 use Rattle.rekers.proofs.Walks.{reduced_on, told_back, front_trail}
 
@@ -139,7 +135,7 @@ walked_all rules old g grows walk at node left end labels bound partial some so_
       let q = partial_grows old g grows partial in
       let whole : length trail ≡ length p.rule.right = trail_size p.along in
       let part : length end ≡ length p.rule.right - left = trail_size q.along ∙ length-drop left q.rule.right
-          ∙ ap (λ n. n - left) (partial_size q ∙ sym (partial_size p)) in
+      ∙ ap (λ n. n - left) (partial_size q ∙ sym (partial_size p)) in
       let within : left ≤ length p.rule.right = omega (arith, q.within, partial_size q, partial_size p) in
       let (link, leads, longer) = next_down ends.0 end p.along ends.1 q.along (omega (arith, whole, part, within, some)) in
       elim (cases_lt link bound) [
@@ -193,16 +189,16 @@ walked_below rules tokens old graph level first_node first_link is_level walk at
     none : (lower : ℕ) (other others : List ℕ) → IsReducible rules old walk.reduction lower other others walk.top at → IsThrough walk.through other
         → EndsWith other end → ⊥
     none lower other others p through (front, is) =
-      let part = front_trail front end p.along is partial.along in
-      elim (Contains-append_cases front end walk.through (subst (λ t. Contains t walk.through) is through.has)) [
-        | inl in_front ↦
-          let (edge, there) = at_below old.links walk.through (trail_links part.on walk.through in_front) in
-          let ends = (graph.links walk.through edge there).ends in
-          let upper = place_of ends.upper_is.state ends.to in
-          let up : slice_get old.nodes edge.upper ≡ Some upper = ends.upper_is.there in
-          let rises = trail_rises rules tokens old graph part.on walk.through in_front edge there upper _ up partial.node_is.there in
-          let below = is_level.nodes_before node _ partial.node_is.there before in
-          let here = is_level.nodes_here edge.upper upper up (is_level.links_here walk.through edge there of_level) in
-          omega (arith, rises, below, here)
-        | inr in_end ↦ beside in_end
-      ]
+        let part = front_trail front end p.along is partial.along in
+        elim (Contains-append_cases front end walk.through (subst (λ t. Contains t walk.through) is through.has)) [
+          | inl in_front ↦
+              let (edge, there) = at_below old.links walk.through (trail_links part.on walk.through in_front) in
+              let ends = (graph.links walk.through edge there).ends in
+              let upper = place_of ends.upper_is.state ends.to in
+              let up : slice_get old.nodes edge.upper ≡ Some upper = ends.upper_is.there in
+              let rises = trail_rises rules tokens old graph part.on walk.through in_front edge there upper _ up partial.node_is.there in
+              let below = is_level.nodes_before node _ partial.node_is.there before in
+              let here = is_level.nodes_here edge.upper upper up (is_level.links_here walk.through edge there of_level) in
+              omega (arith, rises, below, here)
+          | inr in_end ↦ beside in_end
+        ]

@@ -1,5 +1,5 @@
 -- Walks down trails: where they can go on, and what stays of them as more is found.
-use Rattle.std.proofs.Common.{◌≡◌, ℕ, zero, suc, ◌+◌, ◌<◌, ◌≤◌, ◌⊎◌, inl, inr, List, [], ◌∷◌, ◌++◌, length, drop, refl, sym, ◌∙◌, ap, subst, arith, Contains, slice_get, Some}
+use Rattle.std.proofs.Common.{◌≡◌, ℕ, suc, ◌<◌, ◌≤◌, inl, inr, List, [], ◌∷◌, ◌++◌, length, refl, sym, ◌∙◌, ap, subst, arith, Contains, slice_get, Some}
 use Rattle.std.proofs.lemmas.List.{length-append}
 use Rattle.std.proofs.lemmas.Option.{slice_get_within}
 use Rattle.forest.specs.declared.symbols.SymbolId.{SymbolId}
@@ -7,17 +7,15 @@ use Rattle.forest.specs.declared.rules.Rule.{Rule}
 use Rattle.forest.specs.Derivation.{IsNonterminal}
 use Rattle.item_sets.specs.declared.item.Item.{Item}
 use Rattle.item_sets.proofs.Numbering.{IsNumbered}
-use Rattle.gss.specs.declared.stack_graph.Place.{Place}
 use Rattle.gss.specs.declared.stack_graph.Edge.{Edge}
-use Rattle.gss.specs.PlaceGraphs.{place_of, edge_of, LeadsFrom}
+use Rattle.gss.specs.PlaceGraphs.{edge_of, LeadsFrom}
 use Rattle.packed_spans.specs.Packed.{PackedSplit}
 use Rattle.parser_states.specs.declared.reduction.Reduction.{Reduction}
-use Rattle.parser_states.specs.Reductions.{reduction_by}
 use Rattle.rekers.specs.Found.{Found, IsNode, Grows, IsTrail, here, over}
-use Rattle.rekers.specs.Reductions.{IsPartial, IsReducible, IsLinkTo, IsReduced, IsTold}
+use Rattle.rekers.specs.Reductions.{IsPartial, IsReduced, IsTold}
 use Rattle.rekers.specs.Sound.{IsSoundGraph}
 use Rattle.rekers.specs.Steps.{EndsWith}
-use Rattle.rekers.proofs.Growth.{one_at, one_kernel, keeps_back, trail_back, reduced_grows, told_grows, node_grows, partial_grows}
+use Rattle.rekers.proofs.Growth.{one_at, one_kernel, trail_back, reduced_grows, told_grows, node_grows}
 use Rattle.rekers.proofs.Trails.{between, part_cases, one_told}
 
 -- ---- lists that end alike

@@ -1,5 +1,5 @@
 -- What is worked stays so as more is found, and one node or link more is worked.
-use Rattle.std.proofs.Common.{◌≡◌, ℕ, zero, suc, ◌+◌, ◌<◌, ◌≤◌, ◌⊎◌, inl, inr, List, [], ◌∷◌, length, refl, sym, ◌∙◌, ap, subst, arith, Contains, slice_get, Some}
+use Rattle.std.proofs.Common.{◌≡◌, ℕ, suc, ◌<◌, ◌≤◌, ◌⊎◌, inl, inr, List, [], ◌∷◌, length, refl, subst, arith, Contains}
 use Rattle.std.proofs.lemmas.Bool.{cases_lt}
 use Rattle.std.specs.List.{AllByRecursion}
 use Rattle.forest.specs.declared.symbols.SymbolId.{SymbolId}
@@ -8,14 +8,13 @@ use Rattle.forest.proofs.Ascending.{contains_here, contains_there, contains_case
 use Rattle.edit_log.proofs.PlainLists.{each_contained}
 use Rattle.item_sets.specs.declared.item.Item.{Item}
 use Rattle.item_sets.proofs.Numbering.{IsNumbered}
-use Rattle.gss.specs.declared.stack_graph.Edge.{Edge}
 use Rattle.packed_spans.specs.Packed.{PackedSplit}
 use Rattle.parser_states.specs.declared.reduction.Reduction.{Reduction}
 use Rattle.rekers.specs.Found.{Found, IsNode, Grows, IsTrail, here, over}
-use Rattle.rekers.specs.Reductions.{IsPartial, IsReducible, IsReduced, IsTold, IsBelow, IsWorked}
+use Rattle.rekers.specs.Reductions.{IsReducible, IsReduced, IsTold, IsBelow, IsWorked}
 use Rattle.rekers.specs.Sound.{IsSoundGraph}
 use Rattle.rekers.specs.Steps.{IsThrough}
-use Rattle.rekers.proofs.Growth.{trail_links, trail_back}
+use Rattle.rekers.proofs.Growth.{trail_back}
 use Rattle.rekers.proofs.Trails.{between, one_told}
 use Rattle.rekers.proofs.Walks.{partial_back, partial_left, reduced_on, told_back}
 
@@ -47,6 +46,7 @@ below_cases links nodes (first ∷ trail) top is = elim (cases (first ∷ trail)
   where
     each : (link : ℕ) → Contains (first ∷ trail) link → link < suc links
     each link c = each_contained (λ other. other < suc links) (first ∷ trail) link is c
+
     cases : (trail : List ℕ) → ((link : ℕ) → Contains trail link → link < suc links)
         → ((link : ℕ) → Contains trail link → link < links) ⊎ Contains trail links
     cases [] below = inl (λ link (k, l, e). absurd (omega arith))
@@ -58,8 +58,8 @@ below_cases links nodes (first ∷ trail) top is = elim (cases (first ∷ trail)
           | inr in_rest ↦ all link in_rest
         ])
         | inr not ↦
-          let same : one ≡ links = omega (arith, not, below one (contains_here one rest)) in
-          inr (subst (λ n. Contains (one ∷ rest) n) same (contains_here one rest))
+            let same : one ≡ links = omega (arith, not, below one (contains_here one rest)) in
+            inr (subst (λ n. Contains (one ∷ rest) n) same (contains_here one rest))
       ]
     ]
 
@@ -113,7 +113,7 @@ module _ (rules : List Rule) (tokens : List SymbolId) (numbers : IsNumbered rule
       reduced_on rules tokens f g graph grows (partial_left p) (worked.all reduction lower [] labels top at was below)
   made_below links nodes few are worked reduction lower (first ∷ trail) labels top at p below =
       let was = reducible_back p first (contains_here first trail)
-          (λ link c. omega (arith, few, below_each links nodes (first ∷ trail) top below link c)) in
+      (λ link c. omega (arith, few, below_each links nodes (first ∷ trail) top below link c)) in
       reduced_on rules tokens f g graph grows (partial_left p) (worked.all reduction lower (first ∷ trail) labels top at was below)
 
   -- an old split was found below
@@ -126,9 +126,9 @@ module _ (rules : List Rule) (tokens : List SymbolId) (numbers : IsNumbered rule
   pub worked_link : (link nodes : ℕ) → link ≤ length f.links → ((node : ℕ) → node < nodes → (w : List Item) × (i : ℕ) × IsNode f node w i)
       → IsWorked rules f link nodes
       → ((reduction : Reduction) (lower : ℕ) (trail labels : List ℕ) (top at : ℕ) → IsReducible rules g reduction lower trail labels top at
-          → IsThrough link trail → IsReduced g reduction lower labels at)
+      → IsThrough link trail → IsReduced g reduction lower labels at)
       → ((split : PackedSplit) → Contains g.splits split
-          → Contains f.splits split ⊎ ((trail : List ℕ) × (top : ℕ) × IsTold rules g split trail top × IsThrough link trail))
+      → Contains f.splits split ⊎ ((trail : List ℕ) × (top : ℕ) × IsTold rules g split trail top × IsThrough link trail))
       → IsWorked rules g (suc link) nodes
   worked_link link nodes few are worked made only = record {
     all = λ reduction lower trail labels top at p below. elim (below_cases link nodes trail top below) [
@@ -138,8 +138,8 @@ module _ (rules : List Rule) (tokens : List SymbolId) (numbers : IsNumbered rule
     only = λ split trail top c told. elim (only split c) [
       | inl old ↦ below_more link nodes trail top (old_below link nodes worked split trail top old told)
       | inr (other, above, is, through) ↦
-        let same = (one_told rules tokens g graph' numbers is told).0 in
-        below_through link nodes trail top (subst (λ ts. IsThrough link ts) same through)
+          let same = (one_told rules tokens g graph' numbers is told).0 in
+          below_through link nodes trail top (subst (λ ts. IsThrough link ts) same through)
     ];
   }
 
@@ -147,7 +147,7 @@ module _ (rules : List Rule) (tokens : List SymbolId) (numbers : IsNumbered rule
   pub worked_node : (links node : ℕ) → links ≤ length f.links → ((other : ℕ) → other < node → (w : List Item) × (i : ℕ) × IsNode f other w i)
       → IsWorked rules f links node
       → ((reduction : Reduction) (lower : ℕ) (labels : List ℕ) (at : ℕ) → IsReducible rules g reduction lower [] labels node at
-          → IsReduced g reduction lower labels at)
+      → IsReduced g reduction lower labels at)
       → ((split : PackedSplit) → Contains g.splits split → Contains f.splits split ⊎ IsTold rules g split [] node)
       → IsWorked rules g links (suc node)
   worked_node links node few are worked made only = record {
@@ -159,7 +159,7 @@ module _ (rules : List Rule) (tokens : List SymbolId) (numbers : IsNumbered rule
     only = λ split trail top c told. elim (only split c) [
       | inl old ↦ below_node_more links node trail top (old_below links node worked split trail top old told)
       | inr is ↦
-        let (same, tops) = one_told rules tokens g graph' numbers is told in
-        subst (λ n. IsBelow links (suc node) trail n) tops (subst (λ ts. IsBelow links (suc node) ts node) same (omega arith))
+          let (same, tops) = one_told rules tokens g graph' numbers is told in
+          subst (λ n. IsBelow links (suc node) trail n) tops (subst (λ ts. IsBelow links (suc node) ts node) same (omega arith))
     ];
   }

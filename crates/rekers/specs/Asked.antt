@@ -1,5 +1,5 @@
 -- What a parse does to a graph.
-use Rattle.std.specs.Prelude.{◌≡◌, ◌⊎◌, ◌↔◌, List, Contains}
+use Rattle.std.specs.Prelude.{◌⊎◌, ◌↔◌, List, Contains}
 use Rattle.forest.specs.declared.symbols.SymbolId.{SymbolId}
 use Rattle.item_sets.specs.declared.item.Item.{Item}
 use Rattle.live_graph.specs.Meaning.{Meaning}

@@ -1,5 +1,5 @@
 -- What a parse has found, by number: kernels of states, nodes and links, spans and splits.
-use Rattle.std.specs.Prelude.{◌≡◌, ℕ, ◌≤◌, List, [], ◌∷◌, ◌++◌, Some, slice_get, Contains}
+use Rattle.std.specs.Prelude.{◌≡◌, ℕ, List, [], ◌∷◌, Some, slice_get, Contains}
 use Rattle.forest.specs.declared.symbols.SymbolId.{SymbolId}
 use Rattle.item_sets.specs.declared.item.Item.{Item}
 use Rattle.gss.specs.declared.stack_graph.Place.{Place}

@@ -1,5 +1,5 @@
 -- What a parser has done at the end of a level, and what it has where it stops for too many links and splits.
-use Rattle.std.specs.Prelude.{◌≡◌, ◌<◌, ◌+◌, ℕ, List, length}
+use Rattle.std.specs.Prelude.{◌≡◌, ℕ, List, length}
 use Rattle.forest.specs.declared.symbols.SymbolId.{SymbolId}
 use Rattle.forest.specs.declared.rules.Rule.{Rule}
 use Rattle.rekers.specs.declared.parser.Parser.{Parser}

@@ -1,8 +1,8 @@
 -- What the calls of a parser do.
-use Rattle.std.specs.Prelude.{◌≡◌, ◌⊎◌, ◌↔◌, ℕ, ◌+◌, ◌<◌, ◌≤◌, List, [], ◌∷◌, ◌++◌, length, drop, Option, MatchOption, Some, slice_get, slice_index_or, map, Contains, IsTrue, Bool}
+use Rattle.std.specs.Prelude.{◌≡◌, ◌⊎◌, ◌↔◌, ℕ, ◌+◌, ◌<◌, ◌≤◌, List, [], ◌∷◌, ◌++◌, length, drop, Some, slice_get, slice_index_or, map, Contains, IsTrue, Bool}
 use Rattle.forest.specs.declared.symbols.SymbolId.{SymbolId}
 use Rattle.forest.specs.declared.rules.Rule.{Rule}
-use Rattle.forest.specs.Derivation.{Derives, IsNonterminal}
+use Rattle.forest.specs.Derivation.{Derives}
 use Rattle.item_sets.specs.declared.item.Item.{Item}
 use Rattle.item_sets.specs.Expansions.{HasMove, IsMoveOf}
 use Rattle.live_graph.specs.Meaning.{Meaning}

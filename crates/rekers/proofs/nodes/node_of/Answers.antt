@@ -26,7 +26,7 @@ pub returns-clause-node : goal.returns-clause-node
 returns-clause-node c =
     let place = place_of c.args.state c.args.level.at in
     let in_new : slice_get c.add_node.new.self.nodes (length c.args.stacks.now.nodes) ≡ Some place =
-      subst (λ ns. slice_get ns (length c.args.stacks.now.nodes) ≡ Some place) (sym c.in_ok-node.ensures.nodes) (at_end c.args.stacks.now.nodes place) in
+    subst (λ ns. slice_get ns (length c.args.stacks.now.nodes) ≡ Some place) (sym c.in_ok-node.ensures.nodes) (at_end c.args.stacks.now.nodes place) in
     subst (λ n. slice_get c.add_node.new.self.nodes n ≡ Some place) (sym c.in_ok-node.ensures.number) in_new
 
 pub returns-clause-nodes : goal.returns-clause-nodes

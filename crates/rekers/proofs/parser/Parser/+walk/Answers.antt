@@ -1,10 +1,8 @@
-use Rattle.std.proofs.Common.{◌≡◌, ◌≤◌, ◌<◌, rules, ℕ, length, drop, Option, Some, None, refl, sym, ◌∙◌, ap, subst, arith, slice_get}
+use Rattle.std.proofs.Common.{rules, Some, None, arith}
 use Rattle.rekers.specs.Answers.{kinds_of}
 use Rattle.rekers.specs.Found.{found}
-use Rattle.rekers.specs.Steps.{IsWalked}
 use Rattle.std.proofs.lemmas.Result.{err_from_is_err_and}
 use Rattle.rekers.proofs.Stepping.{step_none}
-use Rattle.rekers.proofs.WalkedTo.{walked_whole, walked_beside, walked_below}
 use Rattle.rekers.proofs.DownLinks.{IsDown, down_none, down_all, down_past, down_more, walks_on, inside, step_back, sound_trail, within_trail, is_left, whole_reduces, walked_reduced, unless_on, walked_missed, walked_out}
 use Rattle.rekers.proofs.parser.Parser.+walk.Goals as goal
 
@@ -38,7 +36,7 @@ links-init g t c = down_none (kinds_of c.args.tokens.now) c.args.self.now (g.G.G
 pub returns-then-link-walk-clause-walked : goal.returns-then-link-walk-clause-walked
 returns-then-link-walk-clause-walked g t c =
     let down : IsDown (kinds_of c.args.tokens.now) c.args.self.now c.links.self (g.G.Graph.means c.args.graph.now) (g.G.Graph.means c.links.graph)
-        c.args.steps.now c.links.steps c.args.walk c.args.node c.args.left (Some c.in-Some.link) = rw c.in-Some.is at c.links.invariant in
+    c.args.steps.now c.links.steps c.args.walk c.args.node c.args.left (Some c.in-Some.link) = rw c.in-Some.is at c.links.invariant in
     let some = is_left c.args.left c.if-left-eq0.false in
     down_past (kinds_of c.args.tokens.now) c.args.self.now c.links.self (g.G.Graph.means c.args.graph.now) (g.G.Graph.means c.links.graph)
     c.args.steps.now c.links.steps c.args.walk c.args.node c.args.left c.args.met c.requires.sound c.requires.walking
@@ -47,7 +45,7 @@ returns-then-link-walk-clause-walked g t c =
 pub edge-lower-requires : goal.edge-lower-requires
 edge-lower-requires g t c =
     let down : IsDown (kinds_of c.args.tokens.now) c.args.self.now c.links.self (g.G.Graph.means c.args.graph.now) (g.G.Graph.means c.links.graph)
-        c.args.steps.now c.links.steps c.args.walk c.args.node c.args.left (Some c.in-Some.link) = rw c.in-Some.is at c.links.invariant in
+    c.args.steps.now c.links.steps c.args.walk c.args.node c.args.left (Some c.in-Some.link) = rw c.in-Some.is at c.links.invariant in
     let some = is_left c.args.left c.if-left-eq0.false in
     inside (kinds_of c.args.tokens.now) c.args.self.now c.links.self (g.G.Graph.means c.args.graph.now) (g.G.Graph.means c.links.graph)
     c.args.steps.now c.links.steps c.args.walk c.args.node c.args.left c.args.met c.requires.sound c.requires.walking
@@ -56,19 +54,19 @@ edge-lower-requires g t c =
 pub walk-requires : goal.walk-requires
 walk-requires g t c κs within =
     let down : IsDown (kinds_of c.args.tokens.now) c.args.self.now c.links.self (g.G.Graph.means c.args.graph.now) (g.G.Graph.means c.links.graph)
-        c.args.steps.now c.links.steps c.args.walk c.args.node c.args.left (Some c.in-Some.link) = rw c.in-Some.is at c.links.invariant in
+    c.args.steps.now c.links.steps c.args.walk c.args.node c.args.left (Some c.in-Some.link) = rw c.in-Some.is at c.links.invariant in
     let some = is_left c.args.left c.if-left-eq0.false in
     let walking = walks_on (kinds_of c.args.tokens.now) c.args.self.now c.links.self (g.G.Graph.means c.args.graph.now) (g.G.Graph.means c.links.graph)
     c.args.steps.now c.links.steps c.args.walk c.args.node c.args.left c.args.met c.requires.sound c.requires.walking
-        c.in-Some.link down some c.put.new.trail c.put.ensures.puts c.edge-lower.result c.is_met-meets.result c.edge-lower.ensures c.put.ensures.size
-        (omega (arith, c.if-link-walk.false)) c.is_met-meets.ensures in
+    c.in-Some.link down some c.put.new.trail c.put.ensures.puts c.edge-lower.result c.is_met-meets.result c.edge-lower.ensures c.put.ensures.size
+    (omega (arith, c.if-link-walk.false)) c.is_met-meets.ensures in
     let sound = sound_trail (g.G.Graph.means c.links.graph).grammar.rules (kinds_of c.args.tokens.now) c.links.self c.put.new.trail c.links.invariant.step.sound in
     (search rules, (within.0, (within.1, (sound, (within_trail c.links.self c.put.new.trail c.links.invariant.within, walking)))))
 
 pub returns-in_err-walk-clause-step : goal.returns-in_err-walk-clause-step
 returns-in_err-walk-clause-step g t c =
     let down : IsDown (kinds_of c.args.tokens.now) c.args.self.now c.links.self (g.G.Graph.means c.args.graph.now) (g.G.Graph.means c.links.graph)
-        c.args.steps.now c.links.steps c.args.walk c.args.node c.args.left (Some c.in-Some.link) = rw c.in-Some.is at c.links.invariant in
+    c.args.steps.now c.links.steps c.args.walk c.args.node c.args.left (Some c.in-Some.link) = rw c.in-Some.is at c.links.invariant in
     let some = is_left c.args.left c.if-left-eq0.false in
     unless_on c.in_err-walk.field-0.0 c.from_residual-in_err-walk.result
     (err_from_is_err_and c.from_residual-in_err-walk.result c.from_residual-in_err-walk.ensures.1) (λ step. step_back (kinds_of c.args.tokens.now) c.args.self.now c.links.self (g.G.Graph.means c.args.graph.now) (g.G.Graph.means c.links.graph)
@@ -79,7 +77,7 @@ returns-in_err-walk-clause-step g t c =
 pub links-preserved : goal.links-preserved
 links-preserved g t c =
     let down : IsDown (kinds_of c.args.tokens.now) c.args.self.now c.links.self (g.G.Graph.means c.args.graph.now) (g.G.Graph.means c.links.graph)
-        c.args.steps.now c.links.steps c.args.walk c.args.node c.args.left (Some c.in-Some.link) = rw c.in-Some.is at c.links.invariant in
+    c.args.steps.now c.links.steps c.args.walk c.args.node c.args.left (Some c.in-Some.link) = rw c.in-Some.is at c.links.invariant in
     let some = is_left c.args.left c.if-left-eq0.false in
     down_more (kinds_of c.args.tokens.now) c.args.self.now c.links.self (g.G.Graph.means c.args.graph.now) (g.G.Graph.means c.links.graph)
     c.args.steps.now c.links.steps c.args.walk c.args.node c.args.left c.args.met c.requires.sound c.requires.walking
@@ -91,7 +89,7 @@ links-preserved g t c =
 pub returns-clause-walked : goal.returns-clause-walked
 returns-clause-walked g t c =
     let down : IsDown (kinds_of c.args.tokens.now) c.args.self.now c.links.self (g.G.Graph.means c.args.graph.now) (g.G.Graph.means c.links.graph)
-        c.args.steps.now c.links.steps c.args.walk c.args.node c.args.left None = rw c.in_default.is at c.links.invariant in
+    c.args.steps.now c.links.steps c.args.walk c.args.node c.args.left None = rw c.in_default.is at c.links.invariant in
     let some = is_left c.args.left c.if-left-eq0.false in
     down_all (kinds_of c.args.tokens.now) c.args.self.now c.links.self (g.G.Graph.means c.args.graph.now) (g.G.Graph.means c.links.graph)
     c.args.steps.now c.links.steps c.args.walk c.args.node c.args.left c.args.met c.requires.sound c.requires.walking

@@ -1,4 +1,3 @@
-use Rattle.std.proofs.Common.{◌≡◌, ℕ}
 use Rattle.rekers.specs.Answers.{kinds_of}
 use Rattle.rekers.proofs.DownLinks.{IsDown, links_left}
 use Rattle.rekers.proofs.parser.Parser.+walk.Given as goal

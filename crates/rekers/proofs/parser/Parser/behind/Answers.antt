@@ -1,10 +1,9 @@
-use Rattle.std.proofs.Common.{◌≡◌, slice_get, Some, sym, subst}
+use Rattle.std.proofs.Common.{sym, subst}
 use Rattle.edit_log.specs.History.{Grammar}
 use Rattle.rekers.specs.Answers.{kinds_of}
-use Rattle.rekers.specs.Found.{found}
 use Rattle.rekers.specs.Sound.{IsSound}
 use Rattle.parser_states.specs.Leads.{LeadsNowhere, LeadsTo}
-use Rattle.rekers.proofs.Growth.{kernel_at, node_grows, grows_same}
+use Rattle.rekers.proofs.Growth.{kernel_at}
 use Rattle.rekers.proofs.PlacedNodes.{states_sound}
 use Rattle.rekers.proofs.UpperNodes.{others_old}
 use Rattle.rekers.proofs.parser.Parser.behind.Goals as goal
@@ -14,7 +13,7 @@ unreachable-requires g c =
     let rules = (g.G.Graph.means c.args.graph.now).grammar.rules in
     let is = kernel_at c.requires.linkable.node c.place-state.ensures in
     let leads : LeadsNowhere rules c.args.self.now.states.kernels c.next.new.self.kernels c.requires.linkable.kernel c.args.symbol =
-      rw c.in_default.is at (c.in_ok-behind.ensures.leads c.requires.linkable.kernel is.0) in
+    rw c.in_default.is at (c.in_ok-behind.ensures.leads c.requires.linkable.kernel is.0) in
     leads.0 c.requires.linkable.moves
 
 pub returns-clause-behind : goal.returns-clause-behind
@@ -22,7 +21,7 @@ returns-clause-behind g c =
     let rules = (g.G.Graph.means c.args.graph.now).grammar.rules in
     let is = kernel_at c.requires.linkable.node c.place-state.ensures in
     let leads : LeadsTo rules c.args.self.now.states.kernels c.next.new.self.kernels c.requires.linkable.kernel c.args.symbol c.in-Some.behind =
-      rw c.in-Some.is at (c.in_ok-behind.ensures.leads c.requires.linkable.kernel is.0) in
+    rw c.in-Some.is at (c.in_ok-behind.ensures.leads c.requires.linkable.kernel is.0) in
     let node = c.requires.linkable.node in
     record {
       kernel = c.requires.linkable.kernel;
@@ -45,6 +44,6 @@ returns-clause-others g c =
     let rules = (g.G.Graph.means c.args.graph.now).grammar.rules in
     let is = kernel_at c.requires.linkable.node c.place-state.ensures in
     let leads : LeadsTo rules c.args.self.now.states.kernels c.next.new.self.kernels c.requires.linkable.kernel c.args.symbol c.in-Some.behind =
-      rw c.in-Some.is at (c.in_ok-behind.ensures.leads c.requires.linkable.kernel is.0) in
+    rw c.in-Some.is at (c.in_ok-behind.ensures.leads c.requires.linkable.kernel is.0) in
     others_old c.args.self.now.states.kernels c.next.new.self.kernels leads.upper c.in-Some.behind leads.numbered.joins leads.numbered.named
     c.in_ok-behind.ensures.expanded.told.one_number

@@ -1,6 +1,4 @@
-use Rattle.std.proofs.Common.{◌≡◌, ◌<◌, inl, inr, slice_get, Some, refl, sym, ◌∙◌, subst, arith}
-use Rattle.std.proofs.lemmas.Option.{slice_get_within}
-use Rattle.gss.specs.PlaceGraphs.{place_of}
+use Rattle.std.proofs.Common.{◌≡◌, inl, inr, slice_get, Some, refl, sym, ◌∙◌, subst, arith}
 use Rattle.item_sets.proofs.Chains.{at_below}
 use Rattle.rekers.specs.Answers.{kinds_of}
 use Rattle.rekers.proofs.PlacedNodes.{node_sound, same_sound, appended, unchanged, never_true}
@@ -34,14 +32,14 @@ returns-else-is_new-clause-sound g c =
     let (kernel, named) = at_below p.states.kernels c.args.state c.requires.state in
     elim c.else-is_new.branch [
       | else-is_new-via-then-is_new+else-not-opens w ↦
-        let count = w.if-is_new.true ∙ c.node_count-past.ensures in
-        let (new, nodes) = appended p.stacks.nodes c.node_of.new.stacks.nodes c.args.state p.level.at c.in_ok-node.node c.in_ok-node.ensures.node
-            c.in_ok-node.ensures.nodes count in
-        node_sound rules (kinds_of c.args._tokens.now) p c.requires.sound c.args.state kernel named (c.requires.reached kernel named) c.node_of.new.stacks
-        p.openers new nodes c.in_ok-node.ensures.links refl (λ i node e. inl e)
+          let count = w.if-is_new.true ∙ c.node_count-past.ensures in
+          let (new, nodes) = appended p.stacks.nodes c.node_of.new.stacks.nodes c.args.state p.level.at c.in_ok-node.node c.in_ok-node.ensures.node
+          c.in_ok-node.ensures.nodes count in
+          node_sound rules (kinds_of c.args._tokens.now) p c.requires.sound c.args.state kernel named (c.requires.reached kernel named) c.node_of.new.stacks
+          p.openers new nodes c.in_ok-node.ensures.links refl (λ i node e. inl e)
       | else-is_new-via-else-is_new w ↦
-        same_sound rules (kinds_of c.args._tokens.now) p c.requires.sound c.args.state kernel named (c.requires.reached kernel named) c.node_of.new.stacks
-        (unchanged p.stacks.nodes c.node_of.new.stacks.nodes c.args.state p.level.at c.in_ok-node.node c.in_ok-node.ensures.node c.in_ok-node.ensures.nodes
-            (λ e. w.if-is_new.false (e ∙ sym c.node_count-past.ensures)))
-        c.in_ok-node.ensures.links
+          same_sound rules (kinds_of c.args._tokens.now) p c.requires.sound c.args.state kernel named (c.requires.reached kernel named) c.node_of.new.stacks
+          (unchanged p.stacks.nodes c.node_of.new.stacks.nodes c.args.state p.level.at c.in_ok-node.node c.in_ok-node.ensures.node c.in_ok-node.ensures.nodes
+          (λ e. w.if-is_new.false (e ∙ sym c.node_count-past.ensures)))
+          c.in_ok-node.ensures.links
     ]

@@ -1,7 +1,6 @@
-use Rattle.std.proofs.Common.{◌≡◌, ◌<◌, ◌≤◌, length, slice_get, Some, arith}
+use Rattle.std.proofs.Common.{◌<◌, ◌≤◌, length, arith}
 use Rattle.std.proofs.lemmas.Result.{err_from_is_err_and}
 use Rattle.rekers.specs.Answers.{kinds_of}
-use Rattle.rekers.specs.Found.{found}
 use Rattle.rekers.proofs.Stepping.{step_on}
 use Rattle.rekers.proofs.DownLinks.{unless_on}
 use Rattle.rekers.proofs.EmptiedNodes.{none_emptied, state_inside, still_inside, none_behind, read_at, next_empty, emptied_more, emptied_all}

@@ -1,4 +1,4 @@
-use Rattle.std.proofs.Common.{◌≡◌, refl}
+use Rattle.std.proofs.Common.{refl}
 use Rattle.std.proofs.lemmas.Result.{err_from_is_err_and}
 use Rattle.rekers.specs.declared.queue.Queue.{Queue}
 use Rattle.rekers.specs.Answers.{kinds_of}
