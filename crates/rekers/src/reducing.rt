@@ -48,6 +48,7 @@ impl Parser {
     }
 
     /// Adds the split of the trail to the span of the link, if the link made the span.
+    #[inline(always)]
     fn split<G: Graph>(
         &mut self,
         _graph: &G,
@@ -76,6 +77,7 @@ impl Parser {
     }
 
     /// Makes the reduction along the trail, which leads from the node up to the top.
+    #[inline(never)]
     pub(crate) fn reduce<G: Graph, L: Ledger>(
         &mut self,
         graph: &mut G,
@@ -97,6 +99,41 @@ impl Parser {
         ensures never_back { steps.old ≤ steps.new }
     {
         let link = self.link(graph, tokens, lower, reduction.left, steps)?;
+        self.split(graph, tokens, reduction, link, lower, top)?;
+        self.check_size()?;
+        Ok(())
+    }
+
+    /// Makes the reduction along the trail, which leads from the node up to the top, where its link is mostly there. Then a
+    /// split is all that may be new, and none is where another link made the span.
+    #[inline(always)]
+    pub(crate) fn reduce_along<G: Graph, L: Ledger>(
+        &mut self,
+        graph: &mut G,
+        tokens: &[Token],
+        reduction: Reduction,
+        lower: u32,
+        top: u32,
+        steps: &mut Steps<L>,
+    ) -> Result<(), ParseError>
+        requires sound { IsSound (G.means graph.old).grammar.rules (kinds_of tokens.now) self.old }
+        requires within { IsWithinLimit self.old }
+        requires reduces { IsToReduce (G.means graph.old).grammar.rules (found self.old) reduction lower self.old.trail.items top self.old.level.at }
+        ensures step { UnlessNoMemory result (IsStep (kinds_of tokens.now) self.old self.new (G.means graph.old) (G.means graph.new) steps.old steps.new) }
+        ensures reduced { OnOk result (Reduces (G.means graph.old).grammar.rules (found self.old) (found self.new) reduction lower self.old.trail.items top self.old.level.at) }
+        ensures within { OnOk result (IsWithinLimit self.new) }
+        ensures above { IfErr result (IsAboveLimit self.new) }
+        ensures trail { OnOk result (self.new.trail ≡ self.old.trail) }
+        ensures stands { Stands (G.means graph.old) (G.means graph.new) }
+        ensures never_back { steps.old ≤ steps.new }
+    {
+        let Some(link) = self.stacks.link_above(lower, reduction.left, self.level.first_link) else {
+            return self.reduce(graph, tokens, reduction, lower, top, steps);
+        };
+        let span = self.stacks.edge(link).label;
+        if self.owners[span as usize] != link {
+            return Ok(());
+        }
         self.split(graph, tokens, reduction, link, lower, top)?;
         self.check_size()?;
         Ok(())

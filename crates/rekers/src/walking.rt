@@ -37,6 +37,7 @@ fn is_met(met: bool, link: u32, through: u32) -> bool
 
 impl Parser {
     /// Makes the reduction of the trail, which is whole, if it goes through the link that it has to.
+    #[inline(always)]
     fn finish<G: Graph, L: Ledger>(
         &mut self,
         graph: &mut G,
@@ -58,7 +59,7 @@ impl Parser {
         ensures never_back { steps.old ≤ steps.new }
     {
         if met {
-            self.reduce(graph, tokens, walk.reduction, node, walk.top, steps)?;
+            self.reduce_along(graph, tokens, walk.reduction, node, walk.top, steps)?;
         }
         Ok(())
     }
