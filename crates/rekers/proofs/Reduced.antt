@@ -109,16 +109,15 @@ module _ (rules : List Rule) (tokens : List SymbolId) (p : Parser) (sound : IsSo
     pub made : Reduces rules (found p) (found (record p { spans = packed; parts = parts })) reduction lower p.trail.items top p.level.at
 
   -- the link made the span: the labels of its trail are the parts of a split
-  pub one_split : (owner : ℕ) → owner ≡ get_or p.owners.items edge.label owner → owner ≡ link → (trail labels : List ℕ) → trail ≡ p.trail.items
-      → (parts : Vec ℕ Global) → parts.items ≡ labels_of p.stacks.links trail → labels ≡ parts.items
+  pub one_split : (owner : ℕ) → owner ≡ get_or p.owners.items edge.label owner → owner ≡ link → (labels : List ℕ)
+      → labels ≡ labels_of p.stacks.links p.trail.items → (parts : Vec ℕ Global)
       → (packed : Packed) → packed.spans ≡ p.spans.spans → packed.splits ≡ p.spans.splits ++ split_of reduction edge.label labels ∷ []
       → HasSplit packed parts
-  one_split owner read same trail labels whole parts filled told_by packed spans splits =
+  one_split owner read same labels named parts packed spans splits =
       let all = labels_of p.stacks.links p.trail.items in
       let split = split_of reduction by.label all in
       let owned = subst (λ n. slice_get p.owners.items by.label ≡ Some n) same (owner_is owner read) in
       let told = is_told rules (found p) reduction lower p.trail.items top p.level.at link by.label by.is owned r.reducible in
-      let named : labels ≡ all = told_by ∙ filled ∙ ap (λ ns. labels_of p.stacks.links ns) whole in
       let added : packed.splits ≡ p.spans.splits ++ split ∷ [] =
       splits ∙ ap (λ n. p.spans.splits ++ split_of reduction n labels ∷ []) span_is
       ∙ ap (λ ns. p.spans.splits ++ split_of reduction by.label ns ∷ []) named in

@@ -1,6 +1,6 @@
 //! Reductions, each along one trail of links.
 
-ghost use Rattle.std.specs.Prelude.{◌≡◌, ◌≤◌, ◌<◌, ◌+◌, ◌^◌, ◌++◌, ◌∷◌, [], IfErr, OnOk, ℕ, length, Contains};
+ghost use Rattle.std.specs.Prelude.{◌≡◌, ◌≤◌, ◌<◌, ◌+◌, ◌^◌, ◌++◌, ◌∷◌, [], IfErr, IfSome, OnOk, ℕ, length, Contains};
 ghost use Rattle.parser_states.specs.Asked.{Stands};
 ghost use Rattle.rekers.specs.Answers.{kinds_of, UnlessNoMemory};
 ghost use Rattle.rekers.specs.Found.{found, Grows};
@@ -28,6 +28,17 @@ fn fill(stacks: &StackGraph, trail: &[u32], parts: &mut Vec<u32>) -> Result<(), 
         parts.push(stacks.edge(*link).label)?;
     }
     Ok(())
+}
+
+/// The labels of the links, if they are two.
+fn pair_of(stacks: &StackGraph, trail: &[u32]) -> Option<[u32; 2]>
+    requires { (link : ℕ) → Contains trail.now link → link < length stacks.now.links }
+    ensures { IfSome result (λ labels. labels ≡ labels_of stacks.now.links trail.now) }
+{
+    let [first, second] = trail else {
+        return None;
+    };
+    Some([stacks.edge(*first).label, stacks.edge(*second).label])
 }
 
 impl Parser {
@@ -69,6 +80,10 @@ impl Parser {
     {
         let span = self.stacks.edge(link).label;
         if self.owners[span as usize] != link {
+            return Ok(());
+        }
+        if let Some(parts) = pair_of(&self.stacks, &self.trail) {
+            self.spans.add_split(span, reduction.rule, &parts)?;
             return Ok(());
         }
         fill(&self.stacks, &self.trail, &mut self.parts)?;
