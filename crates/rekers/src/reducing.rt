@@ -1,6 +1,7 @@
 //! Reductions, each along one trail of links.
 
 ghost use Rattle.std.specs.Prelude.{◌≡◌, ◌≤◌, ◌<◌, ◌+◌, ◌^◌, ◌++◌, ◌∷◌, [], IfErr, IfSome, OnOk, ℕ, length, Contains};
+ghost use Rattle.packed_spans.specs.Packed.{ArePartsOf};
 ghost use Rattle.parser_states.specs.Asked.{Stands};
 ghost use Rattle.rekers.specs.Answers.{kinds_of, UnlessNoMemory};
 ghost use Rattle.rekers.specs.Found.{found, Grows};
@@ -11,7 +12,7 @@ ghost use Rattle.rekers.specs.Steps.{IsStep, IsToReduce, Reduces, HasFewNodes, I
 use crate::limits::SIZE_LIMIT;
 use crate::parse_error::ParseError;
 use crate::parser::Parser;
-use forest::Token;
+use forest::{RuleId, Token};
 use gss::StackGraph;
 use live_graph::{Graph, NoMemory};
 use parser_states::Reduction;
@@ -58,6 +59,26 @@ impl Parser {
         Ok(())
     }
 
+    /// Adds the split of the trail to the span.
+    #[inline(never)]
+    fn add_trail(&mut self, span: u32, rule: RuleId) -> Result<(), NoMemory>
+        requires span { span < length self.old.spans.spans }
+        requires links { (link : ℕ) → Contains self.old.trail.items link → link < length self.old.stacks.links }
+        requires parts { ArePartsOf self.old.spans.spans (labels_of self.old.stacks.links self.old.trail.items) }
+        ensures spans { OnOk result (self.new.spans.spans ≡ self.old.spans.spans) }
+        ensures splits { OnOk result (self.new.spans.splits
+            ≡ self.old.spans.splits ++ record { span = span; rule = rule; parts = labels_of self.old.stacks.links self.old.trail.items } ∷ []) }
+        ensures same { OnOk result (self.new ≡ record self.old { spans = self.new.spans; parts = self.new.parts }) }
+    {
+        if let Some(parts) = pair_of(&self.stacks, &self.trail) {
+            self.spans.add_split(span, rule, &parts)?;
+            return Ok(());
+        }
+        fill(&self.stacks, &self.trail, &mut self.parts)?;
+        self.spans.add_split(span, rule, &self.parts)?;
+        Ok(())
+    }
+
     /// Adds the split of the trail to the span of the link, if the link made the span.
     #[inline(always)]
     fn split<G: Graph>(
@@ -82,12 +103,7 @@ impl Parser {
         if self.owners[span as usize] != link {
             return Ok(());
         }
-        if let Some(parts) = pair_of(&self.stacks, &self.trail) {
-            self.spans.add_split(span, reduction.rule, &parts)?;
-            return Ok(());
-        }
-        fill(&self.stacks, &self.trail, &mut self.parts)?;
-        self.spans.add_split(span, reduction.rule, &self.parts)?;
+        self.add_trail(span, reduction.rule)?;
         Ok(())
     }
 
