@@ -59,7 +59,7 @@ impl Parser {
         ensures never_back { steps.old ≤ steps.new }
     {
         if met {
-            self.reduce_along(graph, tokens, walk.reduction, node, walk.top, steps)?;
+            self.reduce(graph, tokens, walk.reduction, node, walk.top, steps)?;
         }
         Ok(())
     }
