@@ -1,5 +1,5 @@
 -- One more split keeps what is found sound, and its reduction is made.
-use Rattle.std.proofs.Common.{◌≡◌, ℕ, ◌+◌, ◌<◌, inl, inr, List, [], ◌∷◌, ◌++◌, length, refl, sym, ◌∙◌, ap, subst, arith, Contains, slice_get, slice_index_or, get_or, take, map, Some}
+use Rattle.std.proofs.Common.{◌≡◌, ℕ, ◌+◌, ◌<◌, ◌≤◌, inl, inr, List, [], ◌∷◌, ◌++◌, length, refl, sym, ◌∙◌, ap, subst, arith, Contains, slice_get, slice_index_or, get_or, take, map, Some}
 use Rattle.std.specs.declared.alloc.Global.{Global}
 use Rattle.std.specs.declared.vec.Vec.{Vec}
 use Rattle.std.proofs.lemmas.List.Elements.{Contains-push, Contains-push_cases, Contains-append_left}
@@ -29,6 +29,17 @@ use Rattle.rekers.proofs.Trails.{one_told}
 
 pub edge_at : (links : List Edge) (link : ℕ) (edge d : Edge) → slice_get links link ≡ Some edge → slice_index_or links link d ≡ edge
 edge_at links link edge d e = get_or_from_slice_get links link edge d e
+
+-- the labels of two links
+pub pair_labels : (links : List Edge) (trail : List ℕ) (first second : Edge) → 2 ≤ length trail → length trail < 3
+    → slice_get links (slice_index_or trail 0 0) ≡ Some first → slice_get links (slice_index_or trail 1 0) ≡ Some second
+    → first.label ∷ second.label ∷ [] ≡ labels_of links trail
+pair_labels links [] first second least most is is' = absurd (omega (arith, least))
+pair_labels links (a ∷ []) first second least most is is' = absurd (omega (arith, least))
+pair_labels links (a ∷ b ∷ []) first second least most is is' =
+    sym (ap (λ (e : Edge). e.label ∷ (slice_index_or links b (edge_of 0 START 0 0)).label ∷ []) (edge_at links a first (edge_of 0 START 0 0) is)
+    ∙ ap (λ (e : Edge). first.label ∷ e.label ∷ []) (edge_at links b second (edge_of 0 START 0 0) is'))
+pair_labels links (a ∷ b ∷ c ∷ more) first second least most is is' = absurd (omega (arith, most))
 
 -- the labels of a trail are those of its links
 pub labels_are : {links : List Edge} {node top : ℕ} {trail labels : List ℕ} {xs : List SymbolId} → IsTrail links node trail xs labels top

@@ -11,7 +11,7 @@ use Rattle.edit_log.specs.History.{Grammar}
 use Rattle.item_sets.proofs.Chains.{at_below}
 use Rattle.item_sets.proofs.Numbering.{IsNumbered}
 use Rattle.gss.specs.declared.stack_graph.Edge.{Edge}
-use Rattle.gss.specs.PlaceGraphs.{PlaceGraph}
+use Rattle.gss.specs.PlaceGraphs.{PlaceGraph, LeadsToBy}
 use Rattle.live_graph.specs.Meaning.{Meaning}
 use Rattle.packed_spans.specs.declared.span.Span.{Span}
 use Rattle.packed_spans.specs.declared.span.TheConstants.{TOKEN_PART}
@@ -29,7 +29,7 @@ use Rattle.rekers.specs.Sound.{IsSound, IsSoundGraph}
 use Rattle.rekers.specs.Steps.{IsStep, IsLinkable, IsLinkBy, IsToReduce, Reduces, HasFewNodes, labels_of}
 use Rattle.rekers.proofs.Growth.{one_at}
 use Rattle.rekers.proofs.NewSplits.{labels_are, split_sound, split_grows, split_found, split_of, is_told, reduces_none, reduces_one, still_to_reduce, reduces_on}
-use Rattle.rekers.proofs.LinkSteps.{step_alone, step_on}
+use Rattle.rekers.proofs.LinkSteps.{step_alone, step_on, link_found}
 use Rattle.rekers.proofs.Trails.{part_cases, derived, reduces_to}
 
 -- the link's label is the span
@@ -109,16 +109,15 @@ module _ (rules : List Rule) (tokens : List SymbolId) (p : Parser) (sound : IsSo
     pub made : Reduces rules (found p) (found (record p { spans = packed; parts = parts })) reduction lower p.trail.items top p.level.at
 
   -- the link made the span: the labels of its trail are the parts of a split
-  pub one_split : (owner : ℕ) → owner ≡ get_or p.owners.items edge.label owner → owner ≡ link → (trail labels : List ℕ) → trail ≡ p.trail.items
-      → (parts : Vec ℕ Global) → parts.items ≡ labels_of p.stacks.links trail → labels ≡ parts.items
+  pub one_split : (owner : ℕ) → owner ≡ get_or p.owners.items edge.label owner → owner ≡ link → (labels : List ℕ)
+      → labels ≡ labels_of p.stacks.links p.trail.items → (parts : Vec ℕ Global)
       → (packed : Packed) → packed.spans ≡ p.spans.spans → packed.splits ≡ p.spans.splits ++ split_of reduction edge.label labels ∷ []
       → HasSplit packed parts
-  one_split owner read same trail labels whole parts filled told_by packed spans splits =
+  one_split owner read same labels named parts packed spans splits =
       let all = labels_of p.stacks.links p.trail.items in
       let split = split_of reduction by.label all in
       let owned = subst (λ n. slice_get p.owners.items by.label ≡ Some n) same (owner_is owner read) in
       let told = is_told rules (found p) reduction lower p.trail.items top p.level.at link by.label by.is owned r.reducible in
-      let named : labels ≡ all = told_by ∙ filled ∙ ap (λ ns. labels_of p.stacks.links ns) whole in
       let added : packed.splits ≡ p.spans.splits ++ split ∷ [] =
       splits ∙ ap (λ n. p.spans.splits ++ split_of reduction n labels ∷ []) span_is
       ∙ ap (λ ns. p.spans.splits ++ split_of reduction by.label ns ∷ []) named in
@@ -161,3 +160,10 @@ pub unless_any : {Y : Type 0} {P : Type 0} (result : Result Y ParseError) → P 
 unless_any (Ok y) holds = holds
 unless_any (Err (TooLarge count)) holds = holds
 unless_any (Err NoMemory) holds = tt
+
+-- the link of a reduction is there
+pub reduced_by : (rules : List Rule) (tokens : List SymbolId) (p : Parser) → IsSound rules tokens p → (reduction : Reduction) (link lower top : ℕ)
+    → IsToReduce rules (found p) reduction lower p.trail.items top p.level.at → LeadsToBy p.stacks.links lower reduction.left p.level.first_link link
+    → IsLinkBy (found p) link lower reduction.left p.level.at
+reduced_by rules tokens p sound reduction link lower top r is =
+    link_found rules tokens p sound (reducible_linkable rules tokens (found p) sound.graph sound.numbered r.reducible).1 is

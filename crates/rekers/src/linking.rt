@@ -151,8 +151,8 @@ impl Parser {
         Ok(link)
     }
 
-    /// The link by the left side from the level down to the node.
-    pub(crate) fn link<G: Graph, L: Ledger>(
+    /// Adds the link by the left side from the level down to the node.
+    pub(crate) fn new_link<G: Graph, L: Ledger>(
         &mut self,
         graph: &mut G,
         tokens: &[Token],
@@ -165,6 +165,7 @@ impl Parser {
         requires nonterminal { IsNonterminal (G.means graph.old).grammar.rules symbol }
         requires few { HasFewNodes self.old }
         requires room { length self.old.stacks.links < 2 ^ 19 }
+        requires unlinked { IsUnlinked (found self.old) self.old.level.first_link lower symbol }
         ensures link { IfOk result (λ link. IsLinkBy (found self.new) link lower symbol self.old.level.at) }
         ensures step { OnOk result (IsStep (kinds_of tokens.now) self.old self.new (G.means graph.old) (G.means graph.new) steps.old steps.new) }
         ensures few { OnOk result (HasFewNodes self.new) }
@@ -174,9 +175,6 @@ impl Parser {
         ensures stands { Stands (G.means graph.old) (G.means graph.new) }
         ensures never_back { steps.old ≤ steps.new }
     {
-        if let Some(link) = self.stacks.link_above(lower, symbol, self.level.first_link) {
-            return Ok(link);
-        }
         let first = self.first_opener(graph, tokens, lower, symbol);
         let owner = self.owning_link(graph, tokens, first, symbol, steps)?;
         if first == lower {

@@ -1,17 +1,18 @@
 //! Reductions, each along one trail of links.
 
-ghost use Rattle.std.specs.Prelude.{◌≡◌, ◌≤◌, ◌<◌, ◌+◌, ◌^◌, ◌++◌, ◌∷◌, [], IfErr, OnOk, ℕ, length, Contains};
+ghost use Rattle.std.specs.Prelude.{◌≡◌, ◌≤◌, ◌<◌, ◌+◌, ◌^◌, ◌++◌, ◌∷◌, [], IfErr, IfSome, OnOk, ℕ, length, Contains};
+ghost use Rattle.packed_spans.specs.Packed.{ArePartsOf};
 ghost use Rattle.parser_states.specs.Asked.{Stands};
 ghost use Rattle.rekers.specs.Answers.{kinds_of, UnlessNoMemory};
 ghost use Rattle.rekers.specs.Found.{found, Grows};
 ghost use Rattle.rekers.specs.Reductions.{IsLinkTo};
 ghost use Rattle.rekers.specs.Sound.{IsSound};
-ghost use Rattle.rekers.specs.Steps.{IsStep, IsToReduce, Reduces, HasFewNodes, IsWithinLimit, IsAboveLimit, labels_of, IsLinkBy};
+ghost use Rattle.rekers.specs.Steps.{IsStep, IsToReduce, Reduces, HasFewNodes, IsWithinLimit, IsAboveLimit, labels_of, IsLinkBy, IsUnlinked};
 
 use crate::limits::SIZE_LIMIT;
 use crate::parse_error::ParseError;
 use crate::parser::Parser;
-use forest::Token;
+use forest::{RuleId, Token};
 use gss::StackGraph;
 use live_graph::{Graph, NoMemory};
 use parser_states::Reduction;
@@ -28,6 +29,17 @@ fn fill(stacks: &StackGraph, trail: &[u32], parts: &mut Vec<u32>) -> Result<(), 
         parts.push(stacks.edge(*link).label)?;
     }
     Ok(())
+}
+
+/// The labels of the links, if they are two.
+fn pair_of(stacks: &StackGraph, trail: &[u32]) -> Option<[u32; 2]>
+    requires { (link : ℕ) → Contains trail.now link → link < length stacks.now.links }
+    ensures { IfSome result (λ labels. labels ≡ labels_of stacks.now.links trail.now) }
+{
+    let [first, second] = trail else {
+        return None;
+    };
+    Some([stacks.edge(*first).label, stacks.edge(*second).label])
 }
 
 impl Parser {
@@ -47,7 +59,43 @@ impl Parser {
         Ok(())
     }
 
+    /// Adds the split of the trail to the span, by way of the buffer.
+    #[inline(never)]
+    fn add_long_trail(&mut self, span: u32, rule: RuleId) -> Result<(), NoMemory>
+        requires span { span < length self.old.spans.spans }
+        requires links { (link : ℕ) → Contains self.old.trail.items link → link < length self.old.stacks.links }
+        requires parts { ArePartsOf self.old.spans.spans (labels_of self.old.stacks.links self.old.trail.items) }
+        ensures spans { OnOk result (self.new.spans.spans ≡ self.old.spans.spans) }
+        ensures splits { OnOk result (self.new.spans.splits
+            ≡ self.old.spans.splits ++ record { span = span; rule = rule; parts = labels_of self.old.stacks.links self.old.trail.items } ∷ []) }
+        ensures same { OnOk result (self.new ≡ record self.old { spans = self.new.spans; parts = self.new.parts }) }
+    {
+        fill(&self.stacks, &self.trail, &mut self.parts)?;
+        self.spans.add_split(span, rule, &self.parts)?;
+        Ok(())
+    }
+
+    /// Adds the split of the trail to the span. Two parts need no buffer.
+    #[inline(always)]
+    fn add_trail(&mut self, span: u32, rule: RuleId) -> Result<(), NoMemory>
+        requires span { span < length self.old.spans.spans }
+        requires links { (link : ℕ) → Contains self.old.trail.items link → link < length self.old.stacks.links }
+        requires parts { ArePartsOf self.old.spans.spans (labels_of self.old.stacks.links self.old.trail.items) }
+        ensures spans { OnOk result (self.new.spans.spans ≡ self.old.spans.spans) }
+        ensures splits { OnOk result (self.new.spans.splits
+            ≡ self.old.spans.splits ++ record { span = span; rule = rule; parts = labels_of self.old.stacks.links self.old.trail.items } ∷ []) }
+        ensures same { OnOk result (self.new ≡ record self.old { spans = self.new.spans; parts = self.new.parts }) }
+    {
+        if let Some(parts) = pair_of(&self.stacks, &self.trail) {
+            self.spans.add_split(span, rule, &parts)?;
+            return Ok(());
+        }
+        self.add_long_trail(span, rule)?;
+        Ok(())
+    }
+
     /// Adds the split of the trail to the span of the link, if the link made the span.
+    #[inline(always)]
     fn split<G: Graph>(
         &mut self,
         _graph: &G,
@@ -70,12 +118,42 @@ impl Parser {
         if self.owners[span as usize] != link {
             return Ok(());
         }
-        fill(&self.stacks, &self.trail, &mut self.parts)?;
-        self.spans.add_split(span, reduction.rule, &self.parts)?;
+        self.add_trail(span, reduction.rule)?;
         Ok(())
     }
 
-    /// Makes the reduction along the trail, which leads from the node up to the top.
+    /// Makes the reduction along the trail, whose link is not there.
+    #[inline(never)]
+    fn reduce_new<G: Graph, L: Ledger>(
+        &mut self,
+        graph: &mut G,
+        tokens: &[Token],
+        reduction: Reduction,
+        lower: u32,
+        top: u32,
+        steps: &mut Steps<L>,
+    ) -> Result<(), ParseError>
+        requires sound { IsSound (G.means graph.old).grammar.rules (kinds_of tokens.now) self.old }
+        requires within { IsWithinLimit self.old }
+        requires reduces { IsToReduce (G.means graph.old).grammar.rules (found self.old) reduction lower self.old.trail.items top self.old.level.at }
+        requires unlinked { IsUnlinked (found self.old) self.old.level.first_link lower reduction.left }
+        ensures step { UnlessNoMemory result (IsStep (kinds_of tokens.now) self.old self.new (G.means graph.old) (G.means graph.new) steps.old steps.new) }
+        ensures reduced { OnOk result (Reduces (G.means graph.old).grammar.rules (found self.old) (found self.new) reduction lower self.old.trail.items top self.old.level.at) }
+        ensures within { OnOk result (IsWithinLimit self.new) }
+        ensures above { IfErr result (IsAboveLimit self.new) }
+        ensures trail { OnOk result (self.new.trail ≡ self.old.trail) }
+        ensures stands { Stands (G.means graph.old) (G.means graph.new) }
+        ensures never_back { steps.old ≤ steps.new }
+    {
+        let link = self.new_link(graph, tokens, lower, reduction.left, steps)?;
+        self.split(graph, tokens, reduction, link, lower, top)?;
+        self.check_size()?;
+        Ok(())
+    }
+
+    /// Makes the reduction along the trail, which leads from the node up to the top. Where its link is there, a split is all
+    /// that may be new, and none is where another link made the span.
+    #[inline(always)]
     pub(crate) fn reduce<G: Graph, L: Ledger>(
         &mut self,
         graph: &mut G,
@@ -96,7 +174,13 @@ impl Parser {
         ensures stands { Stands (G.means graph.old) (G.means graph.new) }
         ensures never_back { steps.old ≤ steps.new }
     {
-        let link = self.link(graph, tokens, lower, reduction.left, steps)?;
+        let Some(link) = self.stacks.link_above(lower, reduction.left, self.level.first_link) else {
+            return self.reduce_new(graph, tokens, reduction, lower, top, steps);
+        };
+        let span = self.stacks.edge(link).label;
+        if self.owners[span as usize] != link {
+            return Ok(());
+        }
         self.split(graph, tokens, reduction, link, lower, top)?;
         self.check_size()?;
         Ok(())

@@ -36,6 +36,72 @@ fn is_met(met: bool, link: u32, through: u32) -> bool
 }
 
 impl Parser {
+    /// Makes the reduction of the trail, which is whole, if it goes through the link that it has to.
+    #[inline(always)]
+    fn finish<G: Graph, L: Ledger>(
+        &mut self,
+        graph: &mut G,
+        tokens: &[Token],
+        walk: Walk,
+        node: u32,
+        met: bool,
+        steps: &mut Steps<L>,
+    ) -> Result<(), ParseError>
+        requires sound { IsSound (G.means graph.old).grammar.rules (kinds_of tokens.now) self.old }
+        requires within { IsWithinLimit self.old }
+        requires walking { IsWalking (G.means graph.old).grammar.rules (found self.old) self.old.level.first_link self.old.level.at walk node 0 met self.old.trail.items }
+        ensures step { UnlessNoMemory result (IsStep (kinds_of tokens.now) self.old self.new (G.means graph.old) (G.means graph.new) steps.old steps.new) }
+        ensures walked { OnOk result (IsWalked (G.means graph.old).grammar.rules (found self.old) (found self.new) walk self.old.level.at self.old.trail.items) }
+        ensures within { OnOk result (IsWithinLimit self.new) }
+        ensures above { IfErr result (IsAboveLimit self.new) }
+        ensures trail { OnOk result (self.new.trail ≡ self.old.trail) }
+        ensures stands { Stands (G.means graph.old) (G.means graph.new) }
+        ensures never_back { steps.old ≤ steps.new }
+    {
+        if met {
+            self.reduce(graph, tokens, walk.reduction, node, walk.top, steps)?;
+        }
+        Ok(())
+    }
+
+    /// Makes the reductions of all trails that go on from the node for one link down.
+    fn walk_last<G: Graph, L: Ledger>(
+        &mut self,
+        graph: &mut G,
+        tokens: &[Token],
+        walk: Walk,
+        node: u32,
+        met: bool,
+        steps: &mut Steps<L>,
+    ) -> Result<(), ParseError>
+        requires sound { IsSound (G.means graph.old).grammar.rules (kinds_of tokens.now) self.old }
+        requires within { IsWithinLimit self.old }
+        requires walking { IsWalking (G.means graph.old).grammar.rules (found self.old) self.old.level.first_link self.old.level.at walk node 1 met self.old.trail.items }
+        ensures step { UnlessNoMemory result (IsStep (kinds_of tokens.now) self.old self.new (G.means graph.old) (G.means graph.new) steps.old steps.new) }
+        ensures walked { OnOk result (IsWalked (G.means graph.old).grammar.rules (found self.old) (found self.new) walk self.old.level.at (drop 1 self.old.trail.items)) }
+        ensures within { OnOk result (IsWithinLimit self.new) }
+        ensures above { IfErr result (IsAboveLimit self.new) }
+        ensures trail { OnOk result ((drop 1 self.new.trail.items ≡ drop 1 self.old.trail.items) × (length self.new.trail.items ≡ length self.old.trail.items)) }
+        ensures stands { Stands (G.means graph.old) (G.means graph.new) }
+        ensures never_back { steps.old ≤ steps.new }
+    {
+        if !met && node < self.level.first_node {
+            return Ok(());
+        }
+        let mut next = self.stacks.first_link(node);
+        'links: while let Some(link) = next {
+            if link > walk.through {
+                return Ok(());
+            }
+            put(&mut self.trail, 0, link);
+            let lower = self.stacks.edge(link).lower;
+            let meets = is_met(met, link, walk.through);
+            self.finish(graph, tokens, walk, lower, meets, steps)?;
+            next = self.stacks.next_link(link);
+        }
+        Ok(())
+    }
+
     /// Makes the reductions of all trails that go on from the node for so many links down. Whether the link that they
     /// have to go through was met is told.
     pub(crate) fn walk<G: Graph, L: Ledger>(
@@ -60,10 +126,10 @@ impl Parser {
         ensures never_back { steps.old ≤ steps.new }
     {
         if left == 0 {
-            if met {
-                self.reduce(graph, tokens, walk.reduction, node, walk.top, steps)?;
-            }
-            return Ok(());
+            return self.finish(graph, tokens, walk, node, met, steps);
+        }
+        if left == 1 {
+            return self.walk_last(graph, tokens, walk, node, met, steps);
         }
         if !met && node < self.level.first_node {
             return Ok(());

@@ -1,26 +1,20 @@
-use Rattle.std.proofs.Common.{rules, Some, None, arith}
+use Rattle.std.proofs.Common.{subst, rules, Some, None, arith}
 use Rattle.rekers.specs.Answers.{kinds_of}
 use Rattle.rekers.specs.Found.{found}
+use Rattle.rekers.specs.Steps.{IsWalking}
 use Rattle.std.proofs.lemmas.Result.{err_from_is_err_and}
 use Rattle.rekers.proofs.Stepping.{step_none}
-use Rattle.rekers.proofs.DownLinks.{IsDown, down_none, down_all, down_past, down_more, walks_on, inside, step_back, sound_trail, within_trail, is_left, whole_reduces, walked_reduced, unless_on, walked_missed, walked_out}
+use Rattle.rekers.proofs.DownLinks.{IsDown, down_none, down_all, down_past, down_more, walks_on, inside, step_back, sound_trail, within_trail, is_left, unless_on, walked_out}
 use Rattle.rekers.proofs.parser.Parser.+walk.Goals as goal
 
-pub reduce-requires-clause-reduces : goal.reduce-requires-clause-reduces
-reduce-requires-clause-reduces g t c = whole_reduces (g.G.Graph.means c.args.graph.now).grammar.rules (found c.args.self.now) c.args.self.now.level.first_link
-    c.args.self.now.level.at c.args.walk c.args.node c.args.left c.args.met c.args.self.now.trail.items c.if-left-eq0.true c.if-met.true c.requires.walking
+-- one link is left, or none
+pub finish-requires-clause-walking : goal.finish-requires-clause-walking
+finish-requires-clause-walking g t c = subst (λ n. IsWalking (g.G.Graph.means c.args.graph.now).grammar.rules (found c.args.self.now)
+    c.args.self.now.level.first_link c.args.self.now.level.at c.args.walk c.args.node n c.args.met c.args.self.now.trail.items) c.if-left-eq0.true c.requires.walking
 
-pub returns-in_ok-reduce-clause-walked : goal.returns-in_ok-reduce-clause-walked
-returns-in_ok-reduce-clause-walked g t c = walked_reduced (g.G.Graph.means c.args.graph.now).grammar.rules (found c.args.self.now) (found c.reduce.new.self)
-    c.in_ok-reduce.ensures.step.grows c.args.self.now.level.first_link
-    c.args.self.now.level.at c.args.walk c.args.node c.args.left c.args.met c.args.self.now.trail.items c.if-left-eq0.true c.if-met.true c.requires.walking c.in_ok-reduce.ensures.reduced
-
-pub returns-else-met-clause-step : goal.returns-else-met-clause-step
-returns-else-met-clause-step g t c = step_none (kinds_of c.args.tokens.now) c.args.self.now (g.G.Graph.means c.args.graph.now) c.args.steps.now c.requires.sound
-
-pub returns-else-met-clause-walked : goal.returns-else-met-clause-walked
-returns-else-met-clause-walked g t c = walked_missed (g.G.Graph.means c.args.graph.now).grammar.rules (found c.args.self.now) c.args.self.now.level.first_link
-    c.args.self.now.level.at c.args.walk c.args.node c.args.left c.args.met c.args.self.now.trail.items c.if-left-eq0.true (λ m. let no = c.if-met.false in cc) c.requires.walking
+pub walk_last-requires-clause-walking : goal.walk_last-requires-clause-walking
+walk_last-requires-clause-walking g t c = subst (λ n. IsWalking (g.G.Graph.means c.args.graph.now).grammar.rules (found c.args.self.now)
+    c.args.self.now.level.first_link c.args.self.now.level.at c.args.walk c.args.node n c.args.met c.args.self.now.trail.items) c.if-left-eq1.true c.requires.walking
 
 pub returns-then-node-self-clause-step : goal.returns-then-node-self-clause-step
 returns-then-node-self-clause-step g t c = step_none (kinds_of c.args.tokens.now) c.args.self.now (g.G.Graph.means c.args.graph.now) c.args.steps.now c.requires.sound
@@ -68,8 +62,8 @@ returns-in_err-walk-clause-step g t c =
     let down : IsDown (kinds_of c.args.tokens.now) c.args.self.now c.links.self (g.G.Graph.means c.args.graph.now) (g.G.Graph.means c.links.graph)
     c.args.steps.now c.links.steps c.args.walk c.args.node c.args.left (Some c.in-Some.link) = rw c.in-Some.is at c.links.invariant in
     let some = is_left c.args.left c.if-left-eq0.false in
-    unless_on c.in_err-walk.field-0.0 c.from_residual-in_err-walk.result
-    (err_from_is_err_and c.from_residual-in_err-walk.result c.from_residual-in_err-walk.ensures.1) (λ step. step_back (kinds_of c.args.tokens.now) c.args.self.now c.links.self (g.G.Graph.means c.args.graph.now) (g.G.Graph.means c.links.graph)
+    unless_on c.in_err-walk.field-0.0 c.from_residual.result
+    (err_from_is_err_and c.from_residual.result c.from_residual.ensures.1) (λ step. step_back (kinds_of c.args.tokens.now) c.args.self.now c.links.self (g.G.Graph.means c.args.graph.now) (g.G.Graph.means c.links.graph)
     c.args.steps.now c.links.steps c.args.walk c.args.node c.args.left c.args.met c.requires.sound c.requires.walking
     c.in-Some.link down some c.put.new.trail c.put.ensures.puts c.walk.new.self (g.G.Graph.means c.walk.new.graph) c.walk.new.steps step)
     c.in_err-walk.ensures.step

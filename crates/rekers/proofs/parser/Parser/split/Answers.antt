@@ -1,10 +1,11 @@
 -- The split of a trail is added where the link made the span, and else nothing is.
-use Rattle.std.proofs.Common.{◌<◌, length, sym, ◌∙◌, ap, subst, arith, Contains}
+use Rattle.std.proofs.Common.{◌<◌, length, refl, sym, subst, arith}
 use Rattle.std.proofs.lemmas.Option.{slice_get_within}
-use Rattle.packed_spans.specs.Packed.{ArePartsOf}
+use Rattle.rekers.specs.declared.parser.Parser.{Parser}
 use Rattle.rekers.specs.Answers.{kinds_of}
-use Rattle.rekers.specs.Found.{found}
-use Rattle.rekers.specs.Steps.{labels_of}
+use Rattle.rekers.specs.Found.{found, Grows}
+use Rattle.rekers.specs.Sound.{IsSound}
+use Rattle.rekers.specs.Steps.{Reduces, labels_of}
 use Rattle.rekers.proofs.Growth.{grows_same, trail_links}
 use Rattle.rekers.proofs.Reduced.{labels_parts, span_owned, no_split, one_split}
 use Rattle.rekers.proofs.parser.Parser.split.Goals as goal
@@ -28,44 +29,45 @@ returns-then-index-link-clause-reduced g c =
     (kinds_of c.args._tokens.now) c.args.self.now c.requires.sound c.args.reduction c.args.link c.args.lower c.args.top
     c.requires.link c.requires.reduces c.edge-span.result c.edge-span.ensures c.index.result.now c.index.ensures c.if-index-link.true
 
-pub fill-requires : goal.fill-requires
-fill-requires g c = λ link has.
-    trail_links c.requires.reduces.reducible.along link (subst (λ ns. Contains ns link) c.deref.ensures.value has)
-
-pub add_split-requires-clause-span : goal.add_split-requires-clause-span
-add_split-requires-clause-span g c =
+pub add_trail-requires-clause-span : goal.add_trail-requires-clause-span
+add_trail-requires-clause-span g c =
     let owned : c.edge-span.result.label < length c.args.self.now.owners.items = span_owned (g.G.Graph.means c.args._graph.now).grammar.rules
     (kinds_of c.args._tokens.now) c.args.self.now c.requires.sound c.args.reduction c.args.link c.args.lower c.args.top
     c.requires.link c.requires.reduces c.edge-span.result c.edge-span.ensures in
     omega (arith, owned, c.requires.sound.graph.owned)
 
-pub add_split-requires-clause-parts : goal.add_split-requires-clause-parts
-add_split-requires-clause-parts g c =
-    let p = c.args.self.now in
-    let parts = c.deref-2.ensures.value ∙ c.in_ok-fill.ensures ∙ ap (λ ns. labels_of p.stacks.links ns) c.deref.ensures.value in
-    subst (λ ns. ArePartsOf p.spans.spans ns) (sym parts)
-    (labels_parts (g.G.Graph.means c.args._graph.now).grammar.rules (kinds_of c.args._tokens.now) (found p) c.requires.sound.graph c.requires.reduces.reducible)
+pub add_trail-requires-clause-links : goal.add_trail-requires-clause-links
+add_trail-requires-clause-links g c = λ link has. trail_links c.requires.reduces.reducible.along link has
+
+pub add_trail-requires-clause-parts : goal.add_trail-requires-clause-parts
+add_trail-requires-clause-parts g c =
+    labels_parts (g.G.Graph.means c.args._graph.now).grammar.rules (kinds_of c.args._tokens.now) (found c.args.self.now) c.requires.sound.graph
+    c.requires.reduces.reducible
 
 pub returns-clause-sound : goal.returns-clause-sound
 returns-clause-sound g c =
+    subst (λ (q : Parser). IsSound (g.G.Graph.means c.args._graph.now).grammar.rules (kinds_of c.args._tokens.now) q) (sym c.in_ok-add_trail.ensures.same)
     (one_split (g.G.Graph.means c.args._graph.now).grammar.rules
     (kinds_of c.args._tokens.now) c.args.self.now c.requires.sound c.args.reduction c.args.link c.args.lower c.args.top
     c.requires.link c.requires.reduces c.edge-span.result c.edge-span.ensures c.index.result.now c.index.ensures c.if-index-link.false
-    c.deref.result.now c.deref-2.result.now c.deref.ensures.value c.fill.new.parts c.in_ok-fill.ensures c.deref-2.ensures.value
-    c.add_split.new.self c.in_ok-add_split.ensures.spans c.in_ok-add_split.ensures.splits).stays
+    (labels_of c.args.self.now.stacks.links c.args.self.now.trail.items) refl c.add_trail.new.self.parts c.add_trail.new.self.spans
+    c.in_ok-add_trail.ensures.spans c.in_ok-add_trail.ensures.splits).stays
 
 pub returns-clause-grows : goal.returns-clause-grows
 returns-clause-grows g c =
+    subst (λ (q : Parser). Grows (found c.args.self.now) (found q)) (sym c.in_ok-add_trail.ensures.same)
     (one_split (g.G.Graph.means c.args._graph.now).grammar.rules
     (kinds_of c.args._tokens.now) c.args.self.now c.requires.sound c.args.reduction c.args.link c.args.lower c.args.top
     c.requires.link c.requires.reduces c.edge-span.result c.edge-span.ensures c.index.result.now c.index.ensures c.if-index-link.false
-    c.deref.result.now c.deref-2.result.now c.deref.ensures.value c.fill.new.parts c.in_ok-fill.ensures c.deref-2.ensures.value
-    c.add_split.new.self c.in_ok-add_split.ensures.spans c.in_ok-add_split.ensures.splits).more
+    (labels_of c.args.self.now.stacks.links c.args.self.now.trail.items) refl c.add_trail.new.self.parts c.add_trail.new.self.spans
+    c.in_ok-add_trail.ensures.spans c.in_ok-add_trail.ensures.splits).more
 
 pub returns-clause-reduced : goal.returns-clause-reduced
 returns-clause-reduced g c =
+    subst (λ (q : Parser). Reduces (g.G.Graph.means c.args._graph.now).grammar.rules (found c.args.self.now) (found q) c.args.reduction c.args.lower
+    c.args.self.now.trail.items c.args.top c.args.self.now.level.at) (sym c.in_ok-add_trail.ensures.same)
     (one_split (g.G.Graph.means c.args._graph.now).grammar.rules
     (kinds_of c.args._tokens.now) c.args.self.now c.requires.sound c.args.reduction c.args.link c.args.lower c.args.top
     c.requires.link c.requires.reduces c.edge-span.result c.edge-span.ensures c.index.result.now c.index.ensures c.if-index-link.false
-    c.deref.result.now c.deref-2.result.now c.deref.ensures.value c.fill.new.parts c.in_ok-fill.ensures c.deref-2.ensures.value
-    c.add_split.new.self c.in_ok-add_split.ensures.spans c.in_ok-add_split.ensures.splits).made
+    (labels_of c.args.self.now.stacks.links c.args.self.now.trail.items) refl c.add_trail.new.self.parts c.add_trail.new.self.spans
+    c.in_ok-add_trail.ensures.spans c.in_ok-add_trail.ensures.splits).made

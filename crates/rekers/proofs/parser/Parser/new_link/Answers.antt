@@ -9,17 +9,9 @@ use Rattle.rekers.specs.Answers.{kinds_of}
 use Rattle.rekers.specs.Found.{found}
 use Rattle.rekers.specs.Steps.{IsLinkBy, IsUpper, IsStep, IsUnlinked}
 use Rattle.rekers.proofs.Growth.{one_at, kernel_at, node_grows, grows_on}
-use Rattle.rekers.proofs.LinkSteps.{step_none, step_alone, step_on, link_found, label_owned, linkable_on, linkable_first, nonterminal_on, unlinked_on, label_of_first}
+use Rattle.rekers.proofs.LinkSteps.{step_alone, step_on, label_owned, linkable_on, linkable_first, nonterminal_on, unlinked_on, label_of_first}
 use Rattle.rekers.proofs.LinkAttached.{attached_grows, label_on}
-use Rattle.rekers.proofs.parser.Parser.link.Goals as goal
-
-pub returns-in-Some-clause-link : goal.returns-in-Some-clause-link
-returns-in-Some-clause-link g c =
-    link_found (g.G.Graph.means c.args.graph.now).grammar.rules (kinds_of c.args.tokens.now) c.args.self.now c.requires.sound c.requires.nonterminal
-    c.in-Some.ensures.newest.is
-
-pub returns-in-Some-clause-step : goal.returns-in-Some-clause-step
-returns-in-Some-clause-step g c = step_none (kinds_of c.args.tokens.now) c.args.self.now (g.G.Graph.means c.args.graph.now) c.args.steps.now c.requires.sound
+use Rattle.rekers.proofs.parser.Parser.new_link.Goals as goal
 
 pub owning_link-requires-clause-linkable : goal.owning_link-requires-clause-linkable
 owning_link-requires-clause-linkable g c =
@@ -62,7 +54,7 @@ attach-requires-clause-upper g c =
 pub attach-requires-clause-unlinked : goal.attach-requires-clause-unlinked
 attach-requires-clause-unlinked g c =
     let differs : c.args.lower ≢ c.first_opener-first.result = λ e. c.if-first-lower.false (sym e) in
-    let first = c.in_ok-owner.ensures.others c.args.lower differs c.in_default.ensures.none in
+    let first = c.in_ok-owner.ensures.others c.args.lower differs c.requires.unlinked in
     let here = subst (λ (l : Level). IsUnlinked (found c.owning_link.new.self) l.first_link c.args.lower c.args.symbol) (sym c.in_ok-owner.ensures.step.level) first in
     unlinked_on c.owning_link.new.self c.upper.new.self c.args.lower c.args.symbol c.in_ok-upper.ensures.links (ap (λ (q : Parser). q.level) c.in_ok-upper.ensures.same) here
 

@@ -1,0 +1,14 @@
+-- The split of a trail, whose parts are the labels of its links.
+use Rattle.std.proofs.Common.{◌++◌, [], ◌∷◌, sym, ◌∙◌, ap, subst, Contains}
+use Rattle.packed_spans.specs.Packed.{ArePartsOf}
+use Rattle.rekers.specs.Steps.{labels_of}
+use Rattle.rekers.proofs.parser.Parser.add_long_trail.Goals as goal
+
+pub fill-requires : goal.fill-requires
+fill-requires c = λ link has. c.requires.links link (subst (λ ns. Contains ns link) c.deref.ensures.value has)
+
+pub add_split-requires-clause-parts : goal.add_split-requires-clause-parts
+add_split-requires-clause-parts c =
+    let p = c.args.self.now in
+    let parts = c.deref-2.ensures.value ∙ c.in_ok-fill.ensures ∙ ap (λ ns. labels_of p.stacks.links ns) c.deref.ensures.value in
+    subst (λ ns. ArePartsOf p.spans.spans ns) (sym parts) c.requires.parts
