@@ -1,5 +1,6 @@
 pub mod Lists
 pub mod Orders
+pub mod Rows
 pub mod Links
 pub mod Marking
 pub mod Sweeping
