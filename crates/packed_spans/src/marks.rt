@@ -57,14 +57,14 @@ fn mark_part(part: u32, limit: u32, marks: &mut Marks) -> Result<(), NoMemory>
 }
 
 /// Marks the parts of a split.
-fn mark_parts(table: &Table, row: &SplitRow, limit: u32, marks: &mut Marks) -> Result<(), NoMemory>
-    requires stored { IsStored table.now.spans.items table.now.parts.items row.now }
+fn mark_parts(table: &Table, row: SplitRow, limit: u32, marks: &mut Marks) -> Result<(), NoMemory>
+    requires stored { IsStored table.now.spans.items table.now.parts.items row }
     requires size { length marks.old.marked.items ≡ length table.now.spans.items }
-    ensures { OnOk result (MarksExactly (IsPartSpan table.now.parts.items row.now row.now.length) limit marks.old.marked.items marks.old.waiting.items
+    ensures { OnOk result (MarksExactly (IsPartSpan table.now.parts.items row row.length) limit marks.old.marked.items marks.old.waiting.items
         marks.new.marked.items marks.new.waiting.items) }
 {
     for index in 0..row.length {
-        mark_part(table.part(row, index), limit, marks)?;
+        mark_part(table.part(&row, index), limit, marks)?;
     }
     Ok(())
 }
@@ -79,7 +79,7 @@ fn mark_below(table: &Table, number: u32, limit: u32, marks: &mut Marks) -> Resu
 {
     let mut link = table.spans[number as usize].newest;
     while link > 0 {
-        let row = &table.splits[link as usize - 1];
+        let row = table.splits[link as usize - 1];
         mark_parts(table, row, limit, marks)?;
         link = row.older;
     }
