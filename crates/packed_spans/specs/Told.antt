@@ -1,5 +1,5 @@
 -- The splits of a forest's nodes that rows of splits tell.
-use Rattle.std.specs.Prelude.{◌≡◌, ℕ, ◌+◌, ◌≤◌, ◌==◌, List, [], ◌∷◌, map, if◌then◌else◌, slice_index, Contains, slice_get, Option, Some}
+use Rattle.std.specs.Prelude.{◌≡◌, ℕ, ◌+◌, ◌≤◌, ◌==◌, List, [], ◌∷◌, map, if◌then◌else◌, slice_index, Contains, slice_get, Some}
 use Rattle.std.specs.List.Sorted.{IsStrictlySortedBy}
 use Rattle.forest.specs.declared.nodes.Split.{Split}
 use Rattle.forest.specs.declared.rules.RuleId.{RuleId}
@@ -31,18 +31,12 @@ last_of spans at (part ∷ parts) = last_of spans (end_at spans at part) parts
 abbrev pub told : List SpanRow → List ℕ → ℕ → SplitRow → Split
 told spans parts from row = record { rule = row.rule; cuts = from ∷ ends_of spans from (parts_of parts row) }
 
--- a second cut is at the floor or above, and right below the next floor
-pub record IsRaised (floor : Option ℕ) (second next : ℕ) : Type 0 where
-  pub low : ℕ
-  pub was : floor ≡ Some low
-  pub high : low ≤ second
-  pub next_is : next ≡ second + 1
-
--- both parts lie in the row of a split by this rule, and its second cut raises the floor
-pub record IsAbove (spans : List SpanRow) (row : SplitRow) (rule : RuleId) (from : ℕ) (floor : Option ℕ) (next : ℕ) : Type 0 where
+-- both parts lie in the row of a split by this rule, and its second cut is at the floor or above, and right below the next floor
+pub record IsAbove (spans : List SpanRow) (row : SplitRow) (rule : RuleId) (from floor next : ℕ) : Type 0 where
   pub two : row.length ≡ INLINE_PARTS
   pub by : row.rule ≡ rule
-  pub raised : IsRaised floor (end_at spans from row.first) next
+  pub high : floor ≤ end_at spans from row.first
+  pub next_is : next ≡ end_at spans from row.first + 1
 
 -- exactly what the rows of the span tell, but for those below the link
 pub record AreTold (spans : List SpanRow) (splits : List SplitRow) (parts : List ℕ) (span from link : ℕ) (found : List Split) : Type 0 where
