@@ -1,5 +1,7 @@
 pub mod Lists
 pub mod Orders
+pub mod Rows
+pub mod Climbs
 pub mod Links
 pub mod Marking
 pub mod Sweeping

@@ -4,10 +4,12 @@ use Rattle.std.proofs.lemmas.Bool.{cases_lt}
 use Rattle.std.proofs.lemmas.Option.{slice_get_within}
 use Rattle.packed_spans.specs.declared.span.TheConstants.{TOKEN_PART}
 use Rattle.packed_spans.specs.declared.table.SplitRow.{SplitRow}
+use Rattle.packed_spans.specs.declared.table.TheConstants.{INLINE_PARTS}
 use Rattle.packed_spans.specs.Tables.{parts_of, IsLink}
 use Rattle.packed_spans.specs.Marks.{IsPartSpan, IsBelow, MarksExactly}
 use Rattle.packed_spans.proofs.Lists.{one_at}
 use Rattle.packed_spans.proofs.Links.{IsAlong, of_span, cases}
+use Rattle.packed_spans.proofs.Rows.{two_parts}
 use Rattle.packed_spans.proofs.Marking.{nothing_marked, joined}
 
 module _ (parts : List ℕ) (row : SplitRow) (limit : ℕ) (m0 : List Bool) (w0 : List ℕ) where
@@ -29,6 +31,16 @@ module _ (parts : List ℕ) (row : SplitRow) (limit : ℕ) (m0 : List Bool) (w0 
             let is : n ≡ part = one_at (parts_of parts row) index n part (ap (slice_get (parts_of parts row)) (sym same) ∙ p.at) at in
             inr (is, p.no_token)
       ])
+
+  pub both_marked : (m1 m2 : List Bool) (w1 w2 : List ℕ) → row.length ≡ INLINE_PARTS
+      → MarksExactly (λ n. (n ≡ row.first) × (n ≡ TOKEN_PART → ⊥)) limit m0 w0 m1 w1
+      → MarksExactly (λ n. (n ≡ row.second) × (n ≡ TOKEN_PART → ⊥)) limit m1 w1 m2 w2
+      → MarksExactly (IsPartSpan parts row row.length) limit m0 w0 m2 w2
+  both_marked m1 m2 w1 w2 two a b =
+      let at = two_parts parts row two in
+      let one = part_marked 0 row.first m0 m1 w0 w1 (ap (λ ps. slice_get ps 0) at) no_parts_marked a in
+      let both = part_marked 1 row.second m1 m2 w1 w2 (ap (λ ps. slice_get ps 1) at) one b in
+      subst (λ k. MarksExactly (IsPartSpan parts row k) limit m0 w0 m2 w2) (sym two) both
 
 module _ (splits : List SplitRow) (parts : List ℕ) (span limit : ℕ) (m0 : List Bool) (w0 : List ℕ) where
   pub no_splits_marked : (link : ℕ) → IsLink splits span (length splits) link → MarksExactly (IsBelow splits parts span link) limit m0 w0 m0 w0

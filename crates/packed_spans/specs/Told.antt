@@ -2,10 +2,12 @@
 use Rattle.std.specs.Prelude.{◌≡◌, ℕ, ◌+◌, ◌≤◌, ◌==◌, List, [], ◌∷◌, map, if◌then◌else◌, slice_index, Contains, slice_get, Some}
 use Rattle.std.specs.List.Sorted.{IsStrictlySortedBy}
 use Rattle.forest.specs.declared.nodes.Split.{Split}
+use Rattle.forest.specs.declared.rules.RuleId.{RuleId}
 use Rattle.forest.specs.Orders.{split_cmp}
 use Rattle.packed_spans.specs.declared.span.TheConstants.{TOKEN_PART}
 use Rattle.packed_spans.specs.declared.table.SpanRow.{SpanRow}
 use Rattle.packed_spans.specs.declared.table.SplitRow.{SplitRow}
+use Rattle.packed_spans.specs.declared.table.TheConstants.{INLINE_PARTS}
 use Rattle.packed_spans.specs.Tables.{parts_of, IsRow}
 
 abbrev pub ends_in : List SpanRow → List ℕ
@@ -28,6 +30,13 @@ last_of spans at (part ∷ parts) = last_of spans (end_at spans at part) parts
 -- the split that the row tells where its span begins at this place
 abbrev pub told : List SpanRow → List ℕ → ℕ → SplitRow → Split
 told spans parts from row = record { rule = row.rule; cuts = from ∷ ends_of spans from (parts_of parts row) }
+
+-- both parts lie in the row of a split by this rule, and its second cut is at the floor or above, and right below the next floor
+pub record IsAbove (spans : List SpanRow) (row : SplitRow) (rule : RuleId) (from floor next : ℕ) : Type 0 where
+  pub two : row.length ≡ INLINE_PARTS
+  pub by : row.rule ≡ rule
+  pub high : floor ≤ end_at spans from row.first
+  pub next_is : next ≡ end_at spans from row.first + 1
 
 -- exactly what the rows of the span tell, but for those below the link
 pub record AreTold (spans : List SpanRow) (splits : List SplitRow) (parts : List ℕ) (span from link : ℕ) (found : List Split) : Type 0 where

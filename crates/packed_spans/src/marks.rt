@@ -6,7 +6,7 @@ ghost use Rattle.packed_spans.specs.Tables.{IsTable, IsStored};
 ghost use Rattle.packed_spans.specs.Marks.{IsPartSpan, IsBelow, IsMarked, MarksExactly, IsSwept, AreReached};
 
 use crate::span::TOKEN_PART;
-use crate::table::{SplitRow, Table};
+use crate::table::{INLINE_PARTS, SplitRow, Table};
 use forest::NoMemory;
 use std::alloc::Global;
 
@@ -63,8 +63,13 @@ fn mark_parts(table: &Table, row: SplitRow, limit: u32, marks: &mut Marks) -> Re
     ensures { OnOk result (MarksExactly (IsPartSpan table.now.parts.items row row.length) limit marks.old.marked.items marks.old.waiting.items
         marks.new.marked.items marks.new.waiting.items) }
 {
+    if row.length == INLINE_PARTS {
+        mark_part(row.first, limit, marks)?;
+        mark_part(row.second, limit, marks)?;
+        return Ok(());
+    }
     for index in 0..row.length {
-        mark_part(table.part(row, index), limit, marks)?;
+        mark_part(table.part(&row, index), limit, marks)?;
     }
     Ok(())
 }

@@ -106,9 +106,11 @@ impl PackedSpans {
         ensures splits { OnOk result (self.new.splits ≡ self.old.splits ++ record { span = span; rule = rule; parts = parts.now } ∷ []) }
         ensures refused { OnErr result (self.new ≡ self.old) }
     {
-        let Ok(link) = u32::try_from(self.table.splits.len() + 1) else {
+        let count = self.table.splits.len();
+        if count >= u32::MAX as usize {
             return Err(AllocError);
-        };
+        }
+        let link = count as u32 + 1;
         let older = self.table.spans[span as usize].newest;
         let row = row_for(&mut self.table.parts, span, rule, older, parts)?;
         self.table.splits.push(row)?;

@@ -42,10 +42,10 @@ pub(crate) struct Table {
 
 impl Table {
     /// A part of the split.
-    pub(crate) fn part(&self, row: SplitRow, index: u32) -> u32
-        requires stored { IsStored self.now.spans.items self.now.parts.items row }
-        requires index { index < row.length }
-        ensures { slice_get (parts_of self.now.parts.items row) index ≡ Some result }
+    pub(crate) fn part(&self, row: &SplitRow, index: u32) -> u32
+        requires stored { IsStored self.now.spans.items self.now.parts.items row.now }
+        requires index { index < row.now.length }
+        ensures { slice_get (parts_of self.now.parts.items row.now) index ≡ Some result }
     {
         if row.length > INLINE_PARTS {
             return self.parts[row.first as usize + index as usize];
@@ -81,21 +81,42 @@ pub(crate) fn row_for(
     ensures grows { OnOk result ((more : List ℕ) × (list.new.items ≡ list.old.items ++ more)) }
     ensures refused { OnErr result (list.new.items ≡ list.old.items) }
 {
-    let Ok(length) = u32::try_from(parts.len()) else {
-        return Err(AllocError);
-    };
-    let (first, second) = match parts {
-        [] => (TOKEN_PART, TOKEN_PART),
-        [first] => (*first, TOKEN_PART),
-        [first, second] => (*first, *second),
-        _ => (store(list, parts)?, TOKEN_PART),
-    };
-    Ok(SplitRow {
-        span,
-        rule,
-        older,
-        length,
-        first,
-        second,
-    })
+    match parts {
+        [first, second] => Ok(SplitRow {
+            span,
+            rule,
+            older,
+            length: 2,
+            first: *first,
+            second: *second,
+        }),
+        [first] => Ok(SplitRow {
+            span,
+            rule,
+            older,
+            length: 1,
+            first: *first,
+            second: TOKEN_PART,
+        }),
+        [] => Ok(SplitRow {
+            span,
+            rule,
+            older,
+            length: 0,
+            first: TOKEN_PART,
+            second: TOKEN_PART,
+        }),
+        _ => {
+            let length = u32::try_from(parts.len()).map_err(|_| AllocError)?;
+            let first = store(list, parts)?;
+            Ok(SplitRow {
+                span,
+                rule,
+                older,
+                length,
+                first,
+                second: TOKEN_PART,
+            })
+        }
+    }
 }

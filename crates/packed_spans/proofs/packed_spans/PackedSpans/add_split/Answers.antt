@@ -32,12 +32,12 @@ invariant_of-self-2 c =
     let was : slice_get c.self.inside.table.spans.items c.args.span ≡ Some c.index.result.now = read_at _ _ _ within c.index.ensures in
     let again : slice_get c.self.inside.table.spans.items c.args.span ≡ Some c.index_mut-owner.result.now = read_at _ _ _ within c.index_mut-owner.ensures.value in
     let same : c.index_mut-owner.result.now ≡ c.index.result.now = one_at c.self.inside.table.spans.items c.args.span _ _ again was in
-    let link : c.in-Ok.link ≡ length c.self.inside.table.splits.items + 1 = omega (arith, c.in-Ok.ensures) in
+    let link : c.len-count.result + 1 ≡ length c.self.inside.table.splits.items + 1 = omega (arith, c.len-count.ensures) in
     let are = subst (λ ss. ArePartsOf ss c.args.parts.now) (sym spans) c.requires.parts in
     let row = row_added _ _ _ _ more grown c.self.invariant _ _ _ _ c.in_ok-row.row c.in_ok-row.ensures.row c.index.result.now
     (record {
       span = c.index_mut-owner.result.now.span;
-      newest = c.in-Ok.link;
+      newest = c.len-count.result + 1;
       count = (c.index_mut-owner.result.now.count + 1) % 18446744073709551616;
     }) was refl (ap (λ (r : SpanRow). r.span) same) link are in
     rw c.in_ok-push.ensures.items row
