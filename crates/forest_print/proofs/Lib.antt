@@ -1,1 +1,2 @@
 pub mod PrefixSteps
+pub mod Rooms

@@ -7,6 +7,7 @@ use std::alloc::AllocError;
 
 mod forest_lines;
 mod line_parts;
+mod pieces;
 mod symbols;
 mod token_lines;
 

@@ -1,0 +1,163 @@
+//! Short pieces of lines, and the bytes that they are written to.
+
+ghost use Rattle.std.specs.Prelude.{◌≡◌, ℕ, ◌+◌, ◌^◌, ◌<◌, ◌≤◌, List, [], ◌∷◌, ◌++◌, codes, length, take, slice_index_or, OnOk, OnErr};
+ghost use Rattle.std.specs.Vec.{vec_len};
+
+use crate::NoMemory;
+use std::marker::Model;
+
+/// How many bytes the room of a piece has.
+const ROOM: usize = 32;
+
+/// How many bytes are made ready at a time.
+const STEP: usize = 2048;
+
+/// A text of less than 32 bytes. After it the room is full of line ends: copying all of it is one move of a known
+/// length, and the piece with a line end costs no more than the piece alone.
+#[derive(Drop)]
+pub(crate) struct Piece {
+    room: [u8; ROOM],
+    size: usize,
+}
+
+impl Model for Piece {
+    ghost Value = { List ℕ };
+
+    ghost view = { λ p. take p.size p.room };
+
+    ghost invariant = { λ p. (p.size < 32) × ((at : ℕ) → p.size ≤ at → slice_index_or p.room at 10 ≡ 10) };
+}
+
+impl Piece {
+    /// A piece with nothing in it.
+    pub(crate) fn new() -> Piece
+        ensures { result ≡ [] }
+    {
+        Piece {
+            room: [b'\n'; ROOM],
+            size: 0,
+        }
+    }
+
+    /// Puts one more byte at the end.
+    fn push(&mut self, byte: u8)
+        requires { length self.old < 31 }
+        ensures { self.new ≡ self.old ++ byte ∷ [] }
+    {
+        self.room[self.size] = byte;
+        self.size += 1;
+    }
+
+    /// Puts more bytes at the end.
+    pub(crate) fn add(&mut self, bytes: &[u8])
+        requires { length self.old + length bytes.now ≤ 31 }
+        ensures { self.new ≡ self.old ++ bytes.now }
+    {
+        for byte in bytes {
+            self.push(*byte);
+        }
+    }
+}
+
+/// Bytes that are written at the end. Those after `end` are made ready ahead, so that a piece is copied whole
+/// and only its length counts.
+#[derive(Drop)]
+pub(crate) struct Lines {
+    bytes: Vec<u8>,
+    end: usize,
+}
+
+impl Model for Lines {
+    ghost Value = { List ℕ };
+
+    ghost view = { λ l. take l.end l.bytes.items };
+
+    ghost invariant = { λ l. l.end ≤ length l.bytes.items };
+}
+
+/// Makes more bytes ready.
+#[cold]
+#[inline(never)]
+fn grow(bytes: &mut Vec<u8>, more: usize) -> Result<(), NoMemory>
+    requires { more < 2 ^ 63 }
+    ensures kept { take (vec_len bytes.old) bytes.new.items ≡ bytes.old.items }
+    ensures grown { OnOk result (vec_len bytes.old + more ≤ vec_len bytes.new) }
+    ensures longer { vec_len bytes.old ≤ vec_len bytes.new }
+{
+    let end = bytes.len() + more.max(STEP);
+    bytes.resize(end, 0)
+}
+
+/// Sees to it that some bytes are ready after the first `length`.
+#[inline(always)]
+fn make_room(bytes: &mut Vec<u8>, length: usize, more: usize) -> Result<(), NoMemory>
+    requires within { length ≤ vec_len bytes.old }
+    requires fits { more < 2 ^ 63 }
+    ensures kept { take length bytes.new.items ≡ take length bytes.old.items }
+    ensures room { OnOk result (length + more ≤ vec_len bytes.new) }
+    ensures longer { length ≤ vec_len bytes.new }
+{
+    if bytes.len() - length < more {
+        return grow(bytes, more);
+    }
+    Ok(())
+}
+
+impl Lines {
+    /// Lines that go on after these bytes.
+    pub(crate) fn after(bytes: Vec<u8>) -> Lines
+        ensures { result ≡ bytes.items }
+    {
+        let end = bytes.len();
+        Lines { bytes, end }
+    }
+
+    /// The bytes that were written.
+    pub(crate) fn into_bytes(self) -> Vec<u8>
+        ensures { result.items ≡ self }
+    {
+        let Lines { mut bytes, end } = self;
+        bytes.truncate(end);
+        bytes
+    }
+
+    /// Appends the first `count` of the bytes, or nothing.
+    #[inline(always)]
+    fn put_first(&mut self, bytes: &[u8], count: usize) -> Result<(), NoMemory>
+        requires { count ≤ length bytes.now }
+        ensures whole { OnOk result (self.new ≡ self.old ++ take count bytes.now) }
+        ensures kept { OnErr result (self.new ≡ self.old) }
+    {
+        make_room(&mut self.bytes, self.end, bytes.len())?;
+        let end = self.end + bytes.len();
+        self.bytes[self.end..end].copy_from_slice(bytes);
+        self.end += count;
+        Ok(())
+    }
+
+    /// Appends the bytes, or nothing.
+    pub(crate) fn put_bytes(&mut self, bytes: &[u8]) -> Result<(), NoMemory>
+        ensures whole { OnOk result (self.new ≡ self.old ++ bytes.now) }
+        ensures kept { OnErr result (self.new ≡ self.old) }
+    {
+        self.put_first(bytes, bytes.len())
+    }
+
+    /// Appends the piece, or nothing.
+    #[inline(always)]
+    pub(crate) fn put(&mut self, piece: &Piece) -> Result<(), NoMemory>
+        ensures whole { OnOk result (self.new ≡ self.old ++ piece.now) }
+        ensures kept { OnErr result (self.new ≡ self.old) }
+    {
+        self.put_first(&piece.room, piece.size)
+    }
+
+    /// Appends the piece with a line end, or nothing.
+    #[inline(always)]
+    pub(crate) fn put_line(&mut self, piece: &Piece) -> Result<(), NoMemory>
+        ensures whole { OnOk result (self.new ≡ self.old ++ piece.now ++ codes "\n") }
+        ensures kept { OnErr result (self.new ≡ self.old) }
+    {
+        self.put_first(&piece.room, piece.size + 1)
+    }
+}
