@@ -1,2 +1,3 @@
 pub mod PrefixSteps
 pub mod Rooms
+pub mod PlaceTables
