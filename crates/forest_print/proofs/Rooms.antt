@@ -1,6 +1,6 @@
 -- What stands in the room of a piece, and what is left of it where it is copied whole and only its front counts.
 use Rattle.std.proofs.Common.{◌≡◌, ℕ, zero, suc, ◌+◌, ◌<◌, ◌≤◌, List, [], ◌∷◌, ◌++◌, length, take, drop, replicate, slice_index_or, refl, ap, sym, inl, inr}
-use Rattle.std.proofs.Common.{◌∙◌, arith, rules}
+use Rattle.std.proofs.Common.{◌∙◌, append_assoc, arith, rules}
 use Rattle.std.proofs.Math.Seq.{take-append-add}
 use Rattle.std.proofs.lemmas.List.{take-append-le, length-append, length-drop, length-take, length-take-le, take_more}
 
@@ -32,3 +32,16 @@ same_length old bytes end more within same = omega (
   length-drop more (drop end old),
   length-drop end old,
 )
+
+-- three rooms were written over one another, each where the text of the one before ends
+pub three_rooms : (was one two three r1 r2 r3 : List ℕ) (s1 s2 s3 : ℕ) → take (0 + s1) one ≡ take 0 was ++ take s1 r1
+    → take (s1 + s2) two ≡ take s1 one ++ take s2 r2 → take (s1 + s2 + (s3 + 1)) three ≡ take (s1 + s2) two ++ take (s3 + 1) r3
+    → s3 < length r3 → slice_index_or r3 s3 10 ≡ 10
+    → take (s1 + s2 + s3 + 1) three ≡ take s1 r1 ++ take s2 r2 ++ take s3 r3 ++ 10 ∷ []
+three_rooms was one two three r1 r2 r3 s1 s2 s3 first second third less is =
+    let count : s1 + s2 + s3 + 1 ≡ s1 + s2 + (s3 + 1) = omega arith in
+    let begun : take s1 one ≡ take s1 r1 = ap (λ n. take n one) (omega arith) ∙ first in
+    let two_begun : take (s1 + s2) two ≡ take s1 r1 ++ take s2 r2 = second ∙ ap (λ front. front ++ take s2 r2) begun in
+    ap (λ n. take n three) count ∙ third ∙ ap (λ front. front ++ take (s3 + 1) r3) two_begun
+    ∙ ap (λ end. take s1 r1 ++ take s2 r2 ++ end) (with_end r3 s3 less is)
+    ∙ sym (append_assoc (take s1 r1 ++ take s2 r2) (take s3 r3) (10 ∷ []))

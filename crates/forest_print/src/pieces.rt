@@ -7,17 +7,20 @@ use crate::NoMemory;
 use std::marker::Model;
 
 /// How many bytes the room of a piece has.
-const ROOM: usize = 32;
+const ROOM: usize = 31;
 
 /// How many bytes are made ready at a time.
 const STEP: usize = 2048;
 
-/// A text of less than 32 bytes. After it the room is full of line ends: copying all of it is one move of a known
+/// As many bytes as two sizes and a room can come to, whatever numbers the sizes are.
+const REACH: usize = 541;
+
+/// A text of less than 31 bytes. After it the room is full of line ends: copying all of it is one move of a known
 /// length, and the piece with a line end costs no more than the piece alone.
 #[derive(Drop)]
 pub(crate) struct Piece {
     room: [u8; ROOM],
-    size: usize,
+    size: u8,
 }
 
 impl Model for Piece {
@@ -25,7 +28,7 @@ impl Model for Piece {
 
     ghost view = { λ p. take p.size p.room };
 
-    ghost invariant = { λ p. (p.size < 32) × ((at : ℕ) → p.size ≤ at → slice_index_or p.room at 10 ≡ 10) };
+    ghost invariant = { λ p. (p.size < 31) × ((at : ℕ) → p.size ≤ at → slice_index_or p.room at 10 ≡ 10) };
 }
 
 impl Piece {
@@ -41,16 +44,16 @@ impl Piece {
 
     /// Puts one more byte at the end.
     fn push(&mut self, byte: u8)
-        requires { length self.old < 31 }
+        requires { length self.old < 30 }
         ensures { self.new ≡ self.old ++ byte ∷ [] }
     {
-        self.room[self.size] = byte;
+        self.room[usize::from(self.size)] = byte;
         self.size += 1;
     }
 
     /// Puts more bytes at the end.
     pub(crate) fn add(&mut self, bytes: &[u8])
-        requires { length self.old + length bytes.now ≤ 31 }
+        requires { length self.old + length bytes.now ≤ 30 }
         ensures { self.new ≡ self.old ++ bytes.now }
     {
         for byte in bytes {
@@ -103,6 +106,32 @@ fn make_room(bytes: &mut Vec<u8>, length: usize, more: usize) -> Result<(), NoMe
     Ok(())
 }
 
+/// Writes a room over the bytes from `at` on.
+#[inline(always)]
+fn write_at(bytes: &mut [u8], at: usize, room: &[u8; ROOM])
+    requires { at + 31 ≤ length bytes.old }
+    ensures front { (count : ℕ) → count ≤ 31 → take (at + count) bytes.new ≡ take at bytes.old ++ take count room.now }
+    ensures len { length bytes.new ≡ length bytes.old }
+{
+    bytes[at..at + ROOM].copy_from_slice(room);
+}
+
+/// Writes three pieces and a line end over the first bytes, and tells how many they are.
+#[inline(always)]
+fn write_three(bytes: &mut [u8], first: &Piece, second: &Piece, third: &Piece) -> usize
+    requires { 541 ≤ length bytes.old }
+    ensures front { take result bytes.new ≡ first.now ++ second.now ++ third.now ++ codes "\n" }
+    ensures within { result ≤ length bytes.new }
+    ensures len { length bytes.new ≡ length bytes.old }
+{
+    let second_at = usize::from(first.size);
+    let third_at = second_at + usize::from(second.size);
+    write_at(bytes, 0, &first.room);
+    write_at(bytes, second_at, &second.room);
+    write_at(bytes, third_at, &third.room);
+    third_at + usize::from(third.size) + 1
+}
+
 impl Lines {
     /// Lines that go on after these bytes.
     pub(crate) fn after(bytes: Vec<u8>) -> Lines
@@ -149,7 +178,7 @@ impl Lines {
         ensures whole { OnOk result (self.new ≡ self.old ++ piece.now) }
         ensures kept { OnErr result (self.new ≡ self.old) }
     {
-        self.put_first(&piece.room, piece.size)
+        self.put_first(&piece.room, usize::from(piece.size))
     }
 
     /// Appends the piece with a line end, or nothing.
@@ -158,6 +187,19 @@ impl Lines {
         ensures whole { OnOk result (self.new ≡ self.old ++ piece.now ++ codes "\n") }
         ensures kept { OnErr result (self.new ≡ self.old) }
     {
-        self.put_first(&piece.room, piece.size + 1)
+        self.put_first(&piece.room, usize::from(piece.size) + 1)
+    }
+
+    /// Appends three pieces and a line end, or nothing.
+    #[inline(always)]
+    pub(crate) fn put_three(&mut self, first: &Piece, second: &Piece, third: &Piece) -> Result<(), NoMemory>
+        ensures whole { OnOk result (self.new ≡ self.old ++ (first.now ++ second.now ++ third.now ++ codes "\n")) }
+        ensures kept { OnErr result (self.new ≡ self.old) }
+    {
+        make_room(&mut self.bytes, self.end, REACH)?;
+        let end = self.end + REACH;
+        let count = write_three(&mut self.bytes[self.end..end], first, second, third);
+        self.end += count;
+        Ok(())
     }
 }
