@@ -1,1 +1,4 @@
 pub mod PrefixSteps
+pub mod Rooms
+pub mod PlaceTables
+pub mod SplitParts

@@ -1,5 +1,5 @@
 -- What was appended where memory ran out is a prefix of the text.
-use Rattle.std.proofs.Common.{◌≡◌, ℕ, zero, suc, ◌<◌, List, [], ◌∷◌, ◌++◌, length, take, drop, slice_index_or, Result, Ok, Err, OnErr, refl, ap, sym, subst}
+use Rattle.std.proofs.Common.{◌≡◌, ℕ, zero, suc, ◌<◌, List, [], ◌∷◌, ◌++◌, length, take, drop, slice_index_or, Result, Ok, Err, OnOk, OnErr, refl, ap, sym, subst}
 use Rattle.std.proofs.Common.{◌∙◌, append_assoc, append-nil, arith}
 use Rattle.std.specs.List.{flat_map}
 use Rattle.std.proofs.lemmas.Grind.{flat_map-append}
@@ -60,3 +60,15 @@ stops_at f (x ∷ xs) (suc i) d old mid new less begun stopped =
 pub on_err : {X E : Type 0} {P : Type 0} (r : Result X E) → P → OnErr r P
 on_err (Ok x) p = tt
 on_err (Err e) p = p
+
+pub err_then : {X E : Type 0} {P Q : Type 0} (r : Result X E) → (P → Q) → OnErr r P → OnErr r Q
+err_then (Ok x) f p = tt
+err_then (Err e) f p = f p
+
+pub ok_then : {X E : Type 0} {P Q : Type 0} (r : Result X E) → (P → Q) → OnOk r P → OnOk r Q
+ok_then (Ok x) f p = f p
+ok_then (Err e) f p = tt
+
+-- the text was appended as far as this, and no more
+pub stops_after : (old mid new before after text : List ℕ) → mid ≡ old ++ before → new ≡ mid → text ≡ before ++ after → AppendsPrefix old new text
+stops_after old mid new before after text begun kept is = record { prefix = before; rest = after; parts = is; appended = kept ∙ begun }

@@ -1,6 +1,6 @@
 //! The lines of a forest.
 
-ghost use Rattle.std.specs.Prelude.{◌≡◌, ◌++◌, Contains, OnOk, OnErr};
+ghost use Rattle.std.specs.Prelude.{◌≡◌, ◌++◌, codes, decimal, Contains, OnOk, OnErr};
 ghost use Rattle.std.specs.List.{flat_map};
 ghost use Rattle.forest.specs.declared.nodes.Node.{Node as TheNode};
 ghost use Rattle.edit_log.specs.Facts.{IsNamed};
@@ -8,75 +8,121 @@ ghost use Rattle.forest_print.specs.Lines.{name_of, cut_text, split_line, span_l
 ghost use Rattle.forest_print.specs.Prefixes.{AppendsPrefix};
 
 use crate::NoMemory;
-use crate::line_parts::{Part, put_parts};
+use crate::heads::Head;
+use crate::pieces::{Lines, Piece};
+use crate::places::Places;
 use crate::symbols::name;
 use edit_log::Grammar;
 use forest::{Forest, Node, Split};
+use itoa::Buffer;
+use std::mem;
 
 /// Appends a blank and the number, for each cut.
-fn put_cuts(out: &mut Vec<u8>, cuts: &[u32]) -> Result<(), NoMemory>
-    ensures whole { OnOk result (out.new.items ≡ out.old.items ++ flat_map cut_text cuts.now) }
-    ensures prefix { OnErr result (AppendsPrefix out.old.items out.new.items (flat_map cut_text cuts.now)) }
+fn put_cuts(lines: &mut Lines, places: &Places, cuts: &[u32]) -> Result<(), NoMemory>
+    ensures whole { OnOk result (lines.new ≡ lines.old ++ flat_map cut_text cuts.now) }
+    ensures prefix { OnErr result (AppendsPrefix lines.old lines.new (flat_map cut_text cuts.now)) }
 {
     for cut in cuts {
-        put_parts(out, &[Part::Bytes(b" "), Part::Number(*cut)])?;
+        places.put(lines, *cut)?;
     }
     Ok(())
 }
 
-/// Appends the line for a split.
-fn put_split(out: &mut Vec<u8>, split: &Split) -> Result<(), NoMemory>
-    ensures whole { OnOk result (out.new.items ≡ out.old.items ++ split_line split.now) }
-    ensures prefix { OnErr result (AppendsPrefix out.old.items out.new.items (split_line split.now)) }
+/// Appends how a line begins, a blank and the number for each cut after the first, and a line end.
+fn put_after_head(lines: &mut Lines, places: &Places, head: &Piece, cuts: &[u32]) -> Result<(), NoMemory>
+    ensures whole { OnOk result (lines.new ≡ lines.old ++ head.now ++ flat_map cut_text cuts.now ++ codes "\n") }
+    ensures prefix { OnErr result (AppendsPrefix lines.old lines.new (head.now ++ flat_map cut_text cuts.now ++ codes "\n")) }
 {
-    let head = [
-        Part::Bytes(b"rule "),
-        Part::Number(split.rule.0),
-        Part::Bytes(b" at"),
-    ];
-    put_parts(out, &head)?;
-    put_cuts(out, split.cuts.as_slice())?;
-    put_parts(out, &[Part::Bytes(b"\n")])?;
-    Ok(())
+    match cuts.split_last() {
+        None => lines.put_line(head),
+        Some((last, before)) => {
+            lines.put(head)?;
+            put_cuts(lines, places, before)?;
+            places.put_line(lines, *last)
+        }
+    }
+}
+
+/// Appends the line for a split with no cuts.
+#[cold]
+#[inline(never)]
+fn put_bare(lines: &mut Lines, rule: u32) -> Result<(), NoMemory>
+    ensures whole { OnOk result (lines.new ≡ lines.old ++ codes "rule " ++ decimal rule ++ codes " at\n") }
+    ensures kept { OnErr result (lines.new ≡ lines.old) }
+{
+    let mut line = Piece::new();
+    line.add(b"rule ");
+    line.add(Buffer::new().format(rule).as_bytes());
+    line.add(b" at");
+    lines.put_line(&line)
+}
+
+/// Appends the line for a split. The head stays as it was where it serves.
+fn put_split(lines: &mut Lines, places: &Places, head: &mut Head, split: &Split) -> Result<(), NoMemory>
+    ensures whole { OnOk result (lines.new ≡ lines.old ++ split_line split.now) }
+    ensures prefix { OnErr result (AppendsPrefix lines.old lines.new (split_line split.now)) }
+{
+    match split.cuts.as_slice().split_first() {
+        None => put_bare(lines, split.rule.0),
+        Some((first, after)) => {
+            head.turn(split.rule.0, *first);
+            put_after_head(lines, places, &head.text, after)
+        }
+    }
 }
 
 /// Appends a line for each split.
-fn put_splits(out: &mut Vec<u8>, splits: &[Split]) -> Result<(), NoMemory>
-    ensures whole { OnOk result (out.new.items ≡ out.old.items ++ flat_map split_line splits.now) }
-    ensures prefix { OnErr result (AppendsPrefix out.old.items out.new.items (flat_map split_line splits.now)) }
+fn put_splits(lines: &mut Lines, places: &Places, head: &mut Head, splits: &[Split]) -> Result<(), NoMemory>
+    ensures whole { OnOk result (lines.new ≡ lines.old ++ flat_map split_line splits.now) }
+    ensures prefix { OnErr result (AppendsPrefix lines.old lines.new (flat_map split_line splits.now)) }
 {
     for split in splits {
-        put_split(out, split)?;
+        put_split(lines, places, head, split)?;
     }
     Ok(())
 }
 
 /// Appends the line for a symbol of this name and the tokens that it derives.
-fn put_span(out: &mut Vec<u8>, name: &[u8], node: &Node) -> Result<(), NoMemory>
-    ensures whole { OnOk result (out.new.items ≡ out.old.items ++ span_line name.now node.now.from node.now.to) }
-    ensures prefix { OnErr result (AppendsPrefix out.old.items out.new.items (span_line name.now node.now.from node.now.to)) }
+fn put_span(lines: &mut Lines, places: &Places, name: &[u8], node: &Node) -> Result<(), NoMemory>
+    ensures whole { OnOk result (lines.new ≡ lines.old ++ span_line name.now node.now.from node.now.to) }
+    ensures prefix { OnErr result (AppendsPrefix lines.old lines.new (span_line name.now node.now.from node.now.to)) }
 {
-    let line = [
-        Part::Bytes(b"node "),
-        Part::Bytes(name),
-        Part::Bytes(b" "),
-        Part::Number(node.from),
-        Part::Bytes(b" "),
-        Part::Number(node.to),
-        Part::Bytes(b"\n"),
-    ];
-    put_parts(out, &line)?;
-    Ok(())
+    lines.put_bytes(b"node ")?;
+    lines.put_bytes(name)?;
+    places.put(lines, node.from)?;
+    places.put_line(lines, node.to)
 }
 
 /// Appends the lines for a node whose symbol has this name, and for its splits.
-fn put_node(out: &mut Vec<u8>, name: &[u8], node: &Node) -> Result<(), NoMemory>
-    ensures whole { OnOk result (out.new.items ≡ out.old.items ++ node_text name.now node.now) }
-    ensures prefix { OnErr result (AppendsPrefix out.old.items out.new.items (node_text name.now node.now)) }
+fn put_node(lines: &mut Lines, places: &Places, head: &mut Head, name: &[u8], node: &Node) -> Result<(), NoMemory>
+    ensures whole { OnOk result (lines.new ≡ lines.old ++ node_text name.now node.now) }
+    ensures prefix { OnErr result (AppendsPrefix lines.old lines.new (node_text name.now node.now)) }
 {
-    put_span(out, name, node)?;
-    put_splits(out, node.splits.as_slice())?;
+    put_span(lines, places, name, node)?;
+    put_splits(lines, places, head, node.splits.as_slice())?;
     Ok(())
+}
+
+/// Appends the lines for all nodes.
+fn put_nodes(grammar: &Grammar, nodes: &[Node], places: &Places, lines: &mut Lines) -> Result<(), NoMemory>
+    requires { (node : TheNode) → Contains nodes.now node → IsNamed grammar.now.grammar.symbols node.symbol }
+    ensures whole { OnOk result (lines.new ≡ lines.old ++ nodes_text (name_of grammar.now.grammar.symbols) nodes.now) }
+    ensures prefix { OnErr result (AppendsPrefix lines.old lines.new (nodes_text (name_of grammar.now.grammar.symbols) nodes.now)) }
+{
+    let mut head = Head::new(0, 0);
+    for node in nodes {
+        put_node(lines, places, &mut head, name(grammar, node.symbol), node)?;
+    }
+    Ok(())
+}
+
+/// The last place where a node ends.
+fn last_place(nodes: &[Node]) -> u32 {
+    let mut last = 0;
+    for node in nodes {
+        last = node.to.max(last);
+    }
+    last
 }
 
 /// Appends the lines of a forest: for each node its name with the places in the tokens where it begins and
@@ -88,8 +134,11 @@ pub fn print(grammar: &Grammar, forest: &Forest, out: &mut Vec<u8>) -> Result<()
     ensures whole { OnOk result (out.new.items ≡ out.old.items ++ nodes_text (name_of grammar.now.grammar.symbols) forest.now.nodes) }
     ensures prefix { OnErr result (AppendsPrefix out.old.items out.new.items (nodes_text (name_of grammar.now.grammar.symbols) forest.now.nodes)) }
 {
-    for node in forest.nodes.as_slice() {
-        put_node(out, name(grammar, node.symbol), node)?;
-    }
-    Ok(())
+    let alloc = *out.allocator();
+    let nodes = forest.nodes.as_slice();
+    let places = Places::up_to(alloc, last_place(nodes))?;
+    let mut lines = Lines::after(mem::replace(out, Vec::new(alloc)));
+    let printed = put_nodes(grammar, nodes, &places, &mut lines);
+    *out = lines.into_bytes();
+    printed
 }

@@ -6,7 +6,10 @@
 use std::alloc::AllocError;
 
 mod forest_lines;
+mod heads;
 mod line_parts;
+mod pieces;
+mod places;
 mod symbols;
 mod token_lines;
 

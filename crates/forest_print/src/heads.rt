@@ -1,0 +1,42 @@
+//! How the lines for splits begin.
+
+ghost use Rattle.std.specs.Prelude.{◌≡◌};
+ghost use Rattle.forest_print.specs.Parts.{head_text};
+
+use crate::pieces::Piece;
+use itoa::Buffer;
+
+/// How the line for a split with this rule and first cut begins. Most splits of a node have both in common.
+#[derive(Drop)]
+pub(crate) struct Head {
+    pub(crate) rule: u32,
+    pub(crate) first: u32,
+    pub(crate) text: Piece,
+    ghost told: { text ≡ head_text rule first },
+}
+
+impl Head {
+    #[inline(never)]
+    pub(crate) fn new(rule: u32, first: u32) -> Head
+        ensures rule { result.rule ≡ rule }
+        ensures first { result.first ≡ first }
+    {
+        let mut text = Piece::new();
+        text.add(b"rule ");
+        text.add(Buffer::new().format(rule).as_bytes());
+        text.add(b" at ");
+        text.add(Buffer::new().format(first).as_bytes());
+        Head { rule, first, text }
+    }
+
+    /// Becomes the head of this rule and first cut.
+    #[inline(always)]
+    pub(crate) fn turn(&mut self, rule: u32, first: u32)
+        ensures rule { self.new.rule ≡ rule }
+        ensures first { self.new.first ≡ first }
+    {
+        if self.rule != rule || self.first != first {
+            *self = Head::new(rule, first);
+        }
+    }
+}
