@@ -46,7 +46,7 @@ module _ (c : Current) (v w : View) (entry : List ℕ) (editor : IsEditorOf c v)
   role_is = ap role_or_first wrote.role
 
   pub editor_written : IsEditorOf c w
-  editor_written = editor_on c v w _ editor wrote.goes (with_making (role_of v) (making_entry c.next entry)) wrote.role refl
+  editor_written = editor_on c v w _ editor wrote.goes (with_making (role_of v) (making_entry c.next entry)) wrote.role refl refl
 
   pub next_is : next_of w ≡ v.log ++ record { words = entry } ∷ []
   next_is = (λ i. next_log (wrote.goes.log i) (making_of (role_is i))) ∙ ap (λ (ws : List ℕ). v.log ++ record { words = ws } ∷ [])
@@ -182,6 +182,7 @@ module _ (c : Current) (F : List Entry → List ℕ → Type 0) (keeps : List �
 
   editor_third : IsEditorOf c v3
   editor_third = editor_on c v2 v3 _ editor_second wrote_page.goes (with_making (role_of v) (Some m)) has (ap (λ (y : Role). y.newest) (sym role_before))
+      (ap (λ (y : Role). y.giving_up) (sym role_before))
 
   -- the new version may be made the current one
   pub may_swap : (L : List Entry → Type 0) → Keeps L F v3 (op.SwapCurrent (c.version + 1) c.next)

@@ -17,6 +17,7 @@ use Rattle.pin_rule.specs.Told.{KnowsKey, IsTold, Tells}
 use Rattle.pin_rule.proofs.Lists.{at_end}
 use Rattle.pin_rule.proofs.Seats.{none_some, same_some}
 use Rattle.pin_rule.proofs.Frames.{same_key}
+use Rattle.pin_rule.proofs.Passing.{load_keeps_role}
 use Rattle.slot_store.proofs.Single.{entry_grows, names_it, names_known}
 use Rattle.version_store.specs.declared.current.Current.{Current}
 use Rattle.version_store.specs.Roles.{role_of, role_or_first}
@@ -97,7 +98,7 @@ begins c v = record {
 
 module _ (c : Current) (v w : View) (editor : IsEditorOf c v) (found : List (Option Found)) (so_far : FindsRows c v w found) where
   pub editor_then : IsEditorOf c w
-  editor_then = editor_on c v w _ editor so_far.goes (role_of v) (so_far.role ∙ editor.has) refl
+  editor_then = editor_on c v w _ editor so_far.goes (role_of v) (so_far.role ∙ editor.has) refl refl
 
   -- the editor may speak of the page
   speaks : version_at w c.page ≡ Some c.version
@@ -115,7 +116,7 @@ module _ (c : Current) (v w : View) (editor : IsEditorOf c v) (found : List (Opt
         })
 
     same_role : u.role ≡ w.role
-    same_role = ap (λ (y : View). y.role) is
+    same_role = ap (λ (y : View). y.role) is ∙ load_keeps_role w (role_of w) c.page place n editor_then.has editor_then.keeps_all
 
     more_entries : (e : EntryFact) → In e w.entries → In e u.entries
     more_entries e i = subst (λ (y : View). In e y.entries) (sym is) (entry_grows (version_at w c.page) w.entries place n e i)
@@ -124,7 +125,7 @@ module _ (c : Current) (v w : View) (editor : IsEditorOf c v) (found : List (Opt
     more_words x i = subst (λ (y : View). In x y.words) (sym is) i
 
     pub editor_at : IsEditorOf c u
-    editor_at = editor_on c w u _ editor_then loads (role_of w) (same_role ∙ editor_then.has) refl
+    editor_at = editor_on c w u _ editor_then loads (role_of w) (same_role ∙ editor_then.has) refl refl
 
     pub next_at : next_of u ≡ next_of v
     next_at = next_stays v u (loads.log ∙ so_far.goes.log) (same_role ∙ so_far.role)
@@ -173,7 +174,7 @@ module _ (c : Current) (v w : View) (editor : IsEditorOf c v) (found : List (Opt
         ]
 
         pub editor_after : IsEditorOf c x
-        editor_after = editor_on c u x _ editor_at reads.goes (role_of u) (reads.role ∙ editor_at.has) refl
+        editor_after = editor_on c u x _ editor_at reads.goes (role_of u) (reads.role ∙ editor_at.has) refl refl
 
         pub found_row : (L : List Entry → Type 0) (F : List Entry → List ℕ → Type 0) → Tells L F x
             → FindsRows c v x (found ++ Some (record { row = row; words = words }) ∷ [])

@@ -41,7 +41,7 @@ module _ (c : Current) (v : View) (row : ℕ) (editor : IsEditorOf c v) (named :
   -- the view after some words
   module _ (w : View) (xs : List ℕ) (so_far : ReadsRow c v w row xs) where
     pub editor_then : IsEditorOf c w
-    editor_then = editor_on c v w _ editor so_far.goes (role_of v) (so_far.role ∙ editor.has) refl
+    editor_then = editor_on c v w _ editor so_far.goes (role_of v) (so_far.role ∙ editor.has) refl refl
 
     pub named_then : version_of w.entries row ≡ Some c.version
     named_then = ap (λ es. version_of es row) so_far.entries ∙ named

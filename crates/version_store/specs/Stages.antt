@@ -26,6 +26,8 @@ pub record IsEditorOf (c : Current) (v : View) : Type 0 where
   pub at : c.version ≡ now v
   pub version_is : (role_of v).newest.version ≡ c.version
   pub page_is : (role_of v).newest.page ≡ c.page
+  -- no version is being given up, so no load of a place changes the role
+  pub keeps_all : (role_of v).giving_up ≡ None
 
 -- what no step of an edit changes
 pub record Stays (v w : View) : Type 0 where
