@@ -6,3 +6,7 @@ pub mod Parts
 pub mod Dividing
 pub mod Stages
 pub mod Choices
+pub mod Marks
+pub mod Notes
+pub mod GivingUp
+pub mod Freeing

@@ -90,6 +90,7 @@ pub record FindsRows (c : Current) (v w : View) (found : List (Option Found)) : 
   pub goes : Goes v w (page_loads c.sizes c.page 0 found)
   pub role : w.role ≡ v.role
   pub known : (place : ℕ) (f : Found) → IsAt found place f → IsKnownRow c w place f
+  pub rows_in : (place : ℕ) (f : Found) → IsAt found place f → f.row < c.sizes.rows
   pub rows_once : (o p : ℕ) (f g : Found) → IsAt found o f → IsAt found p g → f.row ≡ g.row → o ≡ p
   pub keys_once : (o p : ℕ) (f g : Found) → IsAt found o f → IsAt found p g → key_in f.words ≡ key_in g.words → o ≡ p
 

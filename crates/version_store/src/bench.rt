@@ -3,10 +3,11 @@
 ghost use Rattle.std.specs.Prelude.{◌≡◌, [], IfOk};
 ghost use Rattle.pin_rule.specs.Hands.{view_of};
 ghost use Rattle.pin_rule.specs.Views.{whole};
-ghost use Rattle.version_store.specs.Roles.{role_of, older_of};
+ghost use Rattle.version_store.specs.Roles.{role_of};
 
 use crate::NoMemory;
 use crate::editor::Editor;
+use crate::lives::Lives;
 use pin_rule::content::Content;
 use pin_rule::hand::Hand;
 use pin_rule::sizes::Sizes;
@@ -18,7 +19,7 @@ pub struct Bench<C: Content> {
     pub(crate) alloc: Global,
     pub(crate) editor: Editor<C>,
     ghost has_all: { (view_of editor.hand).share ≡ whole },
-    ghost one_version: { older_of (role_of (view_of editor.hand)) ≡ [] },
+    ghost one_version: { (role_of (view_of editor.hand)).older ≡ [] },
 }
 
 impl<C: Content> Editor<C> {
@@ -41,13 +42,13 @@ impl<C: Content> Bench<C> {
     {
         let row = Vec::from_elem(alloc, 0u64, sizes.width as usize)?;
         let places = Vec::from_elem(alloc, 0u64, sizes.places as usize)?;
+        let lives = Lives::first(alloc, sizes)?;
         let hand = Hand::open(alloc, sizes)?;
         let editor = Editor {
             hand,
             sizes,
-            version: 0,
+            lives,
             left: sizes.pins,
-            taken: [0; 16],
             row,
             places,
         };

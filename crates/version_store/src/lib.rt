@@ -8,12 +8,17 @@
 #![tactic(auto)]
 
 pub mod bench;
+mod carried_rows;
 mod choosing;
 mod current;
 pub mod edit_error;
 mod editing;
 pub mod editor;
 mod entry_writing;
+mod freeing;
+mod giving_up;
+mod leaving;
+mod lives;
 mod next_version;
 mod page_writing;
 mod parting;

@@ -3,7 +3,7 @@
 ghost use Rattle.std.specs.Prelude.{◌≡◌, ◌≤◌, ◌*◌, [], IfOk, IfErr};
 ghost use Rattle.pin_rule.specs.Hands.{view_of, table_of};
 ghost use Rattle.pin_rule.specs.Views.{whole, now};
-ghost use Rattle.version_store.specs.Roles.{role_of, older_of};
+ghost use Rattle.version_store.specs.Roles.{role_of};
 ghost use Rattle.version_store.specs.Meaning.{bench_meaning};
 ghost use Rattle.version_store.specs.Means.{bench_of, editor_of};
 ghost use Rattle.version_store.specs.Parts.{Parts};
@@ -79,7 +79,7 @@ fn part_editor<C: Content>(
     count: u32,
 ) -> (Editor<C>, Vec<Pass<C>>)
     requires has_all { (view_of editor.hand).share ≡ whole }
-    requires one_version { older_of (role_of (view_of editor.hand)) ≡ [] }
+    requires one_version { (role_of (view_of editor.hand)).older ≡ [] }
     requires count { (1 ≤ count) × (count ≤ 16) }
     requires room { IsRoomFor editor.sizes count room }
     ensures { Parts (bench_meaning (view_of editor.hand) (table_of editor.hand)) count (editor_of result.0) result.1.items }
@@ -87,20 +87,19 @@ fn part_editor<C: Content>(
     let Editor {
         mut hand,
         sizes,
-        version,
+        lives,
         left,
-        taken,
         row,
         places,
     } = editor;
     let pins = left / count;
+    let version = lives.newest.version;
     let passes = split_passes(&mut hand, sizes, version, room, pins, count);
     let editor = Editor {
         hand,
         sizes,
-        version,
+        lives,
         left: left - count * pins,
-        taken,
         row,
         places,
     };
