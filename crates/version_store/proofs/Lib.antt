@@ -10,5 +10,8 @@ pub mod PageRows
 pub mod Chosen
 pub mod RowsByNumber
 pub mod NextVersions
-pub mod Downs
 pub mod Dividing
+pub mod MarkedRows
+pub mod Noting
+pub mod FreedRows
+pub mod GivenUp

@@ -1,6 +1,6 @@
 -- The parts of an edit together make the next version.
 use Rattle.std.proofs.Common.{◌≡◌, ◌≢◌, ℕ, suc, ◌+◌, ◌<◌, List, [], ◌∷◌, ◌++◌, length, slice_index, append_assoc, sym, refl, ap, ◌∙◌, subst, arith}
-use Rattle.std.specs.Prelude.{Option, Some}
+use Rattle.std.specs.Prelude.{Option, Some, None}
 use mathlib.Core.Option as maybe
 use lib.ListN.{get_elem?}
 use Rattle.pin_rule.specs.declared.sizes.Sizes.{Sizes}
@@ -15,7 +15,8 @@ use Rattle.pin_rule.specs.Layout.{version_named, page_named, taken_named}
 use Rattle.pin_rule.specs.Lists.{In}
 use Rattle.pin_rule.specs.Rows.{key_of, on_path}
 use Rattle.pin_rule.specs.Views.{now}
-use Rattle.pin_rule.specs.Making.{making_of, making_in, by_making, next_log, with_version, role_with_version}
+use Rattle.pin_rule.specs.Making.{making_of, making_in, by_making, next_log, rows_of, with_version, role_with_version}
+use Rattle.pin_rule.specs.PartLive.{known_release}
 use Rattle.pin_rule.specs.Steps.{swapped, after_swap_current}
 use Rattle.pin_rule.specs.Told.{KnowsKey}
 use Rattle.pin_rule.specs.Keeps.{Keeps}
@@ -24,7 +25,7 @@ use Rattle.pin_rule.proofs.Lists.{in_at, at_in}
 use Rattle.pin_rule.proofs.Seats.{same_some}
 use Rattle.pin_rule.proofs.KindSwapCurrent.{keeps_swap_current}
 use Rattle.version_store.specs.declared.current.Current.{Current}
-use Rattle.version_store.specs.Roles.{role_of, role_or_first, pages_of, older_of}
+use Rattle.version_store.specs.Roles.{role_of, role_or_first}
 use Rattle.version_store.specs.Edits.{Found, KeepsExactly, entry_stores, page_loads, page_stores}
 use Rattle.version_store.specs.Stages.{IsEditorOf, Stays, next_of, with_making, making_entry, WritesEntry, FindsRows, WritesPage}
 use Rattle.version_store.specs.Choices.{HasChosen, MakesNext}
@@ -143,9 +144,6 @@ module _ (u x : View) (r : Role) (m : Making) (version page met : ℕ) (has : u.
   steps_after : x.steps ≡ u.steps ++ swapped version page met ∷ []
   steps_after = ap (λ (y : View). y.steps) is
 
-  new_role : role_of x ≡ with_version r m version page met
-  new_role = ap role_or_first role_after
-
 -- four lists of steps, one after the other
 four : (s a b d e t : List Step) (t1 t2 t3 : List Step) → t1 ≡ s ++ a → t2 ≡ t1 ++ b → t3 ≡ t2 ++ d → t ≡ t3 ++ e → t ≡ s ++ (a ++ (b ++ (d ++ e)))
 four s a b d e t t1 t2 t3 p q r w = w ∙ ap (λ (l : List Step). l ++ e) r ∙ append_assoc t2 d e ∙ ap (λ (l : List Step). l ++ (d ++ e)) q
@@ -195,12 +193,10 @@ module _ (c : Current) (F : List Entry → List ℕ → Type 0) (keeps : List �
   }) e.share
 
   pub makes : (x : View) (met : ℕ) → length found ≡ c.sizes.places → x ≡ after_swap_current v3 (c.version + 1) c.next met
-      → ((y : Role) → v3.role ≡ Some y → (version_named met ≡ y.newest.version) × (page_named met ≡ y.newest.page)) → MakesNext keeps c v x entry met
+      → ((y : Role) → v3.role ≡ Some y → (version_named met ≡ y.newest.version) × (page_named met ≡ y.newest.page)) → MakesNext keeps c v x entry places met
   makes x met every_place is named = let e = editor_third in let n : ℕ = c.version + 1 in let next : n ≡ suc c.version = omega arith in
-      let role = new_role v3 x (with_making (role_of v) (Some m)) m n c.next met has refl is in
       let said = named (with_making (role_of v) (Some m)) has in record {
         found = found;
-        places = places;
         stays = stays_on v v1 x wrote.goes.stays (stays_on v1 v2 x finds.goes.stays (stays_on v2 v3 x wrote_page.goes.stays
             (stays_after v3 x (with_making (role_of v) (Some m)) m n c.next met has refl is)));
         steps = four v.steps (entry_stores c.sizes c.version 0 entry) (page_loads c.sizes c.page 0 found) (page_stores c.sizes c.next 0 places)
@@ -214,10 +210,10 @@ module _ (c : Current) (F : List Entry → List ℕ → Type 0) (keeps : List �
         kept = keeps_exactly keeps (F (next_of v1)) c.sizes found places chosen;
         version_before = said.0 ∙ editor.version_is;
         page_before = said.1 ∙ editor.page_is;
-        has = role_after v3 x (with_making (role_of v) (Some m)) m n c.next met has refl is ∙ ap (λ (y : Role). Some y) (sym role);
-        idle = ap (λ (y : Role). y.making) role;
-        giving_up = ap (λ (y : Role). y.giving_up) role;
-        version_is = ap (λ (y : Role). y.newest.version) role ∙ next;
-        pages = ap pages_of role;
-        older = ap older_of role ∙ ap (λ (k : ℕ). (k, taken_named met) ∷ older_of (role_of v)) editor.version_is;
+        rows_in = λ place row is. let k = chosen.kept place row is in subst (λ (i : ℕ). i < c.sizes.rows) k.3 (finds.rows_in k.0 k.1 k.2);
+        role = role_after v3 x (with_making (role_of v) (Some m)) m n c.next met has refl is ∙ (λ i. Some (record (role_of v) {
+          newest = record { version = next i; page = c.next; base = known_release (role_of v).released c.next; carried = rows_of places };
+          older = record { live = (role_of v).newest; taken = taken_named met } ∷ (role_of v).older;
+          making = None;
+        }));
       }

@@ -76,12 +76,13 @@ module _ (c : Current) (F : List ℕ → Type 0) (w : View) (told : IsTold F w c
   key_once e = told.keys_once o p f.row g.row (slice_index f.words) a.at b.at (knows_key c w o f a) (knows_same c w p f g b e)
 
 -- what is known of the rows that were found, and the rest by the rule
-finds : (c : Current) (v w : View) (found : List (Option Found)) (F : List ℕ → Type 0) → Goes v w (page_loads c.sizes c.page 0 found) → w.role ≡ v.role
-    → ((place : ℕ) (f : Found) → IsAt found place f → IsKnownRow c w place f) → IsTold F w c.version → FindsRows c v w found
-finds c v w found F goes role known told = record {
+finds : (c : Current) (v w : View) (found : List (Option Found)) (F : List ℕ → Type 0) → w.sizes ≡ c.sizes → Goes v w (page_loads c.sizes c.page 0 found)
+    → w.role ≡ v.role → ((place : ℕ) (f : Found) → IsAt found place f → IsKnownRow c w place f) → IsTold F w c.version → FindsRows c v w found
+finds c v w found F sizes goes role known told = record {
   goes = goes;
   role = role;
   known = known;
+  rows_in = λ place f a. subst (λ (z : Sizes). f.row < z.rows) sizes (told.range f.row (place, (known place f a).at));
   rows_once = λ o p f g a b. row_once c F w told o p f g (known o f a) (known p g b);
   keys_once = λ o p f g a b. key_once c F w told o p f g (known o f a) (known p g b);
 }
@@ -92,6 +93,7 @@ begins c v = record {
   goes = goes_nowhere v;
   role = refl;
   known = λ place f e. absurd (maybe.some-ne-none (Some f) (sym e));
+  rows_in = λ place f e. absurd (maybe.some-ne-none (Some f) (sym e));
   rows_once = λ o p f g a b _. absurd (maybe.some-ne-none (Some f) (sym a));
   keys_once = λ o p f g a b _. absurd (maybe.some-ne-none (Some f) (sym a));
 }
@@ -133,7 +135,7 @@ module _ (c : Current) (v w : View) (editor : IsEditorOf c v) (found : List (Opt
     -- the place was empty
     pub empty : (L : List Entry → Type 0) (F : List Entry → List ℕ → Type 0) → Tells L F u → n ≡ 0 → FindsRows c v u (found ++ None ∷ [])
     empty L F told e = let goes = goes_on v w u (page_loads c.sizes c.page 0 found) _ so_far.goes loads in
-        finds c v u (found ++ None ∷ []) (F u.log)
+        finds c v u (found ++ None ∷ []) (F u.log) editor_at.sizes
         (goes_as v u _ (page_loads c.sizes c.page 0 (found ++ None ∷ [])) (ap (λ (k : ℕ). page_loads c.sizes c.page 0 found
         ++ loaded_place c.sizes c.page (length found) k ∷ []) e ∙ sym (loads_next c.sizes c.page found None)) goes)
         (same_role ∙ so_far.role)
@@ -181,7 +183,7 @@ module _ (c : Current) (v w : View) (editor : IsEditorOf c v) (found : List (Opt
         found_row L F told =
             let a = page_loads c.sizes c.page 0 found in let b = loaded_place c.sizes c.page (length found) n ∷ [] in let d = row_loads c.sizes row 0 words in
             let goes = goes_on v w x a (b ++ d) so_far.goes (goes_on w u x b d loads reads.goes) in
-            finds c v x (found ++ Some (record { row = row; words = words }) ∷ []) (F x.log)
+            finds c v x (found ++ Some (record { row = row; words = words }) ∷ []) (F x.log) editor_after.sizes
             (goes_as v x _ (page_loads c.sizes c.page 0 (found ++ Some (record { row = row; words = words }) ∷ []))
             (ap (λ (k : ℕ). a ++ loaded_place c.sizes c.page (length found) k ∷ d) met ∙ sym (loads_next c.sizes c.page found (Some (record {
               row = row;

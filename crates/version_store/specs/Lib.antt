@@ -7,6 +7,7 @@ pub mod Dividing
 pub mod Stages
 pub mod Choices
 pub mod Marks
+pub mod LivePages
 pub mod Notes
 pub mod GivingUp
 pub mod Freeing

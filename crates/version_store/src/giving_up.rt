@@ -1,7 +1,7 @@
 //! How versions that nobody pins are given up.
 
-ghost use Rattle.std.specs.Prelude.{◌≡◌, ◌<◌, ℕ, length, OnSome, IfSome, IfNone};
-ghost use Rattle.pin_rule.specs.Hands.{view_of};
+ghost use Rattle.std.specs.Prelude.{◌≡◌, ◌≢◌, ◌<◌, ◌+◌, ℕ, [], length, IfSome, IfNone};
+ghost use Rattle.pin_rule.specs.Views.{whole};
 ghost use Rattle.version_store.specs.Meaning.{EditorMeaning};
 ghost use Rattle.version_store.specs.Means.{editor_of};
 ghost use Rattle.version_store.specs.GivingUp.{GivesUpOldest, KeepsOldest, GivesUp, GivesUpAll, Stops};
@@ -27,6 +27,7 @@ impl<C: Content> Editor<C> {
         ensures gone { IfNone result (GivesUpOldest (editor_of self.old) (editor_of self.new)) }
         ensures stays { IfSome result (λ released. KeepsOldest (editor_of self.old) (editor_of self.new) released) }
         ensures few { IfNone result (length self.new.lives.older.items + 1 ≡ length self.old.lives.older.items) }
+        ensures shared { IfSome result (λ _. (editor_of self.old).share ≢ whole) }
     {
         let oldest = self.lives.older[0];
         let met = self.hand.load_release(oldest.live.page);
@@ -47,7 +48,8 @@ impl<C: Content> Editor<C> {
     /// Gives up versions, the oldest first, up to one with a pin that was not
     /// dropped.
     pub(crate) fn give_up_dropped(&mut self) -> GivenUp
-        ensures { (l : EditorMeaning) × GivesUp result.count (editor_of self.old) l × Stops l (editor_of self.new) result.released }
+        ensures given { (l : EditorMeaning) × GivesUp result.count (editor_of self.old) l × Stops l (editor_of self.new) result.released }
+        ensures alone { (editor_of self.old).share ≡ whole → (editor_of self.new).older ≡ [] }
     {
         let most = self.lives.older.len() as u32;
         for count in 0..most {
@@ -65,7 +67,8 @@ impl<C: Content> Editor<C> {
     /// pin that was taken on it was dropped. Its page and its rows are used
     /// again. Answers how many versions were given up. It takes no memory.
     pub fn give_up(&mut self) -> u32
-        ensures { GivesUpAll result (editor_of self.old) (editor_of self.new) }
+        ensures given { GivesUpAll result (editor_of self.old) (editor_of self.new) }
+        ensures alone { (editor_of self.old).share ≡ whole → (editor_of self.new).older ≡ [] }
     {
         self.give_up_dropped().count
     }

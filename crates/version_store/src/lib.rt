@@ -18,6 +18,7 @@ mod entry_writing;
 mod freeing;
 mod giving_up;
 mod leaving;
+mod live_version;
 mod lives;
 mod next_version;
 mod page_writing;

@@ -1,27 +1,14 @@
 //! The versions that are live, as the editor knows them.
 
-ghost use Rattle.std.specs.Prelude.{◌≡◌, ◌≤◌, ◌+◌, length, vec_capacity};
+ghost use Rattle.std.specs.Prelude.{◌≡◌, ◌≤◌, ◌<◌, ◌+◌, ℕ, length, vec_capacity};
+ghost use Rattle.pin_rule.specs.Lists.{In};
+ghost use Rattle.version_store.specs.LivePages.{pages_noted};
 
 use crate::NoMemory;
 use crate::carried_rows::CarriedRows;
+use crate::live_version::{LiveVersion, OlderVersion};
 use pin_rule::sizes::Sizes;
 use std::alloc::Global;
-
-/// A live version, its page, and the release word of that page when the version
-/// began.
-#[derive(Clone, Copy)]
-pub(crate) struct LiveVersion {
-    pub(crate) version: u32,
-    pub(crate) page: u32,
-    pub(crate) base: u64,
-}
-
-/// A live version that is not the newest, with the pins taken on it.
-#[derive(Clone, Copy, Drop)]
-pub(crate) struct OlderVersion {
-    pub(crate) live: LiveVersion,
-    pub(crate) taken: u32,
-}
 
 /// The versions that are live, with the rows that were carried into each. The
 /// older ones stand oldest first. Of a page that no live version has, the
@@ -37,17 +24,18 @@ pub(crate) struct Lives {
     ghost few: { length older.items + 1 ≤ sizes.versions },
     ghost room: { sizes.versions ≤ vec_capacity older },
     ghost many: { length releases ≡ 16 },
+    ghost pages_in: { (page : ℕ) → In page (pages_noted newest older.items) → page < sizes.versions },
 }
 
 impl Lives {
-    ghost use Rattle.std.specs.Prelude.{◌<◌, ℕ, suc, List, [], ◌∷◌, true, false, IfOk, slice_index};
+    ghost use Rattle.std.specs.Prelude.{suc, List, [], ◌∷◌, true, false, IfOk, slice_index};
     ghost use Rattle.pin_rule.specs.declared.view.Live.{Live};
     ghost use Rattle.pin_rule.specs.declared.view.Older.{Older};
-    ghost use Rattle.pin_rule.specs.Lists.{In};
     ghost use Rattle.pin_rule.specs.GivingUp.{last_of, before_last};
     ghost use Rattle.pin_rule.specs.Making.{rows_of};
     ghost use Rattle.pin_rule.specs.PartLive.{known_release};
-    ghost use Rattle.version_store.specs.Notes.{IsNoted, pages_noted, first_page};
+    ghost use Rattle.version_store.specs.LivePages.{first_page};
+    ghost use Rattle.version_store.specs.Notes.{IsNoted};
 
     /// Version 0, at page 0.
     pub(crate) fn first(alloc: Global, sizes: Sizes) -> Result<Lives, NoMemory>

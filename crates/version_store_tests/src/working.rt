@@ -144,7 +144,7 @@ fn work_all<R: Threads + Sync>(rt: &R, passes: Vec<Pass<AnyRow>>, keeping: Keepi
     }
 }
 
-/// Makes versions, and answers how many were made.
+/// Makes versions, and answers how many were made: as many as can be live, and more where older ones were given up.
 fn make_versions(editor: Editor<AnyRow>, keeping: Keeping, times: u32) -> u32 {
     let mut editor = editor;
     for _time in 0..times {
@@ -196,14 +196,15 @@ fn told_keeping<R: Threads + Sync>(
         Ok(parts) => parts,
         Err((_, error)) => return Err(error),
     };
-    let (version, report) = together(rt, editor, passes, keeping);
+    let (versions, report) = together(rt, editor, passes, keeping);
     let Report {
         answers,
         fitting,
         falls,
     } = report;
+    let versions = versions.min(15);
     format!(in alloc;
-        " {version} versions, {answers} answers of which {fitting} fit, {falls} falls;"
+        " {versions} or more versions, {answers} answers of which {fitting} fit, {falls} falls;"
     )
 }
 
