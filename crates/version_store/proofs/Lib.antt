@@ -15,3 +15,4 @@ pub mod MarkedRows
 pub mod Noting
 pub mod FreedRows
 pub mod GivenUp
+pub mod TakenIn

@@ -11,3 +11,4 @@ pub mod LivePages
 pub mod Notes
 pub mod GivingUp
 pub mod Freeing
+pub mod Gathering

@@ -1,6 +1,6 @@
 //! The whole of a table.
 
-ghost use Rattle.std.specs.Prelude.{◌≡◌, [], IfOk};
+ghost use Rattle.std.specs.Prelude.{◌≡◌, [], length, IfOk};
 ghost use Rattle.pin_rule.specs.Hands.{view_of};
 ghost use Rattle.pin_rule.specs.Views.{whole};
 ghost use Rattle.version_store.specs.Roles.{role_of};
@@ -16,7 +16,6 @@ use std::alloc::Global;
 /// The whole of a table: the editor's role with every share. A bench that is
 /// dropped gives the table's memory back.
 pub struct Bench<C: Content> {
-    pub(crate) alloc: Global,
     pub(crate) editor: Editor<C>,
     ghost has_all: { (view_of editor.hand).share ≡ whole },
     ghost one_version: { (role_of (view_of editor.hand)).older ≡ [] },
@@ -45,6 +44,7 @@ impl<C: Content> Bench<C> {
         let lives = Lives::first(alloc, sizes)?;
         let hand = Hand::open(alloc, sizes)?;
         let editor = Editor {
+            alloc,
             hand,
             sizes,
             lives,
@@ -52,21 +52,42 @@ impl<C: Content> Bench<C> {
             row,
             places,
         };
-        Ok(Bench { alloc, editor })
+        Ok(Bench { editor })
+    }
+
+    /// The version.
+    pub fn version(&self) -> u32
+        ensures { result ≡ length (bench_of self.now).log }
+    {
+        self.editor.lives.newest.version
+    }
+
+    /// How many pins are left.
+    pub fn pins_left(&self) -> u32
+        ensures { result ≡ (bench_of self.now).pins_left }
+    {
+        self.editor.left
+    }
+
+    /// How many places a page has.
+    pub fn places(&self) -> u32
+        ensures { result ≡ (bench_of self.now).sizes.places }
+    {
+        self.editor.sizes.places
     }
 
     /// Takes the bench apart without giving the memory back.
     pub(crate) fn into_editor(self) -> Editor<C>
         ensures { result ≡ self.editor }
     {
-        let Bench { alloc: _, editor } = self;
+        let Bench { editor } = self;
         editor
     }
 }
 
 impl<C: Content> Drop for Bench<C> {
     fn drop(self) {
-        let Bench { alloc: _, editor } = self;
+        let Bench { editor } = self;
         editor.close();
     }
 }

@@ -10,6 +10,7 @@ use crate::lives::Lives;
 use pin_rule::content::Content;
 use pin_rule::hand::Hand;
 use pin_rule::sizes::Sizes;
+use std::alloc::Global;
 
 /// The one user of a table that makes versions. It pins none.
 ///
@@ -17,6 +18,7 @@ use pin_rule::sizes::Sizes;
 /// the places of the page in the making.
 #[derive(Drop)]
 pub struct Editor<C: Content> {
+    pub(crate) alloc: Global,
     pub(crate) hand: Hand<C>,
     pub(crate) sizes: Sizes,
     pub(crate) lives: Lives,

@@ -28,6 +28,7 @@ pub(crate) fn make_next<C: Content, H: Chooser<C>>(
     places: &mut [u64],
 ) -> u64
     requires editor { IsEditorOf current (view_of hand.old) }
+    requires log { current.version < current.sizes.log }
     requires idle { (role_of (view_of hand.old)).making ≡ None }
     requires next { spare_page (role_of (view_of hand.old)) ≡ current.next }
     requires room { length (pages_taken (role_of (view_of hand.old))) < current.sizes.versions }

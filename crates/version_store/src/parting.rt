@@ -85,6 +85,7 @@ fn part_editor<C: Content>(
     ensures { Parts (bench_meaning (view_of editor.hand) (table_of editor.hand)) count (editor_of result.0) result.1.items }
 {
     let Editor {
+        alloc,
         mut hand,
         sizes,
         lives,
@@ -96,6 +97,7 @@ fn part_editor<C: Content>(
     let version = lives.newest.version;
     let passes = split_passes(&mut hand, sizes, version, room, pins, count);
     let editor = Editor {
+        alloc,
         hand,
         sizes,
         lives,
@@ -116,7 +118,7 @@ impl<C: Content> Bench<C> {
         ensures parts { IfOk result (λ r. Parts (bench_of self) count (editor_of r.0) r.1.items) }
         ensures refused { IfErr result (λ e. e.0 ≡ self) }
     {
-        let room = match make_room(self.alloc, self.editor.sizes, count) {
+        let room = match make_room(self.editor.alloc, self.editor.sizes, count) {
             Ok(room) => room,
             Err(error) => return Err((self, error)),
         };
