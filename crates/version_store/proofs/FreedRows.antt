@@ -122,6 +122,12 @@ frees_more z carried page from (k ∷ ns) n = ap (λ (l : List Step). place_free
     let r : suc from + a ≡ from + suc a = omega arith in r))
     ∙ sym (append_assoc (place_frees z carried page from k) (page_frees z carried page (suc from) ns) (place_frees z carried page (from + suc (length ns)) n))
 
+-- from the first place on
+frees_next : (z : Sizes) (carried : List ℕ) (page : ℕ) (ns : List ℕ) (n : ℕ)
+    → page_frees z carried page 0 (ns ++ n ∷ []) ≡ page_frees z carried page 0 ns ++ place_frees z carried page (length ns) n
+frees_next z carried page ns n = frees_more z carried page 0 ns n ∙ ap (λ (i : ℕ). page_frees z carried page 0 ns ++ place_frees z carried page i n)
+    (let a : ℕ = length ns in let r : 0 + a ≡ a = omega arith in r)
+
 module _ (c : Leaving) (m : CarriedRows) (r : Role) (g : GivingUp) (v : View) (h : IsGiving c m r g 0 v) where
   pub begins : FreesPage c m r g [] v v
   begins = record { goes = goes_nowhere v; role = h.has }
@@ -143,7 +149,7 @@ module _ (c : Leaving) (m : CarriedRows) (r : Role) (g : GivingUp) (v : View) (h
     pub one_more : (u : View) (met : ℕ) → FreesPlace c m r g place met w u → FreesPage c m r g (ns ++ met ∷ []) v u
     one_more u met f = record {
       goes = goes_as v u _ (page_frees c.sizes (oldest r).carried c.page 0 (ns ++ met ∷ []))
-          (sym (frees_more c.sizes (oldest r).carried c.page 0 ns met ∙ ap (λ (i : ℕ). page_frees c.sizes (oldest r).carried c.page 0 ns
+          (sym (frees_next c.sizes (oldest r).carried c.page ns met ∙ ap (λ (i : ℕ). page_frees c.sizes (oldest r).carried c.page 0 ns
           ++ place_frees c.sizes (oldest r).carried c.page i met) many))
           (goes_on v w u (page_frees c.sizes (oldest r).carried c.page 0 ns) _ so_far.goes f.goes);
       role = f.role ∙ ap (λ (i : ℕ). Some (role_at c.sizes r g i)) (let n = length-append ns (met ∷ []) in let k : suc place ≡ length (ns ++ met ∷ []) = omega arith in k);

@@ -44,7 +44,7 @@ module _ (v : View) (r : Role) (a : Older) (os : List Older) (n : ℕ) (u : View
   pub last_older : In (last_of a os) r.older
   last_older = subst (In (last_of a os)) (sym older) (last_in a os)
 
-  loads : Goes v u (loaded_release v.sizes (last_of a os).live.page n ∷ [])
+  pub loads : Goes v u (loaded_release v.sizes (last_of a os).live.page n ∷ [])
   loads = subst (λ (t : View). Goes v t (loaded_release v.sizes (last_of a os).live.page n ∷ [])) (sym is) (record {
     stays = record { sizes = refl; share = refl; pins_left = refl; log_words = refl; pinned = refl; own = refl };
     log = refl;
@@ -79,10 +79,10 @@ module _ (v : View) (r : Role) (a : Older) (os : List Older) (n : ℕ) (u : View
 
   -- all pins were dropped
   module _ (dropped : n ≡ (last_of a os).live.base + (last_of a os).taken) where
-    abbrev gone : Role
+    abbrev pub gone : Role
     gone = without_oldest r (last_of a os) (before_last a os) n
 
-    abbrev giving : GivingUp
+    abbrev pub giving : GivingUp
     giving = record { version = (last_of a os).live.version; page = (last_of a os).live.page; reached = 0 }
 
     role_gone : u.role ≡ Some gone

@@ -16,3 +16,4 @@ pub mod Noting
 pub mod FreedRows
 pub mod GivenUp
 pub mod TakenIn
+pub mod OldestNoted

@@ -1,10 +1,11 @@
 -- The live versions as they are noted, oldest first.
-use Rattle.std.proofs.Common.{◌≡◌, ◌≢◌, ◌⊎◌, ℕ, zero, suc, ◌+◌, ◌<◌, ◌≤◌, List, [], ◌∷◌, ◌++◌, map, inl, inr, length, length-append, set, slice_index, eqb}
+use Rattle.std.proofs.Common.{◌≡◌, ◌≢◌, ◌⊎◌, ℕ, zero, suc, ◌+◌, ◌<◌, ◌≤◌, List, [], ◌∷◌, ◌++◌, map, inl, inr, length, length-append, take, set, slice_index, get_or, eqb}
 use Rattle.std.proofs.Common.{get_or-set_same, get_or-set_other, eq-eqb, ne_eqb, sym, refl, ap, ◌∙◌, subst, arith}
+use Rattle.std.proofs.lemmas.List.{take_more}
 use mathlib.Core.Bool.{cond}
 use mathlib.Core.Logic.{dite}
 use native.Mathlib.Decide.{ℕ_discrete}
-use Rattle.std.specs.Prelude.{Bool}
+use Rattle.std.specs.Prelude.{Bool, remove}
 use Rattle.pin_rule.specs.declared.view.Live.{Live}
 use Rattle.pin_rule.specs.declared.view.Older.{Older}
 use Rattle.pin_rule.specs.declared.view.Role.{Role}
@@ -113,3 +114,56 @@ mapped_many (x ∷ xs) = ap suc (mapped_many xs)
 pub some_spare : (newest : LiveVersion) (older : List OlderVersion) (count : ℕ) → length older + 1 < count
     → ((page : ℕ) → page < count → In page (pages_noted newest older)) → ⊥
 some_spare newest older count few all = let n = has_all_below count (pages_noted newest older) all in let m = mapped_many older in omega arith
+
+-- The oldest is removed
+
+pub first_removed : (xs : List OlderVersion) (x : OlderVersion) (ys : List OlderVersion) → 0 < length xs → x ≡ get_or xs 0 x → ys ≡ remove xs 0 → xs ≡ x ∷ ys
+first_removed [] x ys lt e r = absurd (omega arith)
+first_removed (y ∷ xs) x ys lt e r = λ i. sym e i ∷ sym r i
+
+pub page_there : (newest : LiveVersion) (xs : List OlderVersion) (x : OlderVersion) (ys : List OlderVersion) → xs ≡ x ∷ ys
+    → In x.live.page (pages_noted newest xs)
+page_there newest xs x ys e = subst (λ (l : List OlderVersion). In x.live.page (pages_noted newest l)) (sym e) (inr (inl refl))
+
+pub page_still : (newest : LiveVersion) (xs : List OlderVersion) (x : OlderVersion) (ys : List OlderVersion) → xs ≡ x ∷ ys → (page : ℕ)
+    → In page (pages_noted newest ys) → In page (pages_noted newest xs)
+page_still newest xs x ys e page i = subst (λ (l : List OlderVersion). In page (pages_noted newest l)) (sym e)
+    (elim i [ inl h ↦ inl h | inr t ↦ inr (inr t) ])
+
+pub cons_parts : {A : Type 0} (x y : A) (xs ys : List A) → (let l : List A = x ∷ xs in l) ≡ y ∷ ys → (x ≡ y) × (xs ≡ ys)
+cons_parts x y xs ys e = (cc, cc)
+
+pub release_noted : (releases : List ℕ) (known : List (ℕ × ℕ)) (p q x : ℕ) → p ≡ q → q < length releases
+    → ((page : ℕ) → page < 16 → slice_index releases page ≡ known_release known page) → (page : ℕ) → page < 16
+    → slice_index (set releases p x) page ≡ known_release ((q, x) ∷ known) page
+release_noted releases known p q x e inside h page lt = dite (ℕ_discrete q page)
+    (λ same. ap (λ (i : ℕ). slice_index (set releases i x) page) (e ∙ same) ∙ get_or-set_same releases page x 0 (omega arith)
+        ∙ sym (ap (λ (b : Bool). cond b x (known_release known page)) (eq-eqb q page same)))
+    (λ ne. get_or-set_other releases p page x 0 (λ s. ne (sym e ∙ sym s)) ∙ h page lt
+        ∙ sym (ap (λ (b : Bool). cond b x (known_release known page)) (ne_eqb q page ne)))
+
+-- the page of a version that was read
+pub page_at : (xs : List OlderVersion) (i : ℕ) (x : OlderVersion) → i < length xs → x ≡ get_or xs i x → In x.live.page (map page_in xs)
+page_at [] i x lt e = absurd (omega arith)
+page_at (y ∷ xs) zero x lt e = inl (ap page_in e)
+page_at (y ∷ xs) (suc i) x lt e = inr (page_at xs i x (omega arith) e)
+
+-- one more was looked at
+pub page_next : (newest : LiveVersion) (xs : List OlderVersion) (i : ℕ) (x : OlderVersion) (page : ℕ) → i < length xs → x ≡ get_or xs i x → x.live.page ≢ page
+    → ¬ (In page (pages_noted newest (take i xs))) → ¬ (In page (pages_noted newest (take (i + 1) xs)))
+page_next newest xs i x page lt e ne none there = elim (page_before newest (take i xs) x page (subst (λ (l : List OlderVersion). In page (pages_noted newest l))
+    (take_more xs i x lt ∙ ap (λ (y : OlderVersion). take i xs ++ y ∷ []) (sym e)) there)) [ inl i ↦ none i | inr same ↦ ne (sym same) ]
+
+-- the version that was the newest is an older one
+pub page_added : (newest : LiveVersion) (xs ys : List OlderVersion) (x : OlderVersion) (page : ℕ) → ys ≡ xs ++ x ∷ [] → x.live ≡ newest
+    → In page (map page_in ys) → In page (pages_noted newest xs)
+page_added newest xs ys x page e same i = elim (page_before newest xs x page (inr (subst (λ (l : List OlderVersion). In page (map page_in l)) e i))) [
+  | inl h ↦ h
+  | inr is ↦ inl (is ∙ ap (λ (l : LiveVersion). l.page) same)
+]
+
+-- a live version has a page that is noted
+pub page_of_live : (newest : Live) (older : List Older) (first : LiveVersion) (xs : List OlderVersion) (k : Live) → live_noted newest ≡ first
+    → oldest_first older ≡ xs → In k (lives_in newest older) → In k.page (pages_noted first xs)
+page_of_live newest older first xs k e d i = subst (λ (t : LiveVersion × List OlderVersion). In k.page (pages_noted t.0 t.1)) (λ j. (e j, d j))
+    (live_is_noted newest older k.page (in_mapped (λ (l : Live). l.page) k (lives_in newest older) i))

@@ -14,8 +14,8 @@ pub record IsNoted (newest : Live) (older : List Older) (released : List (ℕ ×
   pub newest_is : live_noted newest ≡ l.newest
   pub older_is : oldest_first older ≡ l.older.items
   pub releases_are : (page : ℕ) → page < 16 → slice_index l.releases page ≡ known_release released page
-  pub carried_are : (k : Live) (row : ℕ) → In k (lives_in newest older) → row < l.sizes.rows
-      → is_marked l.sizes l.carried.marks.items k.page row ≡ is_in row k.carried
+  pub carried_are : (k : Live) (row : ℕ) → In k (lives_in newest older) → row < l.carried.sizes.rows
+      → is_marked l.carried.sizes l.carried.marks.items k.page row ≡ is_in row k.carried
 
 abbrev pub IsNotedIn : Role → Lives → Type 0
 IsNotedIn r l = IsNoted r.newest r.older r.released l

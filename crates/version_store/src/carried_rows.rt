@@ -77,9 +77,10 @@ impl CarriedRows {
         self.clear(page);
         for place in 0..places.len() {
             let word = places[place];
-            if word != 0 {
-                self.set(page, (word - 1) as u32, true);
+            if word == 0 {
+                continue;
             }
+            self.set(page, (word - 1) as u32, true);
         }
     }
 }

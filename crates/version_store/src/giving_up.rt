@@ -31,9 +31,9 @@ impl<C: Content> Editor<C> {
     {
         let oldest = self.lives.older[0];
         let met = self.hand.load_release(oldest.live.page);
-        let released = (met - oldest.live.base) as u32;
-        if released < oldest.taken {
-            return Some(released);
+        let released = met - oldest.live.base;
+        if released < oldest.taken as u64 {
+            return Some(released as u32);
         }
         self.lives.drop_oldest(met);
         let leaving = Leaving {

@@ -110,6 +110,7 @@ impl Lives {
     pub(crate) fn drop_oldest(&mut self, released: u64)
         requires { 0 < length self.old.older.items }
         ensures sizes { self.new.sizes ≡ self.old.sizes }
+        ensures few { length self.new.older.items + 1 ≡ length self.old.older.items }
         ensures noted { (newest : Live) (a : Older) (os : List Older) (known : List (ℕ × ℕ)) → IsNoted newest (a ∷ os) known self.old
             → IsNoted newest (before_last a os) (((last_of a os).live.page, released) ∷ known) self.new }
     {
