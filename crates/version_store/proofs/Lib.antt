@@ -17,3 +17,4 @@ pub mod FreedRows
 pub mod GivenUp
 pub mod TakenIn
 pub mod OldestNoted
+pub mod SparePages

@@ -74,3 +74,12 @@ noted_for newest older released l h r a b d = subst (λ (t : Live × (List Older
 pub next_page : (newest : Live) (older : List Older) (released : List (ℕ × ℕ)) (l : Lives) → IsNoted newest older released l
     → (last_live newest older).page ≡ first_page l.newest l.older.items
 next_page newest older released l h = sym (oldest_page_is newest older) ∙ (λ i. first_page (h.newest_is i) (h.older_is i))
+
+oldest_last : (rest : List Older) (o : Older) → oldest_first (rest ++ o ∷ []) ≡ older_noted o ∷ oldest_first rest
+oldest_last [] o = refl
+oldest_last (p ∷ ps) o = ap (λ (l : List OlderVersion). l ++ older_noted p ∷ []) (oldest_last ps o)
+
+-- the first that is noted is the last of the older versions
+pub noted_last : (older rest : List Older) (o : Older) (xs : List OlderVersion) (x : OlderVersion) → older ≡ rest ++ o ∷ [] → oldest_first older ≡ xs
+    → x ≡ get_or xs 0 x → x ≡ older_noted o
+noted_last older rest o xs x e is first = first ∙ ap (λ (l : List OlderVersion). get_or l 0 x) (sym is ∙ ap oldest_first e ∙ oldest_last rest o)
