@@ -1,18 +1,21 @@
 -- Passes that are taken in, one after the other, and what a whole bench has.
-use Rattle.std.proofs.Common.{◌≡◌, ◌≢◌, ℕ, zero, suc, ◌+◌, ◌<◌, ◌≤◌, List, [], ◌∷◌, ◌++◌, map, inl, inr, length, sym, refl, ap, ◌∙◌, subst, arith}
-use Rattle.std.specs.Prelude.{Option, Some}
+use Rattle.std.proofs.Common.{◌≡◌, ◌≢◌, ℕ, zero, suc, ◌+◌, ◌<◌, ◌≤◌, List, [], ◌∷◌, ◌++◌, map, inl, inr, length, get_or, sym, refl, ap, ◌∙◌, subst, arith}
+use Rattle.std.specs.Prelude.{Option, Some, remove}
 use Rattle.atomic_table.specs.Seated.{TableId}
 use Rattle.pin_rule.specs.declared.sizes.Sizes.{Sizes}
 use Rattle.pin_rule.specs.declared.content.Entry.{Entry}
 use Rattle.pin_rule.specs.declared.view.View.{View}
 use Rattle.pin_rule.specs.declared.view.Older.{Older}
 use Rattle.pin_rule.specs.declared.view.Live.{Live}
-use Rattle.pin_rule.specs.Lists.{Each, total}
+use Rattle.pin_rule.specs.Lists.{Each, In, total}
 use Rattle.pin_rule.specs.Steps.{after_join}
 use Rattle.pin_rule.specs.Views.{whole}
 use Rattle.pin_rule.proofs.Lists.{each_map}
 use Rattle.slot_store.specs.Meaning.{PassMeaning, pass_meaning}
 use Rattle.version_store.specs.Meaning.{BenchMeaning, EditorMeaning, editor_meaning}
+use Rattle.version_store.specs.Roles.{role_of, role_or_first}
+use Rattle.version_store.specs.Edits.{Found, IsWholeRow, page_loads}
+use Rattle.version_store.specs.Stages.{Goes}
 use Rattle.version_store.specs.GivingUp.{GivesUp, GivesUpAll}
 use Rattle.version_store.specs.Gathering.{AreOfTable, AreAllOf, taken_in, taken_in_all, ReadsPage, Gathers}
 use Rattle.version_store.proofs.GivenUp.{IsAlike, alike}
@@ -93,3 +96,34 @@ module _ (m : EditorMeaning) (ps : List PassMeaning) (count : ℕ) (given : Edit
     pins_left = ap (λ (y : EditorMeaning). y.pins_left) read.is ∙ kept.pins_left ∙ taken.pins_left;
     steps = refl;
   }
+
+-- Lists of passes
+
+pub first_taken : {A : Type 0} (xs : List A) (x : A) (ys : List A) → 0 < length xs → x ≡ get_or xs 0 x → ys ≡ remove xs 0 → xs ≡ x ∷ ys
+first_taken [] x ys lt e r = absurd (omega arith)
+first_taken (y ∷ xs) x ys lt e r = λ i. sym e i ∷ sym r i
+
+pub none_left : {A : Type 0} (xs : List A) → length xs ≡ 0 → xs ≡ []
+none_left [] e = refl
+none_left (x ∷ xs) e = absurd (omega arith)
+
+-- The page is read
+
+pub reads : (v w : View) (t : TableId × ℕ) (z : Sizes) (page : ℕ) (found : List (Option Found)) → v.sizes ≡ z → (role_of v).newest.page ≡ page
+    → length found ≡ z.places → ((f : Found) → In (Some f) found → IsWholeRow f.words) → Goes v w (page_loads z page 0 found) → w.role ≡ v.role
+    → ReadsPage (editor_meaning v t) (editor_meaning w t)
+reads v w t z page found sizes at every whole_rows goes role = record {
+  found = found;
+  every_place = every ∙ ap (λ (y : Sizes). y.places) (sym sizes);
+  whole_rows = whole_rows;
+  is = λ i. record {
+    sizes = goes.stays.sizes i;
+    log = goes.log i;
+    table = t;
+    share = goes.stays.share i;
+    pins_left = goes.stays.pins_left i;
+    newest = (role_or_first (role i)).newest;
+    older = (role_or_first (role i)).older;
+    steps = (goes.steps ∙ (λ j. v.steps ++ page_loads (sym sizes j) (sym at j) 0 found)) i;
+  };
+}
