@@ -23,7 +23,7 @@ use Rattle.pin_rule.specs.PartLive.{pins_on}
 use Rattle.pin_rule.specs.PartClaims.{StandsIn}
 use Rattle.pin_rule.specs.PartFacts.{HasEntry, EntryStands, WordStands, IsKnown}
 use Rattle.pin_rule.specs.Lawful.{Lawful}
-use Rattle.pin_rule.specs.Told.{KnowsPlace, KnowsRow, KnowsWord, OfKey, KnowsKey, IsReached, IsTold, Tells, IsCurrentFor, IsAsKnown, IsReadAsKnown, IsOfGivenUp}
+use Rattle.pin_rule.specs.Told.{KnowsPlace, KnowsRow, KnowsWord, OfKey, KnowsKey, IsReached, IsAlike, IsTold, Tells, IsCurrentFor, IsAsKnown, IsReadAsKnown, IsOfGivenUp}
 use Rattle.pin_rule.specs.Told.{IsReleaseOf, Meets}
 use Rattle.pin_rule.proofs.Frames.{Same, key_alike, content_same}
 use Rattle.pin_rule.proofs.Lists.{each_in, total_zero}
@@ -49,6 +49,25 @@ module _ (L : List Entry → Type 0) (F : List Entry → List ℕ → Type 0) (z
         (key_alike (row_at z words row) g (λ index of. (each_in (StandsIn z words row) (index, g index) k.words ((stands k i).2 row is) (key index of)).1))
         (past k row i is)
 
+  -- a fact of the newest version stands in its page
+  newest_placed : (place row : ℕ) → h.role.newest.version ≡ now v → KnowsPlace v (now v) place row
+      → HasEntry z words h.role h.role.newest.page (record { version = now v; place = place; row = row })
+  newest_placed place row e k = (each_in (EntryStands z words h.role) _ v.entries (h.facts id v at).0 k).live h.role.newest (newest_live h.role) e
+
+  newest_read : (row index word : ℕ) → h.role.newest.version ≡ now v → KnowsWord v (now v) row index word → row_at z words row index ≡ word
+  newest_read row index word e k = ((each_in (WordStands z words h.role) _ v.words (h.facts id v at).1 k).live h.role.newest (newest_live h.role) e).1.1
+
+  known_word : v.share ≡ whole → (k : KnownPlace) (row index a : ℕ) → In k v.known → k.met ≡ suc row → In (index, a) k.words → row_at z words row index ≡ a
+  known_word all k row index a i is w = (each_in (StandsIn z words row) (index, a) k.words ((stands all k i).2 row is) w).1
+
+  is_alike : v.share ≡ whole → (r : Role) → v.role ≡ Some r → r.newest.version ≡ now v → IsAlike v (now v)
+  is_alike all r has e = let newest : h.role.newest.version ≡ now v = ap (λ (x : Role). x.newest.version) (sym (is_role L F z words views id v at h r has)) ∙ e in
+      record {
+        places = λ k place row i at_place fact. sym (stands all k i).1 ∙ ap (entry z words h.role.newest.page) at_place ∙ (newest_placed place row newest fact).1;
+        words = λ k row index a b i is w fact. sym (known_word all k row index a i is w) ∙ newest_read row index b newest fact;
+        once = λ k row index a b i is w x. sym (known_word all k row index a i is w) ∙ known_word all k row index b i is x;
+      }
+
   module _ (l : Live) (live : IsLive h.role l) (version_is : l.version ≡ now v) where
     -- a row that the view knows stands in the page
     placed : (place row : ℕ) → KnowsPlace v (now v) place row → HasEntry z words h.role l.page (record { version = now v; place = place; row = row })
@@ -63,6 +82,9 @@ module _ (L : List Entry → Type 0) (F : List Entry → List ℕ → Type 0) (z
     pub key_is : (row : ℕ) (g : ℕ → ℕ) → KnowsKey v (now v) row g → key_of (row_at z words row) ≡ key_of g
     key_is row g k = key_alike (row_at z words row) g (λ index of. read row index (g index) (k index of))
 
+    words_alike : (row index a b : ℕ) → KnowsWord v (now v) row index a → KnowsWord v (now v) row index b → a ≡ b
+    words_alike row index a b p q = sym (read row index a p) ∙ read row index b q
+
     told : v.share ≢ 0 → IsTold (F v.log) v (now v)
     told some = let same : v.sizes ≡ z = h.sizes id v at some in record {
       range = λ row k. subst (λ (y : Sizes). row < y.rows) (sym same) (known row k).1.in_range;
@@ -75,6 +97,8 @@ module _ (L : List Entry → Type 0) (F : List Entry → List ℕ → Type 0) (z
           (subst (F (take l.version h.log)) (content_same f g (2 + (g 0 + g 1)) (omega arith) s) (known row k).1.fitting);
       keys_once = λ p q a b g at_p at_q key_a key_b. let x = placed p a at_p in let y = placed q b at_q in
           (h.pages l live).keys_once p q a b x.0 y.0 x.1 y.1 (key_is a g key_a ∙ sym (key_is b g key_b));
+      words_once = words_alike;
+      alike = λ all r is newest. is_alike all r is newest;
       reached = λ all k row g i is key. subst (λ (y : Sizes). IsReached y v.known (key_of g) k.place) (sym same) (reaches all k row g i is key);
     }
 

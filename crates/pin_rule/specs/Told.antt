@@ -47,6 +47,12 @@ abbrev pub IsReached : Sizes → List KnownPlace → List ℕ → ℕ → Type 0
 IsReached z known key place = (step : ℕ) × (step < z.places) × (on_path z key step ≡ place) ×
     ((before : ℕ) (k : KnownPlace) → before < step → In k known → k.place ≡ on_path z key before → k.met ≢ 0)
 
+-- what is known with the whole share is alike to the facts of the newest version, and each word is known once
+pub record IsAlike (v : View) (version : ℕ) : Type 0 where
+  pub places : (k : KnownPlace) (place row : ℕ) → In k v.known → k.place ≡ place → KnowsPlace v version place row → k.met ≡ suc row
+  pub words : (k : KnownPlace) (row index a b : ℕ) → In k v.known → k.met ≡ suc row → In (index, a) k.words → KnowsWord v version row index b → a ≡ b
+  pub once : (k : KnownPlace) (row index a b : ℕ) → In k v.known → k.met ≡ suc row → In (index, a) k.words → In (index, b) k.words → a ≡ b
+
 -- of the rows of a version
 pub record IsTold (fits : List ℕ → Type 0) (v : View) (version : ℕ) : Type 0 where
   pub range : (row : ℕ) → KnowsRow v version row → row < v.sizes.rows
@@ -58,6 +64,9 @@ pub record IsTold (fits : List ℕ → Type 0) (v : View) (version : ℕ) : Type
   pub fitting : (row : ℕ) (g : ℕ → ℕ) → KnowsRow v version row → KnowsContent v version row g → fits (content_of g)
   -- no key stands twice
   pub keys_once : (p q a b : ℕ) (g : ℕ → ℕ) → KnowsPlace v version p a → KnowsPlace v version q b → KnowsKey v version a g → KnowsKey v version b g → p ≡ q
+  -- facts of one word are alike
+  pub words_once : (row index a b : ℕ) → KnowsWord v version row index a → KnowsWord v version row index b → a ≡ b
+  pub alike : v.share ≡ whole → (r : Role) → v.role ≡ Some r → r.newest.version ≡ version → IsAlike v version
   -- what is known with the whole share: a row stands on the path of its key, past places that are not empty
   pub reached : v.share ≡ whole → (k : KnownPlace) (row : ℕ) (g : ℕ → ℕ) → In k v.known → k.met ≡ suc row
       → ((index : ℕ) → OfKey g index → In (index, g index) k.words) → IsReached v.sizes v.known (key_of g) k.place

@@ -37,6 +37,7 @@ module _ (c : Current) (v : View) (editor : IsEditorOf c v) where
   pub begins : (role_of v).making ≡ None → WritesEntry c v v []
   begins idle = record {
     goes = goes_nowhere v;
+    known = refl;
     role = editor.has ∙ ap (λ (m : Option Making). Some (with_making (role_of v) m)) idle;
   }
 
@@ -53,6 +54,7 @@ module _ (c : Current) (v : View) (editor : IsEditorOf c v) where
           goes = goes_as v (after_write_log w c.version (length xs) x) _ (entry_stores c.sizes c.version 0 (xs ++ x ∷ []))
               (sym (entry_next c.sizes c.version xs x))
               (goes_on v w (after_write_log w c.version (length xs) x) (entry_stores c.sizes c.version 0 xs) _ so_far.goes one);
+          known = so_far.known;
           role = ap (λ (o : Option Role). with_entry_word o x) so_far.role ∙ more_made (role_of v) c.next xs x spare;
         })
 

@@ -18,3 +18,4 @@ pub mod GivenUp
 pub mod TakenIn
 pub mod OldestNoted
 pub mod SparePages
+pub mod KnownPlaces

@@ -3,11 +3,14 @@ use Rattle.std.specs.Prelude.{◌≡◌, ◌⊎◌, ℕ, zero, suc, ◌<◌, ◌
 use Rattle.pin_rule.specs.declared.sizes.Sizes.{Sizes}
 use Rattle.pin_rule.specs.declared.view.View.{View}
 use Rattle.pin_rule.specs.declared.view.Role.{Role}
+use Rattle.pin_rule.specs.declared.view.KnownPlace.{KnownPlace}
 use Rattle.pin_rule.specs.NextVersion.{IsPast}
 use Rattle.version_store.specs.declared.current.Current.{Current}
 use Rattle.pin_rule.specs.Layout.{version_named, page_named, taken_named}
 use Rattle.pin_rule.specs.Lists.{In}
+use Rattle.pin_rule.specs.Views.{whole}
 use Rattle.pin_rule.specs.Making.{rows_of}
+use Rattle.version_store.specs.Graphs.{rows_known, IsWholeKnown}
 use Rattle.pin_rule.specs.PartLive.{known_release}
 use Rattle.version_store.specs.Roles.{role_of}
 use Rattle.version_store.specs.Edits.{Found, IsWholeRow, KeepsExactly, edit_steps}
@@ -49,6 +52,12 @@ next_role r c places met = record r {
   making = None;
 }
 
+-- each place of the new page is known, and its rows are those of the page before that are kept
+pub record KeepsRows (keeps : List ℕ → Type 0) (z : Sizes) (ks ls : List KnownPlace) : Type 0 where
+  pub all_known : IsWholeKnown z ls
+  pub kept : (row : List ℕ) → In row (rows_known ls) → In row (rows_known ks) × keeps row
+  pub every : (row : List ℕ) → In row (rows_known ks) → keeps row → In row (rows_known ls)
+
 -- the next version was made with this entry and the rows that are kept; w is the view after the swap, which met a word
 pub record MakesNext (keeps : List ℕ → Type 0) (c : Current) (v w : View) (entry places : List ℕ) (met : ℕ) : Type 0 where
   pub found : List (Option Found)
@@ -63,3 +72,5 @@ pub record MakesNext (keeps : List ℕ → Type 0) (c : Current) (v w : View) (e
   pub version_before : version_named met ≡ c.version
   pub page_before : page_named met ≡ c.page
   pub role : w.role ≡ Some (next_role (role_of v) c places met)
+  -- with the whole share the rows of the page were known, and those of the new one are
+  pub graph : v.share ≡ whole → IsWholeKnown c.sizes v.known → KeepsRows keeps c.sizes v.known w.known

@@ -1,9 +1,11 @@
 pub mod Roles
 pub mod Meaning
 pub mod Edits
+pub mod Graphs
 pub mod Means
 pub mod Parts
 pub mod Dividing
+pub mod Learning
 pub mod Stages
 pub mod Choices
 pub mod Marks

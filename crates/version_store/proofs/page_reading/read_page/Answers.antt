@@ -31,7 +31,7 @@ loop-place-preserved-then-met-eq0 g c =
         f.0 ++ None ∷ [],
         (let n = length-append f.0 (None ∷ []) in let m = f.1 in omega arith),
         finds.empty k v w c.requires.editor f.0 f.2 c.loop-place.place met (sym f.1) u c.load_place_at-met.ensures.view g.C.Content.lawful g.C.Content.fits
-            c.load_place_at-met.ensures.told c.if-met-eq0.true,
+            c.load_place_at-met.ensures.told c.load_place_at-met.ensures.met.0 c.if-met-eq0.true,
       );
     }
 
@@ -62,6 +62,6 @@ loop-place-preserved g c =
         f.0 ++ Some new ∷ [],
         (let n = length-append f.0 (Some new ∷ []) in let m = f.1 in omega arith),
         finds.found_row k v w c.requires.editor f.0 f.2 c.loop-place.place met (sym f.1) u c.load_place_at-met.ensures.view row
-            (row_met met c.if-met-eq0.false) x words e.read e.is_whole g.C.Content.lawful g.C.Content.fits e.told,
+            (row_met met c.if-met-eq0.false) x words e.read e.is_whole g.C.Content.lawful g.C.Content.fits e.told c.load_place_at-met.ensures.met.0,
       );
     }
