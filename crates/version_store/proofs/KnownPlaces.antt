@@ -78,7 +78,7 @@ met_is v r page place n all has at = ap (λ (b : Bool). cond b (learned_place pl
 
 -- A load of a word of a row
 
-mapped_back : {A B : Type 0} (f : A → B) (y : B) (xs : List A) → In y (map f xs) → (x : A) × In x xs × (y ≡ f x)
+pub mapped_back : {A B : Type 0} (f : A → B) (y : B) (xs : List A) → In y (map f xs) → (x : A) × In x xs × (y ≡ f x)
 mapped_back f y [] i = absurd i
 mapped_back f y (x ∷ xs) i = elim i [ inl e ↦ (x, inl refl, e) | inr t ↦ let r = mapped_back f y xs t in (r.0, inr r.1, r.2) ]
 

@@ -19,3 +19,4 @@ pub mod TakenIn
 pub mod OldestNoted
 pub mod SparePages
 pub mod KnownPlaces
+pub mod GraphRows
