@@ -60,9 +60,10 @@ module _ (L : List Entry → Type 0) (F : List Entry → List ℕ → Type 0) (z
   known_word : v.share ≡ whole → (k : KnownPlace) (row index a : ℕ) → In k v.known → k.met ≡ suc row → In (index, a) k.words → row_at z words row index ≡ a
   known_word all k row index a i is w = (each_in (StandsIn z words row) (index, a) k.words ((stands all k i).2 row is) w).1
 
-  is_alike : v.share ≡ whole → (r : Role) → v.role ≡ Some r → r.newest.version ≡ now v → IsAlike v (now v)
-  is_alike all r has e = let newest : h.role.newest.version ≡ now v = ap (λ (x : Role). x.newest.version) (sym (is_role L F z words views id v at h r has)) ∙ e in
+  is_alike : v.sizes ≡ z → v.share ≡ whole → (r : Role) → v.role ≡ Some r → r.newest.version ≡ now v → IsAlike v (now v)
+  is_alike sizes all r has e = let newest : h.role.newest.version ≡ now v = ap (λ (x : Role). x.newest.version) (sym (is_role L F z words views id v at h r has)) ∙ e in
       record {
+        inside = λ k i. subst (λ (y : Sizes). k.place < y.places) (sym sizes) (stands all k i).0;
         places = λ k place row i at_place fact. sym (stands all k i).1 ∙ ap (entry z words h.role.newest.page) at_place ∙ (newest_placed place row newest fact).1;
         words = λ k row index a b i is w fact. sym (known_word all k row index a i is w) ∙ newest_read row index b newest fact;
         once = λ k row index a b i is w x. sym (known_word all k row index a i is w) ∙ known_word all k row index b i is x;
@@ -98,7 +99,7 @@ module _ (L : List Entry → Type 0) (F : List Entry → List ℕ → Type 0) (z
       keys_once = λ p q a b g at_p at_q key_a key_b. let x = placed p a at_p in let y = placed q b at_q in
           (h.pages l live).keys_once p q a b x.0 y.0 x.1 y.1 (key_is a g key_a ∙ sym (key_is b g key_b));
       words_once = words_alike;
-      alike = λ all r is newest. is_alike all r is newest;
+      alike = λ all r is newest. is_alike same all r is newest;
       reached = λ all k row g i is key. subst (λ (y : Sizes). IsReached y v.known (key_of g) k.place) (sym same) (reaches all k row g i is key);
     }
 

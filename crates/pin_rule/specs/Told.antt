@@ -49,6 +49,7 @@ IsReached z known key place = (step : ℕ) × (step < z.places) × (on_path z ke
 
 -- what is known with the whole share is alike to the facts of the newest version, and each word is known once
 pub record IsAlike (v : View) (version : ℕ) : Type 0 where
+  pub inside : (k : KnownPlace) → In k v.known → k.place < v.sizes.places
   pub places : (k : KnownPlace) (place row : ℕ) → In k v.known → k.place ≡ place → KnowsPlace v version place row → k.met ≡ suc row
   pub words : (k : KnownPlace) (row index a b : ℕ) → In k v.known → k.met ≡ suc row → In (index, a) k.words → KnowsWord v version row index b → a ≡ b
   pub once : (k : KnownPlace) (row index a b : ℕ) → In k v.known → k.met ≡ suc row → In (index, a) k.words → In (index, b) k.words → a ≡ b

@@ -23,6 +23,7 @@ use Rattle.version_store.specs.declared.leaving.Leaving.{Leaving}
 use Rattle.version_store.specs.Stages.{Goes}
 use Rattle.version_store.specs.GivingUp.{place_frees, page_frees}
 use Rattle.version_store.specs.Freeing.{reached_place, role_at, IsGiving, FreesPlace, FreesPage}
+use Rattle.version_store.proofs.KnownPlaces.{kept_known}
 use Rattle.version_store.proofs.Going.{goes_nowhere, goes_on, goes_as}
 
 module _ (c : Leaving) (m : CarriedRows) (r : Role) (g : GivingUp) (place : ℕ) (v : View) (h : IsGiving c m r g place v) (lt : place < c.sizes.places) where
@@ -49,6 +50,10 @@ module _ (c : Leaving) (m : CarriedRows) (r : Role) (g : GivingUp) (place : ℕ)
       steps = ap (λ (z : Sizes). v.steps ++ loaded_place z c.page place n ∷ []) h.sizes;
     })
 
+    -- the page is not the newest one, so nothing is learned of it
+    same_known : u.known ≡ v.known
+    same_known = ap (λ (y : View). y.known) is ∙ kept_known v (role_at c.sizes r g place) c.page place n h.has h.apart
+
     loaded : u.role ≡ role_met c.sizes (Some (role_at c.sizes r g place)) c.page place n
     loaded = ap (λ (y : View). y.role) is ∙ (λ i. role_met (h.sizes i) (h.has i) c.page place n)
 
@@ -63,6 +68,7 @@ module _ (c : Leaving) (m : CarriedRows) (r : Role) (g : GivingUp) (place : ℕ)
     frees_none e = record {
       goes = goes_as v u _ (place_frees c.sizes (oldest r).carried c.page place n) (ap (λ (k : ℕ). loaded_place c.sizes c.page place k ∷ []) e
           ∙ sym (ap (place_frees c.sizes (oldest r).carried c.page place) e)) loads;
+      known = same_known;
       role = goes_past (ap (is_passed (role_at c.sizes r g place)) e);
     }
 
@@ -76,6 +82,7 @@ module _ (c : Leaving) (m : CarriedRows) (r : Role) (g : GivingUp) (place : ℕ)
       pub frees_carried : is_in row (oldest r).carried ≡ true → FreesPlace c m r g place n v u
       frees_carried e = record {
         goes = goes_as v u _ (place_frees c.sizes (oldest r).carried c.page place n) (steps_met true e) loads;
+        known = same_known;
         role = goes_past (ap (is_passed (role_at c.sizes r g place)) met ∙ e);
       }
 
@@ -103,6 +110,7 @@ module _ (c : Leaving) (m : CarriedRows) (r : Role) (g : GivingUp) (place : ℕ)
                 log = refl;
                 steps = ap (λ (z : Sizes). u.steps ++ freed_row z row ∷ []) (loads.stays.sizes ∙ h.sizes);
               })));
+          known = ap (λ (y : View). y.known) freed ∙ same_known;
           role = ap (λ (y : View). y.role) freed ∙ (λ i. role_freed ((loads.stays.sizes ∙ h.sizes) i) (still i))
               ∙ ap (λ (o : Option GivingUp). Some (with_next c.sizes (role_at c.sizes r g place) o)) given;
         }
@@ -130,7 +138,7 @@ frees_next z carried page ns n = frees_more z carried page 0 ns n ∙ ap (λ (i 
 
 module _ (c : Leaving) (m : CarriedRows) (r : Role) (g : GivingUp) (v : View) (h : IsGiving c m r g 0 v) where
   pub begins : FreesPage c m r g [] v v
-  begins = record { goes = goes_nowhere v; role = h.has }
+  begins = record { goes = goes_nowhere v; known = refl; role = h.has }
 
   module _ (ns : List ℕ) (place : ℕ) (w : View) (many : length ns ≡ place) (so_far : FreesPage c m r g ns v w) where
     pub giving_then : IsGiving c m r g place w
@@ -152,5 +160,6 @@ module _ (c : Leaving) (m : CarriedRows) (r : Role) (g : GivingUp) (v : View) (h
           (sym (frees_next c.sizes (oldest r).carried c.page ns met ∙ ap (λ (i : ℕ). page_frees c.sizes (oldest r).carried c.page 0 ns
           ++ place_frees c.sizes (oldest r).carried c.page i met) many))
           (goes_on v w u (page_frees c.sizes (oldest r).carried c.page 0 ns) _ so_far.goes f.goes);
+      known = f.known ∙ so_far.known;
       role = f.role ∙ ap (λ (i : ℕ). Some (role_at c.sizes r g i)) (let n = length-append ns (met ∷ []) in let k : suc place ≡ length (ns ++ met ∷ []) = omega arith in k);
     }

@@ -123,10 +123,10 @@ module _ (z : Sizes) (ks ls : List KnownPlace) (found : List (Option Found)) (ma
   found_at : (l : KnownPlace) (p : ℕ) → In l ls → l.place ≡ p → p < length found → l.met ≢ 0 → (f : Found) × IsAt found p f
   found_at l p i at lt ne = let x = at_each found p lt in option_cases x.0 p x.1 l i at ne
 
-  -- nothing was known before
-  module _ (none : (k : KnownPlace) → In k ks → ⊥) where
+  -- whatever was known before
+  module _ (within : (l : KnownPlace) → In l ls → l.place < z.places) where
     inside : (l : KnownPlace) → In l ls → l.place < length found
-    inside l i = elim (learns.only l i) [ inl lt ↦ lt | inr o ↦ absurd (none o.0 o.1) ]
+    inside l i = let lt = within l i in omega arith
 
     pub whole_known : IsWholeKnown z ls
     whole_known = record {

@@ -1,5 +1,5 @@
 -- Places of the newest page that are known, as loads teach them.
-use Rattle.std.proofs.Common.{◌≡◌, ◌≢◌, ◌⊎◌, ℕ, zero, suc, ◌+◌, ◌<◌, List, [], ◌∷◌, ◌++◌, map, inl, inr, length, length-append, slice_index, eqb, eq-eqb, sym, refl}
+use Rattle.std.proofs.Common.{◌≡◌, ◌≢◌, ◌⊎◌, ℕ, zero, suc, ◌+◌, ◌<◌, List, [], ◌∷◌, ◌++◌, map, inl, inr, length, length-append, slice_index, eqb, eq-eqb, ne_eqb, sym, refl}
 use Rattle.std.proofs.Common.{ap, ◌∙◌, subst, arith}
 use Rattle.std.proofs.lemmas.Bool.{eqb-true, cases_lt}
 use mathlib.Core.Option as maybe
@@ -75,6 +75,16 @@ keeps_it v r page all has at = ap (λ (b : Bool). cond b (is_newest_page v.role 
 pub met_is : (v : View) (r : Role) (page place n : ℕ) → v.share ≡ whole → v.role ≡ Some r → r.newest.page ≡ page
     → known_met v page place n ≡ learned_place place n v.known
 met_is v r page place n all has at = ap (λ (b : Bool). cond b (learned_place place n v.known) v.known) (keeps_it v r page all has at)
+
+either_false : (b : Bool) → cond b false false ≡ false
+either_false true = refl
+either_false false = refl
+
+-- a load of a place of another page teaches nothing
+pub kept_known : (v : View) (r : Role) (page place n : ℕ) → v.role ≡ Some r → r.newest.page ≢ page → known_met v page place n ≡ v.known
+kept_known v r page place n has apart = ap (λ (b : Bool). cond b (learned_place place n v.known) v.known)
+    (ap (λ (b : Bool). cond (eqb v.share whole) b false) (ap (λ (o : Option Role). is_newest_page o page) has ∙ ne_eqb r.newest.page page apart)
+    ∙ either_false (eqb v.share whole))
 
 -- A load of a word of a row
 

@@ -89,6 +89,8 @@ finds c v w found F editor goes role known learns told = record {
   rows_in = λ place f a. subst (λ (z : Sizes). f.row < z.rows) editor.sizes (told.range f.row (place, (known place f a).at));
   words_once = λ place f index word a fact lt. told.words_once f.row index word (slice_index f.words index) fact ((known place f a).words index lt);
   learns = learns;
+  inside = λ all some l i. subst (λ (z : Sizes). l.place < z.places) editor.sizes
+      ((told.alike (goes.stays.share ∙ all) (role_of w) editor.has editor.version_is).inside l i);
   alike = λ all place f l index word a i e there lt. (told.alike (goes.stays.share ∙ all) (role_of w) editor.has editor.version_is).words l f.row index word
       (slice_index f.words index) i e there ((known place f a).words index lt);
   rows_once = λ o p f g a b. row_once c F w told o p f g (known o f a) (known p g b);
@@ -104,6 +106,7 @@ begins c v = record {
   rows_in = λ place f e. absurd (maybe.some-ne-none (Some f) (sym e));
   words_once = λ place f index word e fact lt. absurd (maybe.some-ne-none (Some f) (sym e));
   learns = λ all. learns_none v.known;
+  inside = λ all some. absurd (omega arith);
   alike = λ all place f l index word e i is there lt. absurd (maybe.some-ne-none (Some f) (sym e));
   rows_once = λ o p f g a b _. absurd (maybe.some-ne-none (Some f) (sym a));
   keys_once = λ o p f g a b _. absurd (maybe.some-ne-none (Some f) (sym a));

@@ -35,9 +35,11 @@ pub record IsGiving (c : Leaving) (carried : CarriedRows) (r : Role) (g : Giving
 -- the place was loaded and met a word, and its row was freed if it was not carried
 pub record FreesPlace (c : Leaving) (carried : CarriedRows) (r : Role) (g : GivingUp) (place met : ℕ) (v w : View) : Type 0 where
   pub goes : Goes v w (place_frees c.sizes (oldest r).carried c.page place met)
+  pub known : w.known ≡ v.known
   pub role : w.role ≡ Some (role_at c.sizes r g (suc place))
 
 -- the same of the first places
 pub record FreesPage (c : Leaving) (carried : CarriedRows) (r : Role) (g : GivingUp) (places : List ℕ) (v w : View) : Type 0 where
   pub goes : Goes v w (page_frees c.sizes (oldest r).carried c.page 0 places)
+  pub known : w.known ≡ v.known
   pub role : w.role ≡ Some (role_at c.sizes r g (length places))

@@ -101,6 +101,7 @@ pub record FindsRows (c : Current) (v w : View) (found : List (Option Found)) : 
       → word ≡ slice_index f.words index
   -- with the whole share
   pub learns : v.share ≡ whole → Learns v.known w.known found
+  pub inside : v.share ≡ whole → 0 < length found → (l : KnownPlace) → In l w.known → l.place < c.sizes.places
   pub alike : v.share ≡ whole → (place : ℕ) (f : Found) (l : KnownPlace) (index word : ℕ) → IsAt found place f → In l w.known → l.met ≡ suc f.row
       → In (index, word) l.words → index < length f.words → word ≡ slice_index f.words index
   pub rows_once : (o p : ℕ) (f g : Found) → IsAt found o f → IsAt found p g → f.row ≡ g.row → o ≡ p

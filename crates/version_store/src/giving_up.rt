@@ -1,6 +1,7 @@
 //! How versions that nobody pins are given up.
 
 ghost use Rattle.std.specs.Prelude.{◌≡◌, ◌≢◌, ◌<◌, ◌+◌, ℕ, [], length, IfSome, IfNone};
+ghost use Rattle.pin_rule.specs.Hands.{view_of};
 ghost use Rattle.pin_rule.specs.Views.{whole};
 ghost use Rattle.version_store.specs.Meaning.{EditorMeaning};
 ghost use Rattle.version_store.specs.Means.{editor_of};
@@ -27,6 +28,7 @@ impl<C: Content> Editor<C> {
         ensures gone { IfNone result (GivesUpOldest (editor_of self.old) (editor_of self.new)) }
         ensures stays { IfSome result (λ released. KeepsOldest (editor_of self.old) (editor_of self.new) released) }
         ensures few { IfNone result (length self.new.lives.older.items + 1 ≡ length self.old.lives.older.items) }
+        ensures known { (view_of self.new.hand).known ≡ (view_of self.old.hand).known }
         ensures shared { IfSome result (λ _. (editor_of self.old).share ≢ whole) }
     {
         let oldest = self.lives.older[0];
@@ -50,6 +52,7 @@ impl<C: Content> Editor<C> {
     pub(crate) fn give_up_dropped(&mut self) -> GivenUp
         ensures given { (l : EditorMeaning) × GivesUp result.count (editor_of self.old) l × Stops l (editor_of self.new) result.released }
         ensures alone { (editor_of self.old).share ≡ whole → (editor_of self.new).older ≡ [] }
+        ensures known { (view_of self.new.hand).known ≡ (view_of self.old.hand).known }
     {
         let most = self.lives.older.len() as u32;
         for count in 0..most {
@@ -69,6 +72,7 @@ impl<C: Content> Editor<C> {
     pub fn give_up(&mut self) -> u32
         ensures given { GivesUpAll result (editor_of self.old) (editor_of self.new) }
         ensures alone { (editor_of self.old).share ≡ whole → (editor_of self.new).older ≡ [] }
+        ensures known { (view_of self.new.hand).known ≡ (view_of self.old.hand).known }
     {
         self.give_up_dropped().count
     }

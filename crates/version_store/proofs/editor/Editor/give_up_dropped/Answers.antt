@@ -15,6 +15,7 @@ returns-in-Some-clause-alone g c = λ all. absurd (c.in-Some.ensures.shared
 pub loop-count-preserved : goal.loop-count-preserved
 loop-count-preserved g c = let i = c.loop-count.invariant in let n : ℕ = c.loop-count.count in record {
   left = (let a = i.left in let b = c.in_default.ensures.few in omega arith);
+  known = c.give_up_oldest.ensures.known ∙ i.known;
   given = subst (λ (k : ℕ). GivesUp k (editor_of c.args.self.now) (editor_of c.give_up_oldest.new.self)) (let r : suc n ≡ n + 1 = omega arith in r)
       (editor_of c.loop-count.self, i.given, c.in_default.ensures.gone);
 }

@@ -248,3 +248,16 @@ returns-clause-gone g c = let e = c.args.self.now in let k = c.load_release-met 
     subst (λ (i : TableId × ℕ). GivesUpOldest (editor_meaning v (table_of e.hand)) (editor_meaning w i)) (sym (c.free_page.ensures.table ∙ k.ensures.table))
     (gives_up v e.lives n e.noted c.requires x first k.result u e.editor e.keeps_all k.ensures.met k.ensures.view c.if-released-oldest.false left
     e.shared e.unpinned _ e.measured marked refl (sym c.oldest_page.ensures) w f.0 f.1 f.2 (table_of e.hand))
+
+pub returns-then-released-oldest-clause-known : goal.returns-then-released-oldest-clause-known
+returns-then-released-oldest-clause-known g c = ap (λ (y : View). y.known) c.load_release-met.ensures.view
+
+pub returns-clause-known : goal.returns-clause-known
+returns-clause-known g c = let e = c.args.self.now in let k = c.load_release-met in let v = view_of e.hand in let u = view_of k.new.self in
+    let x = c.index-oldest.result.now in let n = c.drop_oldest.new.self in let first = c.index-oldest.ensures in
+    let p = old.parts (role_of v) e.lives e.noted c.requires x first in
+    let left = c.drop_oldest.ensures.noted (role_of v).newest p.0 p.1 (role_of v).released (old.noted_parts (role_of v) e.lives e.noted c.requires x first) in
+    let marked : n.carried.sizes ≡ e.sizes = n.measured ∙ c.drop_oldest.ensures.sizes ∙ e.lives_measured in
+    let q = begins v e.lives n e.noted c.requires x first k.result u e.editor e.keeps_all k.ensures.met k.ensures.view c.if-released-oldest.false left
+    e.shared e.unpinned _ e.measured marked refl (sym c.oldest_page.ensures) in
+    (c.free_page.ensures.freed _ _ q).2.known ∙ ap (λ (y : View). y.known) k.ensures.view
