@@ -7,7 +7,8 @@ use Rattle.pin_rule.specs.declared.view.Step.{Step}
 use Rattle.pin_rule.specs.Steps.{wrote_log, wrote_place, loaded_row}
 use Rattle.version_store.specs.declared.current.Current.{Current}
 use Rattle.version_store.specs.Roles.{role_of, role_or_first}
-use Rattle.version_store.specs.Edits.{Found, entry_stores, row_loads, page_loads, page_stores, place_loads}
+use Rattle.version_store.specs.Rows.{Found}
+use Rattle.version_store.specs.Edits.{entry_stores, row_loads, page_loads, page_stores, place_loads}
 use Rattle.version_store.specs.Stages.{IsEditorOf, Stays, Goes}
 use Rattle.std.specs.Prelude.{Option, Some}
 

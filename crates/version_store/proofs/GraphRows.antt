@@ -20,8 +20,8 @@ use Rattle.pin_rule.proofs.Seats.{none_some, same_some}
 use Rattle.pin_rule.proofs.Places.{each_fact}
 use Rattle.pin_rule.proofs.Spare.{is_in_tells}
 use Rattle.pin_rule.proofs.Bools.{no_bool}
-use Rattle.version_store.specs.Edits.{Found, IsWholeRow}
-use Rattle.version_store.specs.Graphs.{word_in, row_known, rows_known, IsReadWhole, IsWholeKnown, rows_found}
+use Rattle.version_store.specs.Rows.{Found, IsWholeRow, rows_found}
+use Rattle.version_store.specs.Graphs.{word_in, row_known, rows_known, IsReadWhole, IsWholeKnown}
 use Rattle.version_store.specs.Learning.{Learns}
 use Rattle.version_store.specs.Choices.{HasChosen, KeepsRows}
 use Rattle.version_store.specs.Stages.{IsAt}

@@ -14,7 +14,7 @@ use Rattle.pin_rule.specs.Views.{whole}
 use Rattle.pin_rule.specs.Steps.{is_newest_page, keeps_page, learned_place, known_met, learned_word, known_read}
 use Rattle.pin_rule.proofs.Lists.{in_mapped, at_end, at_short}
 use Rattle.pin_rule.proofs.Seats.{none_some, same_some}
-use Rattle.version_store.specs.Edits.{Found}
+use Rattle.version_store.specs.Rows.{Found}
 use Rattle.version_store.specs.Learning.{IsLater, Grown, Shows, Learns}
 
 -- Lists that grow

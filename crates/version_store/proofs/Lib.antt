@@ -20,3 +20,5 @@ pub mod OldestNoted
 pub mod SparePages
 pub mod KnownPlaces
 pub mod GraphRows
+pub mod EmptyPages
+pub mod KnownAgain

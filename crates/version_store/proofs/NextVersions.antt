@@ -28,7 +28,8 @@ use Rattle.pin_rule.proofs.Seats.{same_some}
 use Rattle.pin_rule.proofs.KindSwapCurrent.{keeps_swap_current}
 use Rattle.version_store.specs.declared.current.Current.{Current}
 use Rattle.version_store.specs.Roles.{role_of, role_or_first}
-use Rattle.version_store.specs.Edits.{Found, IsWholeRow, KeepsExactly, entry_stores, page_loads, page_stores}
+use Rattle.version_store.specs.Rows.{Found, IsWholeRow}
+use Rattle.version_store.specs.Edits.{KeepsExactly, entry_stores, page_loads, page_stores}
 use Rattle.version_store.specs.Stages.{IsAt, IsEditorOf, Stays, next_of, with_making, making_entry, WritesEntry, FindsRows, WritesPage}
 use Rattle.version_store.specs.Graphs.{IsWholeKnown}
 use Rattle.version_store.specs.Choices.{HasChosen, KeepsRows, MakesNext}

@@ -23,7 +23,8 @@ use Rattle.slot_store.proofs.Single.{entry_grows, names_it, names_known}
 use Rattle.version_store.specs.declared.current.Current.{Current}
 use Rattle.version_store.specs.Roles.{role_of, role_or_first}
 use Rattle.version_store.specs.Learning.{Grown, Learns}
-use Rattle.version_store.specs.Edits.{Found, IsWholeRow, page_loads, row_loads}
+use Rattle.version_store.specs.Rows.{Found, IsWholeRow}
+use Rattle.version_store.specs.Edits.{page_loads, row_loads}
 use Rattle.version_store.specs.Stages.{IsEditorOf, Goes, next_of, IsAt, key_in, ReadsRow, IsKnownRow, FindsRows}
 use Rattle.version_store.proofs.Going.{goes_nowhere, goes_on, goes_as, editor_on, loads_next}
 use Rattle.version_store.proofs.KnownPlaces.{met_is, learns_none, learns_empty, learns_row}

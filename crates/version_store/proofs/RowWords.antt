@@ -17,7 +17,8 @@ use Rattle.pin_rule.specs.Told.{KnowsRow, KnowsWord, IsTold, Tells}
 use Rattle.slot_store.proofs.Single.{names_known}
 use Rattle.version_store.specs.declared.current.Current.{Current}
 use Rattle.version_store.specs.Roles.{role_of}
-use Rattle.version_store.specs.Edits.{IsWholeRow, row_loads}
+use Rattle.version_store.specs.Rows.{IsWholeRow}
+use Rattle.version_store.specs.Edits.{row_loads}
 use Rattle.version_store.specs.Learning.{Shows}
 use Rattle.version_store.specs.Stages.{IsEditorOf, Goes, ReadsRow}
 use Rattle.version_store.proofs.KnownPlaces.{grown_still, grown_on, grown_read, grown_words, read_is, word_learned}

@@ -12,9 +12,11 @@ use Rattle.pin_rule.specs.Steps.{after_join}
 use Rattle.pin_rule.specs.Views.{whole}
 use Rattle.pin_rule.proofs.Lists.{each_map}
 use Rattle.slot_store.specs.Meaning.{PassMeaning, pass_meaning}
-use Rattle.version_store.specs.Meaning.{BenchMeaning, EditorMeaning, editor_meaning}
+use Rattle.version_store.specs.Meaning.{BenchMeaning, EditorMeaning, bench_meaning, editor_meaning}
 use Rattle.version_store.specs.Roles.{role_of, role_or_first}
-use Rattle.version_store.specs.Edits.{Found, IsWholeRow, page_loads}
+use Rattle.version_store.specs.Rows.{Found, IsWholeRow}
+use Rattle.version_store.specs.Edits.{page_loads}
+use Rattle.version_store.specs.Learning.{KnowsFound}
 use Rattle.version_store.specs.Stages.{Goes}
 use Rattle.version_store.specs.GivingUp.{GivesUp, GivesUpAll}
 use Rattle.version_store.specs.Gathering.{AreOfTable, AreAllOf, taken_in, taken_in_all, ReadsPage, Gathers}
@@ -66,7 +68,8 @@ all_given count m n g none = elim g.3 [
 -- The bench
 
 module _ (m : EditorMeaning) (ps : List PassMeaning) (count : ℕ) (given : EditorMeaning) (gave_up : GivesUp count (taken_in_all ps m) given)
-    (none : given.older ≡ []) (x : View) (t : TableId × ℕ) (read : ReadsPage given (editor_meaning x t)) where
+    (none : given.older ≡ []) (x : View) (t : TableId × ℕ) (found : List (Option Found))
+    (read : ReadsPage given (editor_meaning x t) found) where
   abbrev after : EditorMeaning
   after = editor_meaning x t
 
@@ -82,14 +85,17 @@ module _ (m : EditorMeaning) (ps : List PassMeaning) (count : ℕ) (given : Edit
   pub older_is : after.older ≡ []
   older_is = ap (λ (y : EditorMeaning). y.older) read.is ∙ none
 
-  pub gathers : Gathers m ps (record { sizes = x.sizes; log = x.log; table = t; pins_left = x.pins_left; steps = x.steps })
-  gathers = record {
+  pub gathers : (z : Sizes) → KnowsFound z x.known found → Gathers m ps (bench_meaning x t)
+  gathers z knows = record {
     count = count;
     given = given;
     after = editor_meaning x t;
     gave_up = gave_up;
     one_version = none;
+    found = found;
     read = read;
+    known = knows.known;
+    every = knows.every;
     sizes = ap (λ (y : EditorMeaning). y.sizes) read.is ∙ kept.sizes ∙ taken.sizes;
     log = ap (λ (y : EditorMeaning). y.log) read.is ∙ kept.log ∙ taken.log;
     table = ap (λ (y : EditorMeaning). y.table) read.is ∙ kept.table ∙ taken.table;
@@ -111,9 +117,8 @@ none_left (x ∷ xs) e = absurd (omega arith)
 
 pub reads : (v w : View) (t : TableId × ℕ) (z : Sizes) (page : ℕ) (found : List (Option Found)) → v.sizes ≡ z → (role_of v).newest.page ≡ page
     → length found ≡ z.places → ((f : Found) → In (Some f) found → IsWholeRow f.words) → Goes v w (page_loads z page 0 found) → w.role ≡ v.role
-    → ReadsPage (editor_meaning v t) (editor_meaning w t)
+    → ReadsPage (editor_meaning v t) (editor_meaning w t) found
 reads v w t z page found sizes at every whole_rows goes role = record {
-  found = found;
   every_place = every ∙ ap (λ (y : Sizes). y.places) (sym sizes);
   whole_rows = whole_rows;
   is = λ i. record {

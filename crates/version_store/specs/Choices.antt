@@ -13,7 +13,8 @@ use Rattle.pin_rule.specs.Making.{rows_of}
 use Rattle.version_store.specs.Graphs.{rows_known, IsWholeKnown}
 use Rattle.pin_rule.specs.PartLive.{known_release}
 use Rattle.version_store.specs.Roles.{role_of}
-use Rattle.version_store.specs.Edits.{Found, IsWholeRow, KeepsExactly, edit_steps}
+use Rattle.version_store.specs.Rows.{Found, IsWholeRow}
+use Rattle.version_store.specs.Edits.{KeepsExactly, edit_steps}
 use Rattle.version_store.specs.Stages.{IsAt, key_in, ReadsRow, Stays}
 
 -- how many places are not empty

@@ -8,17 +8,9 @@ use Rattle.pin_rule.specs.Lists.{In}
 use Rattle.pin_rule.specs.Steps.{loaded_place, loaded_row, wrote_log, wrote_place, swapped}
 use Rattle.version_store.specs.declared.edit_error.EditError.{EditError}
 use Rattle.version_store.specs.declared.edit_error.EditError.TheVariants.{VersionsFull, LogFull}
+use Rattle.version_store.specs.Rows.{Found, IsWholeRow}
 use Rattle.version_store.specs.Meaning.{EditorMeaning}
 use Rattle.version_store.specs.GivingUp.{GivesUp, GivesUpAll, KeepsOldest}
-
--- a row that was met at a place, with its words
-pub record Found : Type 0 where
-  pub row : ℕ
-  pub words : List ℕ
-
--- a whole row has its two lengths and as many words as they say
-abbrev pub IsWholeRow : List ℕ → Type 0
-IsWholeRow words = length words ≡ 2 + (slice_index words 0 + slice_index words 1)
 
 -- The steps of an edit
 

@@ -5,7 +5,8 @@ use Rattle.pin_rule.specs.Steps.{was_joined}
 use Rattle.pin_rule.specs.Views.{whole}
 use Rattle.slot_store.specs.Meaning.{PassMeaning}
 use Rattle.version_store.specs.Meaning.{BenchMeaning, EditorMeaning}
-use Rattle.version_store.specs.Edits.{Found, IsWholeRow, page_loads}
+use Rattle.version_store.specs.Rows.{Found, IsWholeRow, rows_found}
+use Rattle.version_store.specs.Edits.{page_loads}
 use Rattle.version_store.specs.GivingUp.{GivesUp}
 
 -- the passes are of the editor's table, and together they have no more pins than a table has in its life
@@ -32,8 +33,7 @@ taken_in_all [] m = m
 taken_in_all (p ∷ ps) m = taken_in_all ps (taken_in p m)
 
 -- each place of the newest page was loaded, with the whole row that stands there
-pub record ReadsPage (m n : EditorMeaning) : Type 0 where
-  pub found : List (Option Found)
+pub record ReadsPage (m n : EditorMeaning) (found : List (Option Found)) : Type 0 where
   pub every_place : length found ≡ m.sizes.places
   pub whole_rows : (f : Found) → In (Some f) found → IsWholeRow f.words
   pub is : n ≡ record m { steps = m.steps ++ page_loads m.sizes m.newest.page 0 found }
@@ -45,7 +45,11 @@ pub record Gathers (m : EditorMeaning) (ps : List PassMeaning) (b : BenchMeaning
   pub after : EditorMeaning
   pub gave_up : GivesUp count (taken_in_all ps m) given
   pub one_version : given.older ≡ []
-  pub read : ReadsPage given after
+  pub found : List (Option Found)
+  pub read : ReadsPage given after found
+  -- the graph is the rows that were found
+  pub known : (row : List ℕ) → In row b.graph → In row (rows_found found)
+  pub every : (row : List ℕ) → In row (rows_found found) → In row b.graph
   pub sizes : b.sizes ≡ m.sizes
   pub log : b.log ≡ m.log
   pub table : b.table ≡ m.table

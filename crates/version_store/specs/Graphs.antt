@@ -1,11 +1,10 @@
 -- The rows of the newest page, as the view with the whole share knows them.
-use Rattle.std.specs.Prelude.{◌≡◌, ℕ, suc, ◌+◌, ◌<◌, List, [], ◌∷◌, cond, Option, Some, None}
+use Rattle.std.specs.Prelude.{◌≡◌, ℕ, suc, ◌+◌, ◌<◌, List, [], ◌∷◌, cond}
 use lib.Dec.{eqb}
 use Rattle.pin_rule.specs.declared.sizes.Sizes.{Sizes}
 use Rattle.pin_rule.specs.declared.view.KnownPlace.{KnownPlace}
 use Rattle.pin_rule.specs.Lists.{In}
 use Rattle.pin_rule.specs.Rows.{content_of}
-use Rattle.version_store.specs.Edits.{Found}
 
 -- the word at an index among pairs of an index and a word; 0 where there is none
 abbrev pub word_in : List (ℕ × ℕ) → ℕ → ℕ
@@ -29,9 +28,3 @@ pub record IsWholeKnown (z : Sizes) (ks : List KnownPlace) : Type 0 where
   pub every : (place : ℕ) → place < z.places → (k : KnownPlace) × In k ks × (k.place ≡ place)
   pub inside : (k : KnownPlace) → In k ks → k.place < z.places
   pub rows : (k : KnownPlace) (row : ℕ) → In k ks → k.met ≡ suc row → IsReadWhole k.words
-
--- the rows that were found
-abbrev pub rows_found : List (Option Found) → List (List ℕ)
-rows_found [] = []
-rows_found (None ∷ fs) = rows_found fs
-rows_found (Some f ∷ fs) = f.words ∷ rows_found fs

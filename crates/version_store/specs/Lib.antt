@@ -1,7 +1,8 @@
 pub mod Roles
+pub mod Graphs
+pub mod Rows
 pub mod Meaning
 pub mod Edits
-pub mod Graphs
 pub mod Means
 pub mod Parts
 pub mod Dividing
@@ -14,3 +15,4 @@ pub mod Notes
 pub mod GivingUp
 pub mod Freeing
 pub mod Gathering
+pub mod Alone

@@ -8,17 +8,20 @@ use Rattle.pin_rule.specs.declared.view.View.{View}
 use Rattle.pin_rule.specs.declared.view.Live.{Live}
 use Rattle.pin_rule.specs.declared.view.Older.{Older}
 use Rattle.version_store.specs.Roles.{role_of}
+use Rattle.version_store.specs.Graphs.{rows_known}
 
--- the sizes of the table, the log of its newest version, the table, and of the bench its pins left and its steps
+-- The sizes of the table, the log of its newest version, the table, and of the bench its pins left, its graph and its steps. The graph is the rows of the
+-- page of the version, each the list of its words; two graphs are compared by their members
 pub record BenchMeaning : Type 0 where
   pub sizes : Sizes
   pub log : List Entry
   pub table : TableId × ℕ
   pub pins_left : ℕ
+  pub graph : List (List ℕ)
   pub steps : List Step
 
 abbrev pub bench_meaning : View → TableId × ℕ → BenchMeaning
-bench_meaning v table = record { sizes = v.sizes; log = v.log; table = table; pins_left = v.pins_left; steps = v.steps }
+bench_meaning v table = record { sizes = v.sizes; log = v.log; table = table; pins_left = v.pins_left; graph = rows_known v.known; steps = v.steps }
 
 -- The same of an editor, with its share and its live versions: the newest, and those before it, newest first, each with the pins taken on it. A live version
 -- has its page, the release word of that page when it began, and the rows that were carried into it
@@ -49,4 +52,5 @@ pub record IsNewBench (z : Sizes) (m : BenchMeaning) : Type 0 where
   pub sizes : m.sizes ≡ z
   pub log : m.log ≡ []
   pub pins_left : m.pins_left ≡ z.pins
+  pub graph : m.graph ≡ []
   pub steps : m.steps ≡ []

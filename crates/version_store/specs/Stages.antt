@@ -17,7 +17,8 @@ use Rattle.pin_rule.specs.Told.{KnowsPlace, KnowsWord}
 use Rattle.version_store.specs.declared.current.Current.{Current}
 use Rattle.version_store.specs.Roles.{role_of}
 use Rattle.version_store.specs.Learning.{Grown, Shows, Learns}
-use Rattle.version_store.specs.Edits.{Found, IsWholeRow, entry_stores, row_loads, page_loads, page_stores}
+use Rattle.version_store.specs.Rows.{Found, IsWholeRow}
+use Rattle.version_store.specs.Edits.{entry_stores, row_loads, page_loads, page_stores}
 
 -- the editor in the version that is current
 pub record IsEditorOf (c : Current) (v : View) : Type 0 where

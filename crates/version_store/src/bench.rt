@@ -4,6 +4,7 @@ ghost use Rattle.std.specs.Prelude.{◌≡◌, [], length, IfOk};
 ghost use Rattle.pin_rule.specs.Hands.{view_of};
 ghost use Rattle.pin_rule.specs.Views.{whole};
 ghost use Rattle.version_store.specs.Roles.{role_of};
+ghost use Rattle.version_store.specs.Graphs.{IsWholeKnown};
 
 use crate::NoMemory;
 use crate::editor::Editor;
@@ -13,12 +14,14 @@ use pin_rule::hand::Hand;
 use pin_rule::sizes::Sizes;
 use std::alloc::Global;
 
-/// The whole of a table: the editor's role with every share. A bench that is
-/// dropped gives the table's memory back.
+/// The whole of a table: the editor's role with every share, one live version,
+/// and what stands in its page. A bench that is dropped gives the table's memory
+/// back.
 pub struct Bench<C: Content> {
     pub(crate) editor: Editor<C>,
     ghost has_all: { (view_of editor.hand).share ≡ whole },
     ghost one_version: { (role_of (view_of editor.hand)).older ≡ [] },
+    ghost all_known: { ∥ IsWholeKnown editor.sizes (view_of editor.hand).known ∥₁ },
 }
 
 impl<C: Content> Editor<C> {

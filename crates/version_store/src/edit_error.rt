@@ -16,3 +16,9 @@ pub enum EditError {
         entries: u32,
     },
 }
+
+/// The log has as many entries as it has room for.
+#[derive(Clone, Copy, PartialEq, Eq)]
+pub struct LogFull {
+    pub entries: u32,
+}

@@ -1,8 +1,12 @@
 //! How an editor and its passes are gathered into a bench.
 
-ghost use Rattle.std.specs.Prelude.{◌≡◌, ◌+◌, ◌≤◌, ◌∷◌, [], map};
+ghost use Rattle.std.specs.Prelude.{◌≡◌, ◌∷◌, [], map, List, Option};
+ghost use Rattle.pin_rule.specs.Hands.{view_of};
+ghost use Rattle.pin_rule.specs.Views.{whole};
 ghost use Rattle.slot_store.specs.Means.{pass_of};
 ghost use Rattle.version_store.specs.Means.{bench_of, editor_of};
+ghost use Rattle.version_store.specs.Rows.{Found};
+ghost use Rattle.version_store.specs.Learning.{KnowsFound};
 ghost use Rattle.version_store.specs.Gathering.{taken_in, taken_in_all, AreOfTable, AreAllOf, ReadsPage, Gathers};
 
 use crate::bench::Bench;
@@ -36,7 +40,8 @@ impl<C: Content> Editor<C> {
 
     /// Reads each place of the newest page, and each row that stands there.
     fn read_all(&mut self)
-        ensures { ReadsPage (editor_of self.old) (editor_of self.new) }
+        ensures { (found : List (Option Found)) × ReadsPage (editor_of self.old) (editor_of self.new) found
+            × ((view_of self.old.hand).share ≡ whole → KnowsFound self.old.sizes (view_of self.new.hand).known found) }
     {
         let newest = self.lives.newest;
         let current = Current {

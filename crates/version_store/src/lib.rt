@@ -13,6 +13,7 @@ mod choosing;
 mod current;
 pub mod edit_error;
 mod editing;
+mod editing_alone;
 pub mod editor;
 mod entry_writing;
 mod freeing;

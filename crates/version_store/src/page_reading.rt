@@ -2,7 +2,7 @@
 
 ghost use Rattle.std.specs.Prelude.{◌≡◌, List, Option, length};
 ghost use Rattle.pin_rule.specs.Hands.{view_of, table_of};
-ghost use Rattle.version_store.specs.Edits.{Found};
+ghost use Rattle.version_store.specs.Rows.{Found};
 ghost use Rattle.version_store.specs.Stages.{IsEditorOf, FindsRows};
 
 use crate::current::Current;

@@ -4,7 +4,7 @@ use Rattle.pin_rule.specs.declared.sizes.Sizes.{Sizes}
 use Rattle.pin_rule.specs.Hands.{view_of}
 use Rattle.pin_rule.proofs.KindLoads.{keeps_load_place}
 use Rattle.slot_store.proofs.Passing.{row_met}
-use Rattle.version_store.specs.Edits.{Found}
+use Rattle.version_store.specs.Rows.{Found}
 use Rattle.version_store.proofs.PageRows as finds
 use Rattle.version_store.proofs.page_reading.read_page.Goals as goal
 

@@ -1,7 +1,7 @@
 use Rattle.std.proofs.Common.{◌≡◌, ℕ, List, length}
 use Rattle.std.specs.Prelude.{Option}
 use Rattle.pin_rule.specs.Hands.{view_of, table_of}
-use Rattle.version_store.specs.Edits.{Found}
+use Rattle.version_store.specs.Rows.{Found}
 use Rattle.version_store.specs.Stages.{FindsRows}
 use Rattle.version_store.proofs.page_reading.read_page.Given as goal
 
