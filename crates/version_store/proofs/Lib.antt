@@ -22,3 +22,4 @@ pub mod KnownPlaces
 pub mod GraphRows
 pub mod EmptyPages
 pub mod KnownAgain
+pub mod PlaceRead

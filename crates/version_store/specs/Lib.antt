@@ -9,6 +9,8 @@ pub mod Dividing
 pub mod Learning
 pub mod Stages
 pub mod Choices
+pub mod PlaceReading
+pub mod BenchRows
 pub mod Marks
 pub mod LivePages
 pub mod Notes
