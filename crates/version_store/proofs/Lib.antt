@@ -23,3 +23,4 @@ pub mod GraphRows
 pub mod EmptyPages
 pub mod KnownAgain
 pub mod PlaceRead
+pub mod BenchPlace

@@ -1,5 +1,6 @@
 -- What a bench tells of one place of its page.
-use Rattle.std.specs.Prelude.{◌≡◌, ℕ, List, ◌++◌, Option, Some, None, Bor}
+use Rattle.std.specs.Prelude.{◌≡◌, ℕ, List, ◌++◌, Option, Some, None}
+use Rattle.std.specs.Borrow.{Bor}
 use Rattle.pin_rule.specs.Lists.{In}
 use Rattle.version_store.specs.Rows.{Found, IsWholeRow}
 use Rattle.version_store.specs.Edits.{place_loads}

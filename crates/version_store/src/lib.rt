@@ -8,6 +8,7 @@
 #![tactic(auto)]
 
 pub mod bench;
+mod bench_rows;
 mod carried_rows;
 mod choosing;
 mod current;
