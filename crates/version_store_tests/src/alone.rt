@@ -57,18 +57,30 @@ fn gathered(alloc: Global) -> Result<Bench<AnyRow>, AllocError> {
     Ok(gather(editor, all))
 }
 
+/// The key and the payload at a place of the page.
+fn told_row(
+    alloc: Global,
+    bench: &mut Bench<AnyRow>,
+    place: u32,
+) -> Result<String, AllocError> {
+    if place >= bench.places() {
+        return String::from_str(alloc, " no place");
+    }
+    match bench.row(place) {
+        Some(row) => {
+            let key = row.get(2).copied().unwrap_or(0);
+            let payload = row.get(3).copied().unwrap_or(0);
+            format!(in alloc; " {key}:{payload}")
+        }
+        None => String::from_str(alloc, " -"),
+    }
+}
+
 /// The keys and payloads of the bench's rows, place by place.
 fn told_rows(alloc: Global, bench: &mut Bench<AnyRow>) -> Result<String, AllocError> {
     let mut told = String::new(alloc);
     for place in 0..bench.places() {
-        match bench.row(place) {
-            Some(row) => {
-                let key = row.get(2).copied().unwrap_or(0);
-                let payload = row.get(3).copied().unwrap_or(0);
-                told.push_str(&format!(in alloc; " {key}:{payload}")?)?;
-            }
-            None => told.push_str(" -")?,
-        }
+        told.push_str(&told_row(alloc, bench, place)?)?;
     }
     Ok(told)
 }
