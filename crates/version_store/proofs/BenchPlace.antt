@@ -1,6 +1,6 @@
 -- A bench that reads one place of its page stays the same in all but its steps, and the row that it met is of its graph.
-use Rattle.std.proofs.Common.{◌≡◌, ℕ, suc, ◌<◌, List, ◌++◌, inr, refl, sym, ap, ◌∙◌, subst}
-use Rattle.std.specs.Prelude.{Option, Some, None, IfNone, IfSome}
+use Rattle.std.proofs.Common.{◌≡◌, ℕ, suc, ◌<◌, List, ◌++◌, inr, refl, sym, ap, ◌∙◌}
+use Rattle.std.specs.Prelude.{Option, Some}
 use Rattle.atomic_table.specs.Seated.{TableId}
 use Rattle.pin_rule.specs.declared.sizes.Sizes.{Sizes}
 use Rattle.pin_rule.specs.declared.content.Entry.{Entry}
@@ -11,7 +11,7 @@ use Rattle.pin_rule.specs.Lists.{In}
 use Rattle.pin_rule.specs.Views.{whole, now}
 use Rattle.pin_rule.specs.Told.{Tells}
 use Rattle.version_store.specs.declared.current.Current.{Current}
-use Rattle.version_store.specs.Rows.{Found, IsWholeRow}
+use Rattle.version_store.specs.Rows.{Found}
 use Rattle.version_store.specs.Edits.{place_loads}
 use Rattle.version_store.specs.Graphs.{rows_known, IsWholeKnown}
 use Rattle.version_store.specs.Meaning.{bench_meaning}

@@ -1,33 +1,28 @@
 -- The oldest version is given up, or stays.
-use Rattle.std.proofs.Common.{◌≡◌, ◌≢◌, ℕ, zero, suc, ◌+◌, ◌-◌, ◌<◌, ◌≤◌, List, [], ◌∷◌, ◌++◌, inl, inr, length, append_assoc, append-nil, eqb, eq-eqb, ne_eqb}
+use Rattle.std.proofs.Common.{◌≡◌, ◌≢◌, ℕ, zero, suc, ◌+◌, ◌<◌, List, [], ◌∷◌, ◌++◌, inl, inr, length, eq-eqb, ne_eqb}
 use Rattle.std.proofs.Common.{sym, refl, ap, ◌∙◌, subst, arith}
 use mathlib.Core.Bool.{cond}
-use Rattle.std.specs.Prelude.{Option, Some, None, Bool, true, false}
+use Rattle.std.specs.Prelude.{Option, Some, None, Bool}
 use Rattle.atomic_table.specs.Seated.{TableId}
 use Rattle.pin_rule.specs.declared.sizes.Sizes.{Sizes}
-use Rattle.pin_rule.specs.declared.content.Entry.{Entry}
 use Rattle.pin_rule.specs.declared.view.View.{View}
 use Rattle.pin_rule.specs.declared.view.Role.{Role}
 use Rattle.pin_rule.specs.declared.view.Step.{Step}
-use Rattle.pin_rule.specs.declared.view.Live.{Live}
 use Rattle.pin_rule.specs.declared.view.Older.{Older}
 use Rattle.pin_rule.specs.declared.view.GivingUp.{GivingUp}
-use Rattle.pin_rule.specs.declared.ops.Op.TheVariants as op
 use Rattle.pin_rule.specs.Lists.{In, is_in}
 use Rattle.pin_rule.specs.GivingUp.{last_of, before_last, last_live, oldest, without_oldest, role_released}
 use Rattle.pin_rule.specs.Steps.{loaded_release, after_load_release}
-use Rattle.pin_rule.specs.Told.{Meets, IsReleaseOf}
 use Rattle.pin_rule.proofs.Oldest.{last_in}
 use Rattle.pin_rule.proofs.KindLoadRelease.{role_drops, role_keeps}
 use Rattle.version_store.specs.declared.carried_rows.CarriedRows.{CarriedRows}
 use Rattle.version_store.specs.declared.leaving.Leaving.{Leaving}
-use Rattle.version_store.specs.declared.lives.Lives.{Lives}
 use Rattle.version_store.specs.Marks.{is_marked}
 use Rattle.version_store.specs.Roles.{role_of, role_or_first}
 use Rattle.version_store.specs.Meaning.{EditorMeaning, editor_meaning}
 use Rattle.version_store.specs.Stages.{Goes}
 use Rattle.version_store.specs.GivingUp.{page_frees, later, GivesUpOldest, KeepsOldest, GivesUp, Stops, GivesUpAll}
-use Rattle.version_store.specs.Freeing.{reached_place, role_at, IsGiving, FreesPage}
+use Rattle.version_store.specs.Freeing.{role_at, IsGiving, FreesPage}
 use Rattle.version_store.proofs.Going.{goes_on}
 use Rattle.version_store.proofs.Noting.{before_and_last}
 

@@ -1,18 +1,15 @@
 -- The rows that are known of a page are those that were found there, and those of a new page the ones that are kept.
-use Rattle.std.proofs.Common.{◌≡◌, ◌≢◌, ◌⊎◌, ℕ, zero, suc, ◌+◌, ◌<◌, ◌≤◌, List, [], ◌∷◌, ◌++◌, map, inl, inr, length, slice_index, eqb, eq-eqb, ne_eqb, sym, refl}
+use Rattle.std.proofs.Common.{◌≡◌, ◌≢◌, ◌⊎◌, ℕ, zero, suc, ◌+◌, ◌<◌, List, [], ◌∷◌, inl, inr, length, slice_index, eqb, eq-eqb, ne_eqb, sym, refl}
 use Rattle.std.proofs.Common.{ap, ◌∙◌, subst, arith}
 use Rattle.std.proofs.lemmas.Bool.{eqb-true}
 use mathlib.Core.Option as maybe
 use mathlib.Core.Bool.{cond}
-use mathlib.Core.Logic.{dite}
-use native.Mathlib.Decide.{ℕ_discrete}
 use lib.ListN.{get_elem?}
 use Rattle.std.specs.Prelude.{Option, Some, None, Bool, true, false}
 use Rattle.pin_rule.specs.declared.sizes.Sizes.{Sizes}
 use Rattle.pin_rule.specs.declared.view.KnownPlace.{KnownPlace}
 use Rattle.pin_rule.specs.declared.view.WordFact.{WordFact}
-use Rattle.pin_rule.specs.Lists.{In, Each, is_in}
-use Rattle.pin_rule.specs.Rows.{content_of}
+use Rattle.pin_rule.specs.Lists.{In, is_in}
 use Rattle.pin_rule.specs.Making.{facts_on, words_on, places_known}
 use Rattle.pin_rule.proofs.Frames.{content_same}
 use Rattle.pin_rule.proofs.Lists.{each_in, in_mapped, at_short}
@@ -102,7 +99,7 @@ at_each (x ∷ xs) (suc i) lt = at_each xs i (omega arith)
 module _ (z : Sizes) (ks ls : List KnownPlace) (found : List (Option Found)) (many : length found ≡ z.places) (learns : Learns ks ls found)
     (wholes : (o : ℕ) (f : Found) → IsAt found o f → IsWholeRow f.words)
     (alike : (o : ℕ) (f : Found) (l : KnownPlace) (index word : ℕ) → IsAt found o f → In l ls → l.met ≡ suc f.row → In (index, word) l.words
-        → index < length f.words → word ≡ slice_index f.words index) where
+    → index < length f.words → word ≡ slice_index f.words index) where
   same_words : (o : ℕ) (f : Found) (l : KnownPlace) → IsAt found o f → In l ls → l.place ≡ o → (index : ℕ) → index < length f.words
       → word_in l.words index ≡ slice_index f.words index
   same_words o f l e i at index lt = let r = learns.rows o f l e i at in
@@ -227,7 +224,7 @@ module _ (z : Sizes) (keeps next : List ℕ → Type 0) (ks : List KnownPlace) (
     (chosen : HasChosen keeps next z found places) (wholes : (o : ℕ) (f : Found) → IsAt found o f → IsWholeRow f.words)
     (known : (o : ℕ) (f : Found) (index : ℕ) → IsAt found o f → index < length f.words → In (fact version f.row index (slice_index f.words index)) ws)
     (once : (o : ℕ) (f : Found) (index word : ℕ) → IsAt found o f → In (fact version f.row index word) ws → index < length f.words
-        → word ≡ slice_index f.words index)
+    → word ≡ slice_index f.words index)
     (was_found : (r : List ℕ) → In r (rows_known ks) → (o : ℕ) × (f : Found) × IsAt found o f × (r ≡ f.words))
     (is_found : (o : ℕ) (f : Found) → IsAt found o f → In f.words (rows_known ks)) where
   abbrev new : List KnownPlace

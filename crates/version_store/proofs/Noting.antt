@@ -1,5 +1,5 @@
 -- The live versions as they are noted, oldest first.
-use Rattle.std.proofs.Common.{◌≡◌, ◌≢◌, ◌⊎◌, ℕ, zero, suc, ◌+◌, ◌<◌, ◌≤◌, List, [], ◌∷◌, ◌++◌, map, inl, inr, length, length-append, take, set, slice_index, get_or, eqb}
+use Rattle.std.proofs.Common.{◌≡◌, ◌≢◌, ◌⊎◌, ℕ, zero, suc, ◌+◌, ◌<◌, List, [], ◌∷◌, ◌++◌, map, inl, inr, length, length-append, take, set, slice_index, get_or}
 use Rattle.std.proofs.Common.{get_or-set_same, get_or-set_other, eq-eqb, ne_eqb, sym, refl, ap, ◌∙◌, subst, arith}
 use Rattle.std.proofs.lemmas.List.{take_more}
 use mathlib.Core.Bool.{cond}
@@ -8,7 +8,6 @@ use native.Mathlib.Decide.{ℕ_discrete}
 use Rattle.std.specs.Prelude.{Bool, remove}
 use Rattle.pin_rule.specs.declared.view.Live.{Live}
 use Rattle.pin_rule.specs.declared.view.Older.{Older}
-use Rattle.pin_rule.specs.declared.view.Role.{Role}
 use Rattle.pin_rule.specs.Lists.{In}
 use Rattle.pin_rule.specs.GivingUp.{last_of, before_last, last_live}
 use Rattle.pin_rule.specs.PartLive.{known_release}
@@ -87,9 +86,9 @@ pages_back : (page : ℕ) (older : List Older) → In page (map page_in (oldest_
 pages_back page [] i = i
 pages_back page (o ∷ os) i = elim (in_parts page (map page_in (oldest_first os)) (o.live.page ∷ [])
     (subst (In page) (mapped_parts page_in (oldest_first os) (older_noted o ∷ [])) i)) [
-  | inl t ↦ inr (pages_back page os t)
-  | inr t ↦ elim t [ inl e ↦ inl e | inr n ↦ absurd n ]
-]
+      | inl t ↦ inr (pages_back page os t)
+      | inr t ↦ elim t [ inl e ↦ inl e | inr n ↦ absurd n ]
+    ]
 
 pages_on : (page : ℕ) (older : List Older) → In page (map (λ (l : Live). l.page) (map (λ (o : Older). o.live) older)) → In page (map page_in (oldest_first older))
 pages_on page [] i = i
@@ -138,9 +137,9 @@ pub release_noted : (releases : List ℕ) (known : List (ℕ × ℕ)) (p q x : �
     → slice_index (set releases p x) page ≡ known_release ((q, x) ∷ known) page
 release_noted releases known p q x e inside h page lt = dite (ℕ_discrete q page)
     (λ same. ap (λ (i : ℕ). slice_index (set releases i x) page) (e ∙ same) ∙ get_or-set_same releases page x 0 (omega arith)
-        ∙ sym (ap (λ (b : Bool). cond b x (known_release known page)) (eq-eqb q page same)))
+    ∙ sym (ap (λ (b : Bool). cond b x (known_release known page)) (eq-eqb q page same)))
     (λ ne. get_or-set_other releases p page x 0 (λ s. ne (sym e ∙ sym s)) ∙ h page lt
-        ∙ sym (ap (λ (b : Bool). cond b x (known_release known page)) (ne_eqb q page ne)))
+    ∙ sym (ap (λ (b : Bool). cond b x (known_release known page)) (ne_eqb q page ne)))
 
 -- the page of a version that was read
 pub page_at : (xs : List OlderVersion) (i : ℕ) (x : OlderVersion) → i < length xs → x ≡ get_or xs i x → In x.live.page (map page_in xs)

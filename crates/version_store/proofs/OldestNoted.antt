@@ -1,17 +1,15 @@
 -- The oldest version, as it is noted and as the editor's role has it.
-use Rattle.std.proofs.Common.{◌≡◌, ◌≢◌, ℕ, zero, suc, ◌+◌, ◌-◌, ◌<◌, ◌≤◌, List, [], ◌∷◌, ◌++◌, inl, inr, length, get_or, sym, refl, ap, ◌∙◌, subst, arith}
-use Rattle.pin_rule.specs.declared.sizes.Sizes.{Sizes}
+use Rattle.std.proofs.Common.{◌≡◌, ℕ, ◌<◌, List, [], ◌∷◌, ◌++◌, inl, inr, length, get_or, sym, refl, ap, ◌∙◌, subst, arith}
 use Rattle.pin_rule.specs.declared.view.Live.{Live}
 use Rattle.pin_rule.specs.declared.view.Older.{Older}
 use Rattle.pin_rule.specs.declared.view.Role.{Role}
 use Rattle.pin_rule.specs.Lists.{In}
-use Rattle.pin_rule.specs.GivingUp.{last_of, before_last, last_live}
-use Rattle.pin_rule.specs.PartLive.{known_release}
+use Rattle.pin_rule.specs.GivingUp.{last_of, last_live}
 use Rattle.pin_rule.proofs.Oldest.{last_in}
 use Rattle.version_store.specs.declared.live_version.LiveVersion.{LiveVersion}
 use Rattle.version_store.specs.declared.live_version.OlderVersion.{OlderVersion}
 use Rattle.version_store.specs.declared.lives.Lives.{Lives}
-use Rattle.version_store.specs.LivePages.{live_noted, older_noted, oldest_first, first_page, pages_noted, lives_in}
+use Rattle.version_store.specs.LivePages.{older_noted, oldest_first, first_page, pages_noted}
 use Rattle.version_store.specs.Notes.{IsNoted, IsNotedIn}
 use Rattle.version_store.proofs.Noting.{some_older, first_is_last, oldest_page_is, many_noted}
 

@@ -1,5 +1,5 @@
 -- One place of the page is read.
-use Rattle.std.proofs.Common.{◌≡◌, ◌≢◌, ◌⊎◌, ℕ, zero, suc, ◌+◌, ◌<◌, List, [], ◌∷◌, ◌++◌, inl, inr, length, slice_index, eqb, eq-eqb, ne_eqb, sym, refl}
+use Rattle.std.proofs.Common.{◌≡◌, ◌≢◌, ℕ, zero, suc, ◌+◌, ◌<◌, List, [], ◌∷◌, ◌++◌, inl, inr, length, slice_index, eq-eqb, ne_eqb, sym, refl}
 use Rattle.std.proofs.Common.{ap, ◌∙◌, subst, arith}
 use mathlib.Core.Bool.{cond}
 use mathlib.Core.Logic.{dite}
@@ -24,7 +24,7 @@ use Rattle.version_store.specs.Edits.{place_loads, row_loads}
 use Rattle.version_store.specs.Graphs.{word_in, row_known, rows_known, IsReadWhole, IsWholeKnown}
 use Rattle.version_store.specs.Learning.{IsLater, Grown, Shows}
 use Rattle.version_store.specs.Stages.{IsEditorOf, Goes, ReadsRow}
-use Rattle.version_store.specs.PlaceReading.{word_of_found, KnewPlace, ReadsPlace}
+use Rattle.version_store.specs.PlaceReading.{ReadsPlace}
 use Rattle.version_store.proofs.Going.{goes_on, goes_as, editor_on}
 use Rattle.version_store.proofs.KnownPlaces.{grown_still, met_is}
 use Rattle.version_store.proofs.RowWords.{told_of}
@@ -36,10 +36,10 @@ learned_same place n [] k = absurd k.1
 learned_same place n (x ∷ ks) k = dite (ℕ_discrete x.place place)
     (λ e. ap (λ (b : Bool). cond b (x ∷ ks) (x ∷ learned_place place n ks)) (eq-eqb x.place place e))
     (λ ne. ap (λ (b : Bool). cond b (x ∷ ks) (x ∷ learned_place place n ks)) (ne_eqb x.place place ne)
-        ∙ ap (λ (l : List KnownPlace). x ∷ l) (learned_same place n ks (elim k.1 [
-          | inl e ↦ absurd (ne (ap (λ (y : KnownPlace). y.place) (sym e) ∙ k.2))
-          | inr t ↦ (k.0, t, k.2)
-        ])))
+    ∙ ap (λ (l : List KnownPlace). x ∷ l) (learned_same place n ks (elim k.1 [
+      | inl e ↦ absurd (ne (ap (λ (y : KnownPlace). y.place) (sym e) ∙ k.2))
+      | inr t ↦ (k.0, t, k.2)
+    ])))
 
 module _ (c : Current) (v : View) (editor : IsEditorOf c v) (place n : ℕ) (u : View) (is : u ≡ after_load_place v c.page place n) where
   -- the editor may speak of the page

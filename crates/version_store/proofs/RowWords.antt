@@ -47,8 +47,15 @@ shows_more w row xs x all shows l i e = let f = learned_word row (length xs) x i
 
 module _ (c : Current) (v : View) (row : ℕ) (editor : IsEditorOf c v) (named : version_of v.entries row ≡ Some c.version) where
   pub begins : ReadsRow c v v row []
-  begins = record { goes = goes_nowhere v; role = refl; entries = refl; earlier = λ _ i. i; known = λ i lt. absurd (omega arith);
-    grown = grown_still v.known; shows = λ all l i e index lt. absurd (omega arith) }
+  begins = record {
+    goes = goes_nowhere v;
+    role = refl;
+    entries = refl;
+    earlier = λ _ i. i;
+    known = λ i lt. absurd (omega arith);
+    grown = grown_still v.known;
+    shows = λ all l i e index lt. absurd (omega arith);
+  }
 
   -- the view after some words
   module _ (w : View) (xs : List ℕ) (so_far : ReadsRow c v w row xs) where

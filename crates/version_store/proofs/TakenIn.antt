@@ -1,25 +1,21 @@
 -- Passes that are taken in, one after the other, and what a whole bench has.
-use Rattle.std.proofs.Common.{◌≡◌, ◌≢◌, ℕ, zero, suc, ◌+◌, ◌<◌, ◌≤◌, List, [], ◌∷◌, ◌++◌, map, inl, inr, length, get_or, sym, refl, ap, ◌∙◌, subst, arith}
+use Rattle.std.proofs.Common.{◌≡◌, ℕ, ◌+◌, ◌<◌, List, [], ◌∷◌, ◌++◌, inl, inr, length, get_or, sym, refl, ap, ◌∙◌, subst, arith}
 use Rattle.std.specs.Prelude.{Option, Some, remove}
 use Rattle.atomic_table.specs.Seated.{TableId}
 use Rattle.pin_rule.specs.declared.sizes.Sizes.{Sizes}
-use Rattle.pin_rule.specs.declared.content.Entry.{Entry}
 use Rattle.pin_rule.specs.declared.view.View.{View}
 use Rattle.pin_rule.specs.declared.view.Older.{Older}
-use Rattle.pin_rule.specs.declared.view.Live.{Live}
-use Rattle.pin_rule.specs.Lists.{Each, In, total}
+use Rattle.pin_rule.specs.Lists.{In, total}
 use Rattle.pin_rule.specs.Steps.{after_join}
-use Rattle.pin_rule.specs.Views.{whole}
-use Rattle.pin_rule.proofs.Lists.{each_map}
 use Rattle.slot_store.specs.Meaning.{PassMeaning, pass_meaning}
-use Rattle.version_store.specs.Meaning.{BenchMeaning, EditorMeaning, bench_meaning, editor_meaning}
+use Rattle.version_store.specs.Meaning.{EditorMeaning, bench_meaning, editor_meaning}
 use Rattle.version_store.specs.Roles.{role_of, role_or_first}
 use Rattle.version_store.specs.Rows.{Found, IsWholeRow}
 use Rattle.version_store.specs.Edits.{page_loads}
 use Rattle.version_store.specs.Learning.{KnowsFound}
 use Rattle.version_store.specs.Stages.{Goes}
 use Rattle.version_store.specs.GivingUp.{GivesUp, GivesUpAll}
-use Rattle.version_store.specs.Gathering.{AreOfTable, AreAllOf, taken_in, taken_in_all, ReadsPage, Gathers}
+use Rattle.version_store.specs.Gathering.{AreOfTable, taken_in, taken_in_all, ReadsPage, Gathers}
 use Rattle.version_store.proofs.GivenUp.{IsAlike, alike}
 
 -- One pass

@@ -47,7 +47,8 @@ impl<C: Content> Editor<C> {
             self.places.as_mut_slice(),
         );
         let taken = (met % 4_294_967_296) as u32;
-        self.lives.add(version + 1, next, taken, self.places.as_slice());
+        self.lives
+            .add(version + 1, next, taken, self.places.as_slice());
         version + 1
     }
 

@@ -13,12 +13,7 @@ use pin_rule::hand::Hand;
 
 /// Loads the place reached, and frees the row that stands there unless it was
 /// carried into the version that follows.
-fn free_place<C: Content>(
-    hand: &mut Hand<C>,
-    leaving: Leaving,
-    carried: &CarriedRows,
-    place: u32,
-)
+fn free_place<C: Content>(hand: &mut Hand<C>, leaving: Leaving, carried: &CarriedRows, place: u32)
     requires giving { (role : Role) × (given : GivingUp) × IsGiving leaving carried.now role given place (view_of hand.old) }
     requires place { place < leaving.sizes.places }
     ensures table { table_of hand.new ≡ table_of hand.old }

@@ -128,7 +128,7 @@ impl Lives {
         ensures noted { (newest : Live) (older : List Older) (known : List (ℕ × ℕ)) → IsNoted newest older known self.old
             → ¬ (In page (pages_noted self.old.newest self.old.older.items))
             → IsNoted (record { version = version; page = page; base = known_release known page; carried = rows_of places.now })
-                (record { live = newest; taken = taken } ∷ older) known self.new }
+            (record { live = newest; taken = taken } ∷ older) known self.new }
     {
         self.carried.note(page, places);
         self.older.push_reserved(OlderVersion {

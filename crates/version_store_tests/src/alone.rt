@@ -58,11 +58,7 @@ fn gathered(alloc: Global) -> Result<Bench<AnyRow>, AllocError> {
 }
 
 /// The key and the payload at a place of the page.
-fn told_row(
-    alloc: Global,
-    bench: &mut Bench<AnyRow>,
-    place: u32,
-) -> Result<String, AllocError> {
+fn told_row(alloc: Global, bench: &mut Bench<AnyRow>, place: u32) -> Result<String, AllocError> {
     if place >= bench.places() {
         return String::from_str(alloc, " no place");
     }

@@ -1,4 +1,4 @@
-use Rattle.std.proofs.Common.{◌≡◌, ◌+◌, ◌++◌, ◌∷◌, [], ℕ, length, length-append, refl, ◌∙◌, arith}
+use Rattle.std.proofs.Common.{◌++◌, ◌∷◌, [], length-append, refl, ◌∙◌, arith}
 use Rattle.pin_rule.specs.Hands.{view_of}
 use Rattle.version_store.proofs.FreedRows as freed
 use Rattle.version_store.proofs.freeing.free_page.Goals as goal

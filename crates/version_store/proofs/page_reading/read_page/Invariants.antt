@@ -1,4 +1,4 @@
-use Rattle.std.proofs.Common.{◌≡◌, ℕ, List, length}
+use Rattle.std.proofs.Common.{◌≡◌, List, length}
 use Rattle.std.specs.Prelude.{Option}
 use Rattle.pin_rule.specs.Hands.{view_of, table_of}
 use Rattle.version_store.specs.Rows.{Found}

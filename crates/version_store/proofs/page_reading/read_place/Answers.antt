@@ -1,4 +1,4 @@
-use Rattle.std.proofs.Common.{◌≡◌, ◌-◌, ◌<◌, ℕ, take, sym, ◌∙◌, subst, arith}
+use Rattle.std.proofs.Common.{◌-◌, ◌<◌, ℕ, take, sym, subst, arith}
 use Rattle.pin_rule.specs.declared.sizes.Sizes.{Sizes}
 use Rattle.pin_rule.specs.Hands.{view_of}
 use Rattle.pin_rule.proofs.KindLoads.{keeps_load_place}
@@ -37,7 +37,10 @@ read_row-count-requires-clause-named g c = let k = c.load_place-met in let met :
 pub returns-clause-some : goal.returns-clause-some
 returns-clause-some g c = let k = c.load_place-met in let met : ℕ = k.result in let e = c.read_row-count.ensures in (
   e.few,
-  (met - 1, reads.reads_row c.args.current (view_of c.args.hand.now) c.requires.editor c.args.place met (view_of k.new.self) k.ensures.view (met - 1)
-      (row_met met c.if-met-eq0.false) k.ensures.met.0 (view_of c.read_row-count.new.hand) (take c.read_row-count.result c.read_row-count.new.buffer)
-      e.read e.is_whole),
+  (
+    met - 1,
+    reads.reads_row c.args.current (view_of c.args.hand.now) c.requires.editor c.args.place met (view_of k.new.self) k.ensures.view (met - 1)
+        (row_met met c.if-met-eq0.false) k.ensures.met.0 (view_of c.read_row-count.new.hand) (take c.read_row-count.result c.read_row-count.new.buffer)
+        e.read e.is_whole,
+  ),
 )

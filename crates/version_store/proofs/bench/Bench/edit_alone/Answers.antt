@@ -1,10 +1,9 @@
-use Rattle.std.proofs.Common.{◌≡◌, ◌≢◌, ◌<◌, ◌+◌, [], ℕ, List, length, refl, sym, ap, ◌∙◌, subst, arith}
+use Rattle.std.proofs.Common.{List, length, refl, sym, ap, ◌∙◌, subst}
 use Rattle.pin_rule.specs.declared.sizes.Sizes.{Sizes}
 use Rattle.pin_rule.specs.declared.view.KnownPlace.{KnownPlace}
-use Rattle.pin_rule.specs.Hands.{view_of, table_of}
+use Rattle.pin_rule.specs.Hands.{view_of}
 use Rattle.pin_rule.specs.Lists.{In}
-use Rattle.version_store.specs.Roles.{role_of}
-use Rattle.version_store.specs.Means.{editor_of, bench_of}
+use Rattle.version_store.specs.Means.{editor_of}
 use Rattle.version_store.specs.Graphs.{rows_known, IsWholeKnown}
 use Rattle.version_store.proofs.GivenUp.{alike_all}
 use Rattle.version_store.proofs.KnownAgain.{known_again}

@@ -1,4 +1,4 @@
-use Rattle.std.proofs.Common.{◌≡◌, sym, ap, ◌∙◌, subst}
+use Rattle.std.proofs.Common.{sym, ap, ◌∙◌, subst}
 use Rattle.pin_rule.specs.declared.view.View.{View}
 use Rattle.version_store.specs.Roles.{role_of}
 use Rattle.version_store.specs.Graphs.{rows_known, IsWholeKnown}

@@ -3,7 +3,6 @@ use Rattle.std.specs.Prelude.{Option, Some, None, IfNone, IfSome}
 use Rattle.atomic_table.specs.Seated.{TableId}
 use Rattle.pin_rule.specs.declared.sizes.Sizes.{Sizes}
 use Rattle.pin_rule.specs.declared.view.View.{View}
-use Rattle.pin_rule.specs.declared.view.Live.{Live}
 use Rattle.pin_rule.specs.declared.view.Role.{Role}
 use Rattle.pin_rule.specs.Hands.{view_of, table_of}
 use Rattle.pin_rule.specs.Lists.{In}
@@ -15,7 +14,7 @@ use Rattle.version_store.specs.Graphs.{rows_known, IsWholeKnown}
 use Rattle.version_store.specs.Meaning.{bench_meaning}
 use Rattle.version_store.specs.BenchRows.{LoadsPlace}
 use Rattle.version_store.specs.PlaceReading.{ReadsPlace}
-use Rattle.version_store.proofs.BenchPlace.{IsOnce, once_told, still_known, loads_place, row_there}
+use Rattle.version_store.proofs.BenchPlace.{once_told, still_known, loads_place, row_there}
 use Rattle.version_store.proofs.KnownAgain.{known_again}
 use Rattle.version_store.proofs.bench.Bench.row.Goals as goal
 

@@ -1,7 +1,6 @@
-use Rattle.std.proofs.Common.{◌≡◌, ◌≢◌, ◌<◌, ◌-◌, ◌+◌, ℕ, suc, take, slice_index, inl, inr, sym, ap, ◌∙◌, subst, arith}
+use Rattle.std.proofs.Common.{◌≡◌, ◌<◌, ◌-◌, ◌+◌, ℕ, suc, take, slice_index, inl, inr, sym, ap, ◌∙◌, subst, arith}
 use mathlib.Core.Logic.{dite}
 use native.Mathlib.Decide.{ℕ_discrete}
-use Rattle.std.specs.Prelude.{true}
 use Rattle.pin_rule.specs.declared.sizes.Sizes.{Sizes}
 use Rattle.pin_rule.specs.Lists.{is_in}
 use Rattle.pin_rule.specs.Making.{rows_of}
@@ -33,8 +32,8 @@ loop-place-preserved c = let i = c.loop-place.invariant in let places = c.args.p
       sizes = e.sizes ∙ i.sizes;
       noted = λ r lt. dite (ℕ_discrete r row)
           (λ same. ap (λ (k : ℕ). is_marked c.set.new.self.sizes c.set.new.self.marks.items c.args.page k) same ∙ e.here
-              ∙ sym (names_it places n c.loop-place-test.true row is) ∙ ap (λ (k : ℕ). is_in k (rows_of (take (n + 1) places))) (sym same))
+          ∙ sym (names_it places n c.loop-place-test.true row is) ∙ ap (λ (k : ℕ). is_in k (rows_of (take (n + 1) places))) (sym same))
           (λ ne. e.else_ c.args.page r (subst (λ (z : Sizes). r < z.rows) (sym i.sizes) lt) (inr ne) ∙ i.noted r lt
-              ∙ sym (names_other places n c.loop-place-test.true row r is ne));
+          ∙ sym (names_other places n c.loop-place-test.true row r is ne));
       others = λ p r lt ne. e.else_ p r (subst (λ (z : Sizes). r < z.rows) (sym i.sizes) lt) (inl ne) ∙ i.others p r lt ne;
     }

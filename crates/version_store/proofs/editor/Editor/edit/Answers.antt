@@ -1,7 +1,6 @@
-use Rattle.std.proofs.Common.{◌≡◌, ◌≢◌, ◌<◌, ◌+◌, ◌∷◌, [], ◌++◌, ℕ, List, length, get_or, inl, inr, sym, refl, ap, ◌∙◌, subst, arith}
+use Rattle.std.proofs.Common.{◌≡◌, ◌+◌, ◌∷◌, [], ◌++◌, ℕ, List, length, get_or, inl, inr, sym, ap, ◌∙◌, subst, arith}
 use Rattle.pin_rule.specs.declared.content.Entry.{Entry}
 use Rattle.pin_rule.specs.declared.sizes.Sizes.{Sizes}
-use Rattle.pin_rule.specs.declared.view.Older.{Older}
 use Rattle.pin_rule.specs.Hands.{view_of}
 use Rattle.version_store.specs.declared.live_version.OlderVersion.{OlderVersion}
 use Rattle.version_store.specs.LivePages.{oldest_first}

@@ -1,6 +1,6 @@
-use Rattle.std.proofs.Common.{◌≡◌, ◌+◌, ℕ, suc, [], length, inl, inr, refl, sym, ap, ◌∙◌, subst, arith}
+use Rattle.std.proofs.Common.{◌≡◌, ◌+◌, ℕ, suc, length, inl, inr, refl, ap, ◌∙◌, subst, arith}
 use Rattle.version_store.specs.Means.{editor_of}
-use Rattle.version_store.specs.GivingUp.{GivesUp, Stops}
+use Rattle.version_store.specs.GivingUp.{GivesUp}
 use Rattle.version_store.proofs.OldestNoted.{none_older}
 use Rattle.version_store.proofs.GivenUp.{alike}
 use Rattle.version_store.proofs.editor.Editor.give_up_dropped.Goals as goal

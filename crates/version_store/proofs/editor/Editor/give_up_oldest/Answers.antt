@@ -4,12 +4,10 @@ use Rattle.atomic_table.specs.Seated.{TableId}
 use Rattle.pin_rule.specs.declared.sizes.Sizes.{Sizes}
 use Rattle.pin_rule.specs.declared.view.View.{View}
 use Rattle.pin_rule.specs.declared.view.Role.{Role}
-use Rattle.pin_rule.specs.declared.view.Live.{Live}
 use Rattle.pin_rule.specs.declared.view.Older.{Older}
 use Rattle.pin_rule.specs.declared.view.GivingUp.{GivingUp}
 use Rattle.pin_rule.specs.Hands.{view_of, table_of}
 use Rattle.pin_rule.specs.GivingUp.{before_last, last_of, last_live}
-use Rattle.pin_rule.specs.Lists.{In, is_in}
 use Rattle.pin_rule.specs.Steps.{loaded_release, after_load_release}
 use Rattle.pin_rule.specs.Told.{Meets, IsReleaseOf}
 use Rattle.pin_rule.specs.declared.ops.Op.TheVariants as op
@@ -133,7 +131,7 @@ module _ (v : View) (l n : Lives) (h : IsNotedIn (role_of v) l) (some : 0 < leng
     (first : x ≡ get_or l.older.items 0 x) (met : ℕ) (u : View) (has : v.role ≡ Some (role_of v)) (idle : (role_of v).giving_up ≡ None)
     (meets : Meets v (op.LoadRelease x.live.page) met) (is : u ≡ after_load_release v x.live.page met) (all : x.taken ≤ met - x.live.base)
     (left : IsNoted (role_of v).newest (before_last (a v l h some x first met u has meets is) (os v l h some x first met u has meets is))
-        (((last_of (a v l h some x first met u has meets is) (os v l h some x first met u has meets is)).live.page, met) ∷ (role_of v).released) n)
+    (((last_of (a v l h some x first met u has meets is) (os v l h some x first met u has meets is)).live.page, met) ∷ (role_of v).released) n)
     (share : v.share ≢ 0) (unpinned : v.pinned ≡ None) where
   abbrev first_ : Older
   first_ = a v l h some x first met u has meets is

@@ -1,4 +1,4 @@
-use Rattle.std.proofs.Common.{◌+◌, ℕ, length, sym, ap, ◌∙◌}
+use Rattle.std.proofs.Common.{◌+◌, ℕ, ap, ◌∙◌}
 use Rattle.pin_rule.specs.Hands.{view_of}
 use Rattle.version_store.specs.Roles.{role_of}
 use Rattle.version_store.proofs.SparePages.{older_many}

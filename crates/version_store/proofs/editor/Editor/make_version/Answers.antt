@@ -1,18 +1,13 @@
-use Rattle.std.proofs.Common.{◌≡◌, ◌≢◌, ◌<◌, ◌+◌, ◌%◌, ◌∷◌, [], ◌++◌, ℕ, suc, List, length, length-append, slice_index, inl, sym, refl, ap, ◌∙◌, subst, arith}
+use Rattle.std.proofs.Common.{◌≡◌, ◌<◌, ◌+◌, ◌%◌, ◌∷◌, [], ℕ, suc, List, length, length-append, slice_index, inl, sym, refl, ap, ◌∙◌, subst, arith}
 use Rattle.std.proofs.lemmas.List.{with_items_is}
 use Rattle.std.specs.Prelude.{Some}
 use Rattle.pin_rule.specs.declared.sizes.Sizes.{Sizes}
-use Rattle.pin_rule.specs.declared.view.Live.{Live}
-use Rattle.pin_rule.specs.declared.view.Older.{Older}
 use Rattle.pin_rule.specs.declared.view.Role.{Role}
 use Rattle.pin_rule.specs.Hands.{view_of}
-use Rattle.pin_rule.specs.Layout.{taken_named}
 use Rattle.pin_rule.specs.Making.{rows_of}
 use Rattle.pin_rule.specs.PartLive.{known_release}
-use Rattle.version_store.specs.declared.lives.Lives.{Lives}
 use Rattle.version_store.specs.declared.live_version.LiveVersion.{LiveVersion}
 use Rattle.version_store.specs.Roles.{role_of, role_or_first}
-use Rattle.version_store.specs.Notes.{IsNotedIn}
 use Rattle.version_store.proofs.SparePages.{spare, older_many}
 use Rattle.version_store.proofs.OldestNoted.{noted_for}
 use Rattle.version_store.proofs.editor.Editor.make_version.Goals as goal

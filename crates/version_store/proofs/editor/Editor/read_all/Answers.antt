@@ -1,4 +1,4 @@
-use Rattle.std.proofs.Common.{◌≡◌, ◌<◌, ℕ, inl, refl, sym, ap, ◌∙◌, subst, arith}
+use Rattle.std.proofs.Common.{◌<◌, ℕ, inl, refl, sym, ap, subst, arith}
 use Rattle.std.specs.Prelude.{Some}
 use Rattle.atomic_table.specs.Seated.{TableId}
 use Rattle.pin_rule.specs.declared.sizes.Sizes.{Sizes}
@@ -29,8 +29,8 @@ returns g c = let e = c.args.self.now in let f = c.read_page.ensures.found in le
           (λ x i. let a = in_at (Some x) f.0 i in wholes a.0 x a.1) f.2.goes f.2.role),
       λ all. let within : (l : KnownPlace) → In l w.known → l.place < e.sizes.places
           = f.2.inside all (let n = f.1 in let p = e.sizes.places_in in omega arith) in record {
-        all_known = whole_known e.sizes v.known w.known f.0 f.1 (f.2.learns all) wholes (f.2.alike all) within;
-        known = known_found e.sizes v.known w.known f.0 f.1 (f.2.learns all) wholes (f.2.alike all) within;
-        every = found_known e.sizes v.known w.known f.0 f.1 (f.2.learns all) wholes (f.2.alike all) within;
-      },
+            all_known = whole_known e.sizes v.known w.known f.0 f.1 (f.2.learns all) wholes (f.2.alike all) within;
+            known = known_found e.sizes v.known w.known f.0 f.1 (f.2.learns all) wholes (f.2.alike all) within;
+            every = found_known e.sizes v.known w.known f.0 f.1 (f.2.learns all) wholes (f.2.alike all) within;
+          },
     )

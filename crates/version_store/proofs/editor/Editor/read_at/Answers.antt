@@ -1,8 +1,7 @@
-use Rattle.std.proofs.Common.{◌≡◌, ◌≤◌, ◌<◌, ℕ, List, take, length, inl, refl, sym, ap, ◌∙◌, subst}
+use Rattle.std.proofs.Common.{◌≡◌, ◌≤◌, ◌<◌, ℕ, List, take, length, inl, refl, sym, ◌∙◌, subst}
 use Rattle.std.proofs.lemmas.List.{with_items_is}
 use Rattle.std.specs.Prelude.{Option, Some, None, IfNone, IfSome}
 use Rattle.pin_rule.specs.declared.sizes.Sizes.{Sizes}
-use Rattle.pin_rule.specs.declared.view.View.{View}
 use Rattle.pin_rule.specs.Hands.{view_of}
 use Rattle.version_store.specs.declared.current.Current.{Current}
 use Rattle.version_store.specs.PlaceReading.{ReadsPlace}

@@ -1,4 +1,4 @@
-use Rattle.std.proofs.Common.{◌≡◌, ◌<◌, ◌+◌, ◌∷◌, [], ℕ, List, map, length, refl, sym, ap, ◌∙◌, subst, arith}
+use Rattle.std.proofs.Common.{◌≡◌, ◌<◌, List, map, length, sym, ap, ◌∙◌, subst, arith}
 use Rattle.slot_store.specs.declared.pass.Pass.{Pass}
 use Rattle.slot_store.specs.Means.{pass_of}
 use Rattle.version_store.specs.Means.{editor_of}

@@ -1,4 +1,4 @@
-use Rattle.std.proofs.Common.{◌≡◌, ◌+◌, map, length, vec_len}
+use Rattle.std.proofs.Common.{◌≡◌, ◌+◌, map, length}
 use Rattle.slot_store.specs.Means.{pass_of}
 use Rattle.version_store.specs.Means.{editor_of}
 use Rattle.version_store.specs.Gathering.{AreOfTable, taken_in_all}

@@ -1,4 +1,4 @@
-use Rattle.std.proofs.Common.{◌≡◌, ◌+◌, ◌∷◌, ℕ, List, length, set, inl, inr, sym, ap, ◌∙◌, length-set, arith}
+use Rattle.std.proofs.Common.{◌≡◌, length, inl, inr, sym, ap, ◌∙◌, length-set, arith}
 use Rattle.pin_rule.specs.GivingUp.{last_of, before_last}
 use Rattle.pin_rule.proofs.Oldest.{live_whole}
 use Rattle.version_store.specs.declared.live_version.OlderVersion.{OlderVersion}

@@ -1,4 +1,4 @@
-use Rattle.std.proofs.Common.{◌≡◌, ◌<◌, ℕ, length, inl, inr, sym, subst, arith}
+use Rattle.std.proofs.Common.{◌<◌, ℕ, length, inr, subst, arith}
 use Rattle.pin_rule.specs.Lists.{In}
 use Rattle.version_store.specs.LivePages.{pages_noted}
 use Rattle.version_store.proofs.Noting.{page_at, page_next}
