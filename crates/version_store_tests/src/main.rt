@@ -2,7 +2,7 @@
 //! answer.
 //!
 //! A line has the sizes of the table that are not the largest, how many passes there are, and commands, with a
-//! semicolon between two. A line of `threads` has passes and an editor work at the same time, and one of `alone` has a
+//! semicolon between two. A line of `threads` or of `soak` has passes and an editor work at the same time, and one of `alone` has a
 //! bench that was gathered make some versions. The output that is wanted was worked out from the definitions.
 #![tactic(auto)]
 
@@ -21,6 +21,9 @@ use std::thread::Threads;
 fn told_line<R: Threads + Sync>(rt: &HostRuntime, threads: &R, line: &str) -> io::Result<String> {
     if let Some(count) = line.strip_prefix("threads ") {
         return Ok(working::told_together(threads, rt.alloc(), count)?);
+    }
+    if let Some(count) = line.strip_prefix("soak ") {
+        return Ok(working::told_soak(threads, rt.alloc(), count)?);
     }
     if let Some(edits) = line.strip_prefix("alone ") {
         return Ok(alone::told_alone(rt.alloc(), number(edits))?);
