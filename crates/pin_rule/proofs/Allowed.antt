@@ -45,6 +45,8 @@ alike v (op.LoadLog entry index) n = let a = word_alike (is_next v entry index) 
 alike v (op.WriteLog entry index word) n = (refl, refl)
 alike v (op.WritePlace page place word) n = (refl, refl)
 alike v (op.SwapCurrent version page) n = (refl, refl)
+alike v (op.LoadRelease page) n = (refl, refl)
+alike v (op.FreeRow row) n = (refl, refl)
 
 pub exchange_is : (new n : ℕ) → exchanged new n ≡ either (eqb n 0) new n
 exchange_is new zero = refl

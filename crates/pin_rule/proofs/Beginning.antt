@@ -87,7 +87,7 @@ begins L F z first = let ws = replicate (word_count z) (let o : ℕ = 0 in o) in
         pages_differ = λ a b i j _. ap (λ (x : Live). x.version) (only a i) ∙ sym (ap (λ (x : Live). x.version) (only b j));
         room = λ m e. absurd (none_some m e);
         making = λ m e. absurd (none_some m e);
-        idle = refl;
+        given_up = λ g e. absurd (none_some g e);
       };
       pinned = each (PinsLive first_role) (λ p e. absurd (none_some p e));
       pins = record {
@@ -96,6 +96,7 @@ begins L F z first = let ws = replicate (word_count z) (let o : ℕ = 0 in o) in
               y.1 in omega arith)
           | inr y ↦ absurd y.1
         ];
+        from_base = λ l i. subst (λ (m : Live). m.base ≤ release z ws m.page) (sym (only l i)) (omega arith);
         released = λ page _ _. none_dropped page;
       };
       budget = (let a = sum_zero z.versions (release z ws) none_dropped in omega arith);
@@ -113,6 +114,8 @@ begins L F z first = let ws = replicate (word_count z) (let o : ℕ = 0 in o) in
       carried = record {
         between = λ a b c r ia ib ic _ _ x _. absurd (not_zero (entry z ws a.page x.0) r (empty a.page x.0) x.2);
         after_left = λ g b c r e _ _ _ _ _. absurd (none_some g e);
+        range = λ g p r e _ _. absurd (none_some g e);
+        once = λ g p q r e _ _ _ _. absurd (none_some g e);
         stands = λ l r i c. absurd (subst (λ (x : Live). In r x.carried) (only l i) c);
         kept = λ m next p r e _ _ _. absurd (none_some m e);
       };

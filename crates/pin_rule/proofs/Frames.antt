@@ -92,6 +92,8 @@ word_in z (op.LoadLog entry index) i = log_in z entry index i.0 i.1
 word_in z (op.WriteLog entry index word) i = log_in z entry index i.0 i.1
 word_in z (op.WritePlace page place word) i = place_in z page place i.0 i.1
 word_in z (op.SwapCurrent version page) i = omega arith
+word_in z (op.LoadRelease page) i = release_in z page i
+word_in z (op.FreeRow row) i = claim_in z row i
 
 module _ (z : Sizes) (words : List ℕ) (x : ℕ) where
   other : (i j : ℕ) → j ≢ i → slice_index (set words i x) j ≡ slice_index words j

@@ -13,17 +13,16 @@ use Rattle.pin_rule.specs.declared.view.OwnRow.{OwnRow}
 use Rattle.pin_rule.specs.declared.ops.Op.TheVariants as op
 use Rattle.pin_rule.specs.Layout.{claim_word, claim, row_at}
 use Rattle.pin_rule.specs.Views.{Owns, OwnsAt}
-use Rattle.pin_rule.specs.Pages.{IsHeldLive}
+use Rattle.pin_rule.specs.Pages.{IsHeldLive, IsToFree}
 use Rattle.pin_rule.specs.PartClaims.{IsOwned}
 use Rattle.pin_rule.specs.Lawful.{Lawful}
 use Rattle.pin_rule.specs.Steps.{after_claim}
 use Rattle.pin_rule.specs.Keeps.{Keeps}
 use Rattle.pin_rule.proofs.Lists.{not_one}
 use Rattle.pin_rule.proofs.Frames.{Same, claim_in, wrote, claim-claim, claim-entry, claim-row, claim-cur, claim-release, claim-logged}
-use Rattle.pin_rule.proofs.Parts.{Kept, live_on, live_back, owned_moves}
-use Rattle.pin_rule.proofs.Versions.{idle}
+use Rattle.pin_rule.proofs.Parts.{Kept, live_on, live_back, free_on, free_back, owned_moves}
 use Rattle.pin_rule.proofs.Settling.{settles, right_pinned}
-use Rattle.pin_rule.proofs.KindLoads.{learns_met}
+use Rattle.pin_rule.proofs.Learning.{learns_met}
 use Rattle.pin_rule.proofs.Seats.{IsAlike, IsSteady, none_some, same_some, owns_cases, owns_here, owns_else}
 
 module _ (L : List Entry → Type 0) (F : List Entry → List ℕ → Type 0) (v : View) (row : ℕ) (inside : row < v.sizes.rows) (none : v.own ≡ None)
@@ -58,10 +57,13 @@ module _ (L : List Entry → Type 0) (F : List Entry → List ℕ → Type 0) (v
     same r i _ = sym (claim-row z words 1 row r i inside)
 
     kept : Kept z words words' h.role
-    kept = record { places = λ l p _ _. claim-entry z words 1 row l.page p inside; in_use = λ r _ c _. stays r c; rows = λ r _ _ _. same r }
+    kept = record { places = λ l p _ _. claim-entry z words 1 row l.page p inside; in_use = λ r _ c _. stays r c; rows = λ r _ _ _. same r; given = λ g p _ _. claim-entry z words 1 row g.page p inside }
 
     outside : ¬ (IsHeldLive z words h.role row)
     outside x = not_one (claim z words row) ((h.pages x.0 x.1).entries x.2.0 row x.2.1 x.2.2).in_use free
+
+    not_left : ¬ (IsToFree z words h.role row)
+    not_left t = not_one (claim z words row) (h.claims.to_free row t).1 free
 
     apart : (i : ℕ) (p : OwnRow) → OwnsAt views i p → p.row ≢ row
     apart i p x e = not_one (claim z words p.row) (h.claims.owned i p x).in_use (ap (claim z words) e ∙ free)
@@ -87,7 +89,7 @@ module _ (L : List Entry → Type 0) (F : List Entry → List ℕ → Type 0) (v
               (λ e. inl (id, o, owns_here views id v w at o refl, sym e))
               (λ n. elim (h.claims.in_use r ri (sym (claim-claim z words 1 row r n) ∙ c')) [
                 | inl x ↦ inl (x.0, x.1, owns_else views id v w at x.0 x.1 (other x.0 x.1 x.2) x.2, x.3)
-                | inr y ↦ elim y [ inl x ↦ inr (inl (live_on z words words' h.role kept r x)) | inr x ↦ absurd (idle z h.role h.live x.0 x.1) ]
+                | inr y ↦ elim y [ inl x ↦ inr (inl (live_on z words words' h.role kept r x)) | inr x ↦ inr (inr (free_on z words words' h.role kept r x)) ]
               ]);
           owned = λ i p x. elim (owns_cases views id v w at i p x) [
             | inl t ↦ subst (IsOwned z words' h.role) (sym (mine p t.1))
@@ -95,8 +97,7 @@ module _ (L : List Entry → Type 0) (F : List Entry → List ℕ → Type 0) (v
                   in_range = inside;
                   in_use = here;
                   in_no_page = (λ y. outside (live_back z words words' h.role kept row y));
-                  not_to_free =
-                      (λ y. idle z h.role h.live y.0 y.1);
+                  not_to_free = (λ y. not_left (free_back z words words' h.role kept row y));
                   written = tt;
                 })
             | inr t ↦ let q = h.claims.owned i p t.1 in owned_moves z words words' h.role F h.log h.live h.pages kept p q (stays p.row q.in_use) (same p.row)
@@ -113,7 +114,7 @@ module _ (L : List Entry → Type 0) (F : List Entry → List ℕ → Type 0) (v
                   h.claims.one_owner i j p q t.1 u.1 e
             ]
           ];
-          to_free = λ r x. absurd (idle z h.role h.live x.0 x.1);
+          to_free = λ r x. let k = h.claims.to_free r (free_back z words words' h.role kept r x) in (k.0, stays r k.1);
         })
         kept (h.facts id v at) (h.known id v at)
 

@@ -9,13 +9,12 @@ use Rattle.pin_rule.specs.declared.view.OwnRow.{OwnRow}
 use Rattle.pin_rule.specs.declared.ops.Op.TheVariants as op
 use Rattle.pin_rule.specs.Layout.{claim_word, claim, row_at}
 use Rattle.pin_rule.specs.Views.{OwnsAt}
-use Rattle.pin_rule.specs.Pages.{IsHeldLive}
+use Rattle.pin_rule.specs.Pages.{IsHeldLive, IsToFree}
 use Rattle.pin_rule.specs.Steps.{after_give_back}
 use Rattle.pin_rule.specs.Keeps.{Keeps}
 use Rattle.pin_rule.proofs.Lists.{not_one}
 use Rattle.pin_rule.proofs.Frames.{Same, claim_in, wrote, claim-claim, claim-entry, claim-row, claim-cur, claim-release, claim-logged}
-use Rattle.pin_rule.proofs.Parts.{Kept, live_on, owned_moves}
-use Rattle.pin_rule.proofs.Versions.{idle}
+use Rattle.pin_rule.proofs.Parts.{Kept, live_on, free_on, free_back, owned_moves}
 use Rattle.pin_rule.proofs.Settling.{settles, right_free}
 use Rattle.pin_rule.proofs.Seats.{IsAlike, none_some, owner_row, owns_cases, owns_else}
 
@@ -33,6 +32,7 @@ module _ (L : List Entry → Type 0) (F : List Entry → List ℕ → Type 0) (v
         places = λ l p _ _. claim-entry z words 0 row l.page p inside;
         in_use = λ r _ c st. stays r (λ e. mine.in_no_page (subst (IsHeldLive z words h.role) e st)) ∙ c;
         rows = λ r _ _ _. same r;
+        given = λ g p _ _. claim-entry z words 0 row g.page p inside;
       } in
       let theirs : (i : ℕ) (p : OwnRow) → OwnsAt views' i p → (i ≢ id) × OwnsAt views i p = λ i p y. elim (owns_cases views id v w at i p y) [
         | inl t ↦
@@ -61,11 +61,12 @@ module _ (L : List Entry → Type 0) (F : List Entry → List ℕ → Type 0) (v
                     ∙ sym (owner_row views id v o y.1 at own (subst (λ (j : ℕ). OwnsAt views j y.1) e y.2)))) y.2,
                 y.3,
               )
-              | inr y ↦ elim y [ inl t ↦ inr (inl (live_on z words words' h.role kept r t)) | inr t ↦ absurd (idle z h.role h.live t.0 t.1) ]
+              | inr y ↦ elim y [ inl t ↦ inr (inl (live_on z words words' h.role kept r t)) | inr t ↦ inr (inr (free_on z words words' h.role kept r t)) ]
             ]);
         owned = λ i p y. let t = theirs i p y in let q = h.claims.owned i p t.1 in
             owned_moves z words words' h.role F h.log h.live h.pages kept p q (stays p.row (others i p t.0 t.1) ∙ q.in_use) (same p.row);
         one_owner = λ i j p q y y' e. h.claims.one_owner i j p q (theirs i p y).1 (theirs j q y').1 e;
-        to_free = λ r t. absurd (idle z h.role h.live t.0 t.1);
+        to_free = λ r t. let u = free_back z words words' h.role kept r t in let k = h.claims.to_free r u in
+            (k.0, stays r (λ e. mine.not_to_free (subst (IsToFree z words h.role) e u)) ∙ k.1);
       })
       kept (h.facts id v at) (h.known id v at)

@@ -25,21 +25,12 @@ use Rattle.pin_rule.specs.PartFacts.{Knows, KnowsWhole}
 use Rattle.pin_rule.specs.Lawful.{Lawful}
 use Rattle.pin_rule.specs.Steps.{noted, loaded_log, is_below, is_next, with_word, after_load_log}
 use Rattle.pin_rule.specs.Keeps.{Keeps}
+use Rattle.pin_rule.proofs.Bools.{no_bool, true_false, both_true}
 use Rattle.pin_rule.proofs.Lists.{total_alike}
 use Rattle.pin_rule.proofs.Frames.{set_same}
 use Rattle.pin_rule.proofs.Seats.{IsAlike, each_set, owned_before, owned_after, claims_by}
 use Rattle.pin_rule.proofs.Versions.{live_version, editor_log}
 use Rattle.pin_rule.proofs.Settling.{builds, right_on}
-
-no_bool : (let f : Bool = false in f ≡ true) → ⊥
-no_bool e = cc
-
-true_false : (let t : Bool = true in t ≡ false) → ⊥
-true_false e = cc
-
-both_true : (a b : Bool) → cond a b false ≡ true → (a ≡ true) × (b ≡ true)
-both_true true b e = (refl, e)
-both_true false b e = absurd (no_bool e)
 
 pub at_end : {A : Type 0} (l rest : List A) (a : A) → get_elem? (l ++ rest) (length l) ≡ maybe.some a → (more : List A) × (l ++ rest ≡ (l ++ a ∷ []) ++ more)
 at_end [] [] a e = absurd (maybe.some-ne-none a (sym e))
@@ -69,6 +60,7 @@ module _ (L : List Entry → Type 0) (F : List Entry → List ℕ → Type 0) (z
       (h.pinned id v at)
       (record {
         counted = λ l t k. let c = h.pins.counted l t k in let a = total_alike (λ (u : View). pins_on l.version u.pinned) views id v w at refl in omega arith;
+        from_base = h.pins.from_base;
         released = h.pins.released;
       })
       (let b = h.budget in let a = total_alike pins_of views id v w at refl in omega arith)

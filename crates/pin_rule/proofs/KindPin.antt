@@ -1,5 +1,5 @@
 -- A pin that is taken, and one that is dropped, keep the rule.
-use Rattle.std.proofs.Common.{◌≡◌, ◌≢◌, ℕ, suc, ◌+◌, ◌<◌, ◌≤◌, List, inl, inr, map, slice_index, set, length, length-set, sym, refl, ap, ◌∙◌, subst, arith}
+use Rattle.std.proofs.Common.{◌≡◌, ◌≢◌, ℕ, ◌+◌, ◌<◌, ◌≤◌, List, inl, inr, slice_index, set, length, length-set, sym, refl, ap, ◌∙◌, subst, arith}
 use mathlib.Core.Option as maybe
 use mathlib.Core.Logic.{dite}
 use native.Mathlib.Decide.{ℕ_discrete}
@@ -10,24 +10,21 @@ use Rattle.pin_rule.specs.declared.content.Entry.{Entry}
 use Rattle.pin_rule.specs.declared.view.View.{View}
 use Rattle.pin_rule.specs.declared.view.Pin.{Pin}
 use Rattle.pin_rule.specs.declared.view.Live.{Live}
-use Rattle.pin_rule.specs.declared.view.Older.{Older}
-use Rattle.pin_rule.specs.declared.view.Role.{Role}
 use Rattle.pin_rule.specs.declared.ops.Op.TheVariants as op
 use Rattle.pin_rule.specs.Layout.{release_word, word_count, version_named, page_named, release, claim, entry, logged, row_at}
-use Rattle.pin_rule.specs.Lists.{In}
 use Rattle.pin_rule.specs.PartCurrent.{KnowsLog, current_of}
 use Rattle.pin_rule.specs.PartShares.{IsRightful}
-use Rattle.pin_rule.specs.PartLive.{IsVersions, PinsLive, Pins, Budget, pins_on, one_pin, pins_of, pinning}
+use Rattle.pin_rule.specs.PartLive.{PinsLive, Pins, Budget, pins_on, one_pin, pins_of, pinning}
 use Rattle.pin_rule.specs.PartFacts.{Knows, KnowsWhole}
 use Rattle.pin_rule.specs.Lawful.{Lawful}
 use Rattle.pin_rule.specs.Ops.{one_more}
 use Rattle.pin_rule.specs.Steps.{pin_of, after_pin, after_unpin}
 use Rattle.pin_rule.specs.Keeps.{Keeps}
-use Rattle.pin_rule.proofs.Lists.{in_at, in_mapped, total_set, sum_same, sum_more}
+use Rattle.pin_rule.proofs.Lists.{total_set, sum_same, sum_more}
 use Rattle.pin_rule.proofs.Frames.{wrote, release_in, cur-release, cur-claim, cur-entry, cur-logged, cur-row, release-cur, release-release, release-claim}
 use Rattle.pin_rule.proofs.Frames.{release-entry, release-logged, release-row}
 use Rattle.pin_rule.proofs.Seats.{IsAlike, none_some, same_some, each_set, owned_before, owned_after, claims_by}
-use Rattle.pin_rule.proofs.Versions.{newest_live, same_live, taken_live}
+use Rattle.pin_rule.proofs.Versions.{newest_live, older_below, same_live, taken_live}
 use Rattle.pin_rule.proofs.Parts.{Kept, current_moves, pages_move, carried_moves, knows_on, known_on, claims_keep}
 use Rattle.pin_rule.proofs.Settling.{builds, right_pinned}
 use Rattle.pin_rule.proofs.Numbers.{no_carry, room_above}
@@ -46,7 +43,7 @@ module _ (L : List Entry → Type 0) (F : List Entry → List ℕ → Type 0) (z
     (at : get_elem? views id ≡ maybe.some v)
     (h : Lawful L F z words views) (long : length words' ≡ length words) (alike : IsAlike v w) (right : IsRightful w) (else_ : Elsewhere z words words') where
   kept : Kept z words words' h.role
-  kept = record { places = λ l p _ _. else_.entries l.page p; in_use = λ r _ c _. else_.claims r ∙ c; rows = λ r _ _ _ i _. sym (else_.rows r i) }
+  kept = record { places = λ l p _ _. else_.entries l.page p; in_use = λ r _ c _. else_.claims r ∙ c; rows = λ r _ _ _ i _. sym (else_.rows r i); given = λ g p _ _. else_.entries g.page p }
 
   pub repins : (taken : ℕ) → slice_index words' 0 ≡ current_of h.role taken → w.own ≡ v.own → (w.log ≡ v.log) → KnowsLog h.log w → Knows z words h.role w
       → KnowsWhole z words h.role w
@@ -66,11 +63,6 @@ module _ (L : List Entry → Type 0) (F : List Entry → List ℕ → Type 0) (z
       (λ j u e. on u (h.facts j u e)))
       (let on = known_on z words words' h.role F h.log h.live h.pages kept in each_set views id v w at (KnowsWhole z words' h.role) (on w whole)
       (λ j u e. on u (h.known j u e)))
-
--- an older version is not the newest
-older_below : (z : Sizes) (role : Role) → IsVersions z role → (o : Older) → In o role.older → o.live.version < role.newest.version
-older_below z role h o i = let r = in_at o.live (map (λ (x : Older). x.live) role.older) (in_mapped (λ (x : Older). x.live) o role.older i) in
-    let e = h.consecutive (suc r.0) o.live r.1 in omega arith
 
 module _ (L : List Entry → Type 0) (F : List Entry → List ℕ → Type 0) (v : View) (some : v.share ≢ 0) (free : v.pinned ≡ None) (left : 1 ≤ v.pins_left) where
   pub keeps_pin : Keeps L F v op.Pin
@@ -110,6 +102,7 @@ module _ (L : List Entry → Type 0) (F : List Entry → List ℕ → Type 0) (v
               let below = older_below z role h.live y.0 y.1 in let is = ap (λ (m : Live). m.version) y.2 in
               let zero_more = pins_else l.version (pin_of n) (λ q. omega arith) in omega arith
         ];
+        from_base = λ l i. let b = h.pins.from_base l i in let r = cur-release z words x l.page in omega arith;
         released = λ page inside none. cur-release z words x page ∙ h.pins.released page inside none;
       })
       (let b = h.budget in let s = sum_same z.versions (release z words') (release z words) (λ page _. cur-release z words x page) in let t =
@@ -146,6 +139,9 @@ module _ (L : List Entry → Type 0) (F : List Entry → List ℕ → Type 0) (v
             (λ other. let r = release-release z words x p.page l.page other in
             let zero_more = pins_else l.version p (λ q. other (ap (λ (m : Live). m.page) (same_live z role h.live l l0.0 live l0.1 (sym q ∙ sym l0.2))
             ∙ l0.3)) in omega arith);
+        from_base = λ l i. let b = h.pins.from_base l i in dite (ℕ_discrete l.page p.page)
+            (λ same. let r0 = ap (release z words) same in let r1 = ap (release z words') same in omega arith)
+            (λ other. let r = release-release z words x p.page l.page other in omega arith);
         released = λ page inside none. release-release z words x p.page page (λ q. none l0.0 l0.1 (l0.3 ∙ sym q)) ∙ h.pins.released page inside none;
       })
       (let b = h.budget in let s = sum_more z.versions (release z words) (release z words') p.page my_page more

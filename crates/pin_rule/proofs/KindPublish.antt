@@ -7,7 +7,7 @@ use mathlib.Core.Bool.{cond}
 use mathlib.Core.Logic.{dite}
 use native.Mathlib.Decide.{ℕ_discrete}
 use lib.ListN.{get_elem?}
-use Rattle.std.specs.Prelude.{Some, None, Option}
+use Rattle.std.specs.Prelude.{Some, None, Option, Bool, true, false}
 use Rattle.pin_rule.specs.declared.sizes.Sizes.{Sizes}
 use Rattle.pin_rule.specs.declared.content.Entry.{Entry}
 use Rattle.pin_rule.specs.declared.view.View.{View}
@@ -17,17 +17,18 @@ use Rattle.pin_rule.specs.declared.view.Role.{Role}
 use Rattle.pin_rule.specs.declared.view.OwnRow.{OwnRow}
 use Rattle.pin_rule.specs.declared.view.WordFact.{WordFact}
 use Rattle.pin_rule.specs.declared.view.KnownPlace.{KnownPlace}
+use Rattle.pin_rule.specs.declared.view.GivingUp.{GivingUp}
 use Rattle.pin_rule.specs.declared.ops.Op.TheVariants as op
 use Rattle.pin_rule.specs.Layout.{place_word, claim, entry, row_at}
 use Rattle.pin_rule.specs.Lists.{Each}
 use Rattle.pin_rule.specs.Rows.{key_of, content_of, on_path}
 use Rattle.pin_rule.specs.Views.{whole, now, OwnsAt, IsLive, version_at}
-use Rattle.pin_rule.specs.Pages.{StandsOnPath, IsEntry, IsPage, IsHeld}
+use Rattle.pin_rule.specs.Pages.{StandsOnPath, IsEntry, IsPage, IsHeld, IsLeft, IsToFree}
 use Rattle.pin_rule.specs.PartClaims.{StandsIn, IsOwned, Claims}
 use Rattle.pin_rule.specs.PartCarried.{Carried}
 use Rattle.pin_rule.specs.PartFacts.{EntryStands, WordStands, Knows, IsKnown, KnowsWhole}
 use Rattle.pin_rule.specs.Lawful.{Lawful, ArePages}
-use Rattle.pin_rule.specs.Steps.{after_publish, own_words, published_words, without_place}
+use Rattle.pin_rule.specs.Steps.{after_publish, own_words, published_words, without_place, keeps_page, words_of_own}
 use Rattle.pin_rule.specs.Ready.{IsReady}
 use Rattle.pin_rule.specs.Keeps.{Keeps}
 use Rattle.pin_rule.proofs.Lists.{each_map, each_in, each_append, each_mapped, not_zero, same_row, total_two}
@@ -35,8 +36,9 @@ use Rattle.pin_rule.proofs.Frames.{Same, key_same, content_same, same_key, place
 use Rattle.pin_rule.proofs.Frames.{place-release, place-logged}
 use Rattle.pin_rule.proofs.Moves.{entry_moves, page_moves}
 use Rattle.pin_rule.proofs.Paths.{on_page}
-use Rattle.pin_rule.proofs.Versions.{Speaks, speaks, same_live, my_log, newest_live, making_apart, idle}
-use Rattle.pin_rule.proofs.KindLoads.{learns_met, met_stands}
+use Rattle.pin_rule.proofs.Versions.{Speaks, speaks, same_live, my_log, newest_live, making_apart}
+use Rattle.pin_rule.proofs.Known.{keeps_newest, known_meets}
+use Rattle.pin_rule.proofs.Learning.{learns_met, met_stands}
 use Rattle.pin_rule.proofs.Settling.{settles_with, right_free}
 use Rattle.pin_rule.proofs.Seats.{IsAlike, none_some, owner_row, each_set, each_other, owns_cases, owns_else}
 
@@ -231,6 +233,17 @@ module _ (L : List Entry → Type 0) (F : List Entry → List ℕ → Type 0) (v
               λ r _ _ _. same r;
         }))
 
+    -- The page that is being given up is another
+
+    given_place : (b : GivingUp) (p : ℕ) → role.giving_up ≡ Some b → p < z.places → entry z words' b.page p ≡ entry z words b.page p
+    given_place b p is pi = place-page z words (suc row) page place b.page p inside pi (λ e. (h.live.given_up b is).apart l live (sym e))
+
+    left_back : (b : GivingUp) (r : ℕ) → role.giving_up ≡ Some b → IsLeft z words' b r → IsLeft z words b r
+    left_back b r is x = (x.0, x.1, x.2, sym (given_place b x.0 is x.1) ∙ x.3)
+
+    not_left : (b : GivingUp) (r : ℕ) → role.giving_up ≡ Some b → r ≡ row → IsLeft z words b r → ⊥
+    not_left b r is e x = mine.not_to_free (b, is, subst (IsLeft z words b) e x, mine.in_no_page)
+
     held_on : (m : Live) (r : ℕ) → IsHeld z words m.page r → IsHeld z words' m.page r
     held_on m r x = (x.0, x.1, up_live m x.0 r x.1 x.2)
 
@@ -261,7 +274,12 @@ module _ (L : List Entry → Type 0) (F : List Entry → List ℕ → Type 0) (v
               h.live.pages_differ a d ia id (s.0 ∙ sym t.0) in omega arith)
         ]
       ];
-      after_left = λ g b d r e ib id le x y. absurd (idle z role h.live g e);
+      after_left = λ a b d r e ib id le x y. let x0 = left_back a r e x in elim (held_cases d r y) [
+        | inl y0 ↦ c.after_left a b d r e ib id le x0 y0
+        | inr t ↦ absurd (not_left a r e t.1 x0)
+      ];
+      range = λ a p r is pi e. c.range a p r is pi (sym (given_place a p is pi) ∙ e);
+      once = λ a p q r is pi qi ep eq. c.once a p q r is pi qi (sym (given_place a p is pi) ∙ ep) (sym (given_place a q is qi) ∙ eq);
       stands = λ m r i x. held_on m r (c.stands m r i x);
       kept = λ m next p r is to lt e. let k = c.kept m next p r is to lt e in let i = newest_live role in (
         held_on role.newest r k.0,
@@ -279,8 +297,7 @@ module _ (L : List Entry → Type 0) (F : List Entry → List ℕ → Type 0) (v
           (λ e x. record {
             known = x.known;
             live = λ m i is. let y = x.live m i is in (y.0, up_live m e.place e.row y.0 y.1);
-            given_up =
-                λ b is _. absurd (idle z role h.live b is);
+            given_up = λ b is ev. let y = x.given_up b is ev in (y.0, given_place b e.place is y.0 ∙ y.1);
           }) u.entries k.0,
       each_map (WordStands z words role) (WordStands z words' role) (λ q x. record {
         known = x.known;
@@ -314,11 +331,45 @@ module _ (L : List Entry → Type 0) (F : List Entry → List ℕ → Type 0) (v
               (x.2 r e),
         )) u.known (k all)
 
+    -- this one knows the row that it published, where the page is the newest
+    new_known : (b : Bool) → keeps_page v page ≡ b
+        → Each (IsKnown z words' role) (cond b (record { place = place; met = suc row; words = words_of_own v.own } ∷ []) [])
+    new_known false is = tt
+    new_known true is = (
+      (
+        inside,
+        ap (λ (q : ℕ). entry z words' q place) (keeps_newest L F z words views id v at h page is) ∙ here,
+        λ r e. subst (λ (u : Option OwnRow). Each (StandsIn z words' r) (words_of_own u)) (sym ready.owns)
+            (let same : row ≡ r = (let two : suc row ≡ suc r = e in omega arith) in
+            subst (λ (q : ℕ). Each (StandsIn z words' q) o.wrote) same (each_map (StandsIn z words row) (StandsIn z words' row) (stands_on row) o.wrote
+            mine.written)),
+      ),
+      tt,
+    )
+
+    my_known : KnowsWhole z words' role w
+    my_known all = each_append (IsKnown z words' role) (cond (keeps_page v page) (record {
+      place = place;
+      met = suc row;
+      words = words_of_own v.own;
+    } ∷ []) []) (without_place place v.known) (new_known (keeps_page v page) refl) (known' v (h.known id v at) all)
+
     others : (i : ℕ) (p : OwnRow) → i ≢ id → OwnsAt views i p → p.row ≢ row
     others i p n y e = n (h.claims.one_owner i id p o y was e)
 
     theirs : (i : ℕ) (p : OwnRow) → OwnsAt views' i p → (i ≢ id) × OwnsAt views i p
     theirs i p y = elim (owns_cases views id v w at i p y) [ inl t ↦ absurd (none_some p t.1) | inr t ↦ t ]
+
+    free_on : (r : ℕ) → IsToFree z words role r → IsToFree z words' role r
+    free_on r t = let x = t.2 in (
+      t.0,
+      t.1,
+      (x.0, x.1, x.2, given_place t.0 x.0 t.1 x.1 ∙ x.3),
+      λ y. elim (held_cases y.0 r y.2) [ inl y0 ↦ t.3 (y.0, y.1, y0) | inr s ↦ not_left t.0 r t.1 s.1 x ],
+    )
+
+    free_back : (r : ℕ) → IsToFree z words' role r → IsToFree z words role r
+    free_back r t = (t.0, t.1, left_back t.0 r t.1 t.2, λ y. t.3 (y.0, y.1, held_on y.0 r y.2))
 
     claims' : Claims z words' views' role
     claims' = record {
@@ -332,17 +383,17 @@ module _ (L : List Entry → Type 0) (F : List Entry → List ℕ → Type 0) (v
                   ∙ sym (owner_row views id v o y.1 at ready.owns (subst (λ (j : ℕ). OwnsAt views j y.1) e y.2)))) y.2,
               y.3,
             )
-            | inr y ↦ elim y [ inl t ↦ inr (inl (t.0, t.1, held_on t.0 r t.2)) | inr t ↦ absurd (idle z role h.live t.0 t.1) ]
+            | inr y ↦ elim y [ inl t ↦ inr (inl (t.0, t.1, held_on t.0 r t.2)) | inr t ↦ inr (inr (free_on r t)) ]
           ]);
       owned = λ i p y. let t = theirs i p y in let q = h.claims.owned i p t.1 in record {
         in_range = q.in_range;
         in_use = stays p.row q.in_range ∙ q.in_use;
         in_no_page = λ st. elim (held_cases st.0 p.row st.2) [ inl x ↦ q.in_no_page (st.0, st.1, x) | inr x ↦ others i p t.0 t.1 x.1 ];
-        not_to_free = λ st. idle z role h.live st.0 st.1;
+        not_to_free = λ st. q.not_to_free (free_back p.row st);
         written = each_map (StandsIn z words p.row) (StandsIn z words' p.row) (stands_on p.row) p.wrote q.written;
       };
       one_owner = λ i j p q y y' e. h.claims.one_owner i j p q (theirs i p y).1 (theirs j q y').1 e;
-      to_free = λ r t. absurd (idle z role h.live t.0 t.1);
+      to_free = λ r t. let k = h.claims.to_free r (free_back r t) in (k.0, stays r k.0 ∙ k.1);
     }
 
     publishes : v.share ≢ 0 → Lawful L F v.sizes words' views'
@@ -359,9 +410,9 @@ module _ (L : List Entry → Type 0) (F : List Entry → List ℕ → Type 0) (v
         })
         claims' pages' carried'
         (let k = moved v (h.facts id v at) in let s = speaks L F z words views id v at h page in each_set views id v w at (Knows z words' role)
-        (met_stands z words' role h.live (version_at v page) v.entries page place (suc row) inside s here k.0, all_words (version_at v page) s k.1)
+        (met_stands z words' role (version_at v page) v.entries page place (suc row) inside s here k.0, all_words (version_at v page) s k.1)
         (λ j u e. moved u (h.facts j u e)))
-        (each_other views id v w at (KnowsWhole z words' role) (known' v (h.known id v at))
+        (each_other views id v w at (KnowsWhole z words' role) my_known
         (λ j u n e all. absurd (some (let t = total_two (λ (x : View). x.share) views j id u v e at n in let s = h.shares.sum in omega arith))))
 
 words_stay : (version : Option ℕ) (own : Option OwnRow) (ws : List WordFact) (m : ℕ) → published_words version own ws (suc m) ≡ ws
@@ -376,13 +427,13 @@ module _ (L : List Entry → Type 0) (F : List Entry → List ℕ → Type 0) (v
       (publishes L F v o g place ready words views id h at k.0 k.1 (k.2 ∙ caught_up) (ap (λ (page : ℕ). entry v.sizes words page place) k.3 ∙ e) some)
   keeps_publish words views id (suc m) h at e = let z = v.sizes in let w = after_publish v p.page place o.row (suc m) in let k = h.facts id v at in
       let n = ready.step_in in
+      let inside : place < z.places = subst (λ (q : ℕ). q < z.places) ready.at (on_page z (key_of g) (omega arith) ready.step) in
       learns_met L F z words views id v w at h (place_word z p.page place) (suc m) e (record { sizes = refl; share = refl; role = refl }) (record {
         log = refl;
         log_words = refl;
         pinned = refl;
         pins_left = refl;
-      }) refl (h.known id v at) (
-        met_stands z words h.role h.live (version_at v p.page) v.entries p.page place (suc m)
-            (subst (λ (q : ℕ). q < z.places) ready.at (on_page z (key_of g) (omega arith) ready.step)) (speaks L F z words views id v at h p.page) e k.0,
+      }) refl (λ all. known_meets L F z words views id v at h all p.page place (suc m) inside e) (
+        met_stands z words h.role (version_at v p.page) v.entries p.page place (suc m) inside (speaks L F z words views id v at h p.page) e k.0,
         subst (Each (WordStands z words h.role)) (sym (words_stay (version_at v p.page) v.own v.words m)) k.1,
       )

@@ -41,11 +41,12 @@ use Rattle.pin_rule.proofs.Numbers.{taken_is}
 use Rattle.pin_rule.proofs.Moves.{page_moves}
 use Rattle.pin_rule.proofs.Seats.{none_some, each_set, each_other, here, owned_before, owned_after, claims_by}
 use Rattle.pin_rule.proofs.Counts.{pins_else}
-use Rattle.pin_rule.proofs.Versions.{newest_live, live_version, making_apart, idle, is_role, log_of_editor}
+use Rattle.pin_rule.proofs.Versions.{newest_live, live_version, making_apart, given_apart, is_role, log_of_editor}
 use Rattle.pin_rule.proofs.Parts.{Kept, held_on, pages_move, carried_moves, knows_on, claims_keep}
 use Rattle.pin_rule.proofs.Settling.{pins_stay, budget_stays}
 use Rattle.pin_rule.proofs.Telling.{few}
-use Rattle.pin_rule.proofs.Places.{each_cond, row_place, place_row, each_entry, each_fact, each_place}
+use Rattle.pin_rule.proofs.Known.{each_cond}
+use Rattle.pin_rule.proofs.Places.{row_place, place_row, each_entry, each_fact, each_place}
 use Rattle.pin_rule.proofs.WholePage.{is_written, writes, is_next, from_newest, whole_page}
 
 -- a log that grew begins as it did
@@ -129,6 +130,7 @@ module _ (L : List Entry → Type 0) (F : List Entry → List ℕ → Type 0) (v
     places = λ l p _ _. cur-entry z words (naming version page) l.page p;
     in_use = λ r _ c _. cur-claim z words (naming version page) r ∙ c;
     rows = λ r _ _ _. same r;
+    given = λ g p _ _. cur-entry z words (naming version page) g.page p;
   }
 
   stands_on : (r : ℕ) (u : ℕ × ℕ) → StandsIn z words r u → StandsIn z words' r u
@@ -242,7 +244,18 @@ module _ (L : List Entry → Type 0) (F : List Entry → List ℕ → Type 0) (v
     ];
     room = λ o e. absurd (none_some o e);
     making = λ o e. absurd (none_some o e);
-    idle = was.idle;
+    given_up = λ g e. let b = was.given_up g e in record {
+      below = λ l i. elim i [
+        | inl n ↦ (let lt = b.below role.newest (newest_live role) in let at_new = ap (λ (x : Live). x.version) n in omega arith)
+        | inr t ↦ b.below l t
+      ];
+      page_in = b.page_in;
+      apart = λ l i. elim i [
+        | inl n ↦ λ same. given_apart z role was m g new.making e (sym same ∙ ap (λ (x : Live). x.page) n ∙ new.page_is)
+        | inr t ↦ b.apart l t
+      ];
+      reached_in = b.reached_in;
+    };
   }
 
   names_on : (p : Pin) → Names role p → Names role' p
@@ -274,6 +287,11 @@ module _ (L : List Entry → Type 0) (F : List Entry → List ℕ → Type 0) (v
             subst (λ (o : Live). release z words' o.page + pinning views' o.version ≡ o.base + t) (sym is) (omega arith)
         | inr i ↦ p.counted l t (inr (x.0, i, x.2, x.3))
       ]
+    ];
+    from_base = λ l i. elim i [
+      | inl e ↦ let free = p.released page page_in (λ o j is. making_apart z role h.live m o new.making j (is ∙ new.page_is)) in
+          subst (λ (o : Live). o.base ≤ release z words' o.page) (sym e) (omega arith)
+      | inr t ↦ p.from_base l t
     ];
     released = λ q inside none. p.released q inside (λ l i. none l (inr i));
   }
@@ -350,6 +368,8 @@ module _ (L : List Entry → Type 0) (F : List Entry → List ℕ → Type 0) (v
           ]
           | inr jd ↦ elim ib [ inl eb ↦ absurd (late b d eb jd le) | inr jb ↦ c.after_left g b d row is jb jd le x y ]
         ];
+        range = c.range;
+        once = c.once;
         stands = λ l row i k. elim i [
           | inl e ↦ subst (λ (x : Live). IsHeld z words' x.page row) (sym e) (holds row (subst (λ (x : Live). In row x.carried) e k))
           | inr j ↦ c.stands l row j k
@@ -396,7 +416,7 @@ module _ (L : List Entry → Type 0) (F : List Entry → List ℕ → Type 0) (v
           )
           | inr j ↦ absurd (let lt = below l j in omega arith)
         ];
-        given_up = λ g is _. absurd (idle z role h.live g is);
+        given_up = λ g is same. absurd (let b = (h.live.given_up g is).below role.newest (newest_live role) in let top = version_is in omega arith);
       })
 
   newest_now : role.newest.version ≡ now v

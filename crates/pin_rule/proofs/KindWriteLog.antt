@@ -120,6 +120,7 @@ module _ (L : List Entry → Type 0) (F : List Entry → List ℕ → Type 0) (v
           places = λ l p il pi. log-entry z words word entry index l.page p (h.live.page_in l il) pi;
           in_use = λ r ri c _. log-claim z words word entry index r ri ∙ c;
           rows = λ r _ _ _ i _. sym (log-row z words word entry index r i room inside);
+          given = λ g p is pi. log-entry z words word entry index g.page p (h.live.given_up g is).page_in pi;
         };
       })
       (record {

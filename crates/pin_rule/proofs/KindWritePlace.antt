@@ -27,7 +27,7 @@ use Rattle.pin_rule.specs.Keeps.{Keeps}
 use Rattle.pin_rule.proofs.Lists.{each_in}
 use Rattle.pin_rule.proofs.Frames.{Same, content_same, wrote, place_in, place-cur, place-release, place-claim, place-entry, place-page, place-row, place-logged}
 use Rattle.pin_rule.proofs.Seats.{none_some, same_some}
-use Rattle.pin_rule.proofs.Versions.{newest_live, making_apart, is_role, log_of_editor}
+use Rattle.pin_rule.proofs.Versions.{newest_live, making_apart, given_apart, is_role, log_of_editor}
 use Rattle.pin_rule.proofs.Parts.{Kept, held_on, content_stays}
 use Rattle.pin_rule.proofs.MakingOn.{role_making, makes}
 
@@ -65,6 +65,7 @@ module _ (L : List Entry → Type 0) (F : List Entry → List ℕ → Type 0) (v
     places = λ l p i pi. place-page v.sizes words word page place l.page p inside pi (apart l i);
     in_use = λ r ri c _. place-claim v.sizes words word page place r ri ∙ c;
     rows = λ r _ _ _. same r;
+    given = λ g p is pi. place-page v.sizes words word page place g.page p inside pi (λ e. given_apart v.sizes h.role h.live m g new.making is (e ∙ new.page_is));
   }
 
   has_making : with_place_word (Some h.role) word ≡ Some (role_making h.role m')

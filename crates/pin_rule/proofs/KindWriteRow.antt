@@ -16,8 +16,7 @@ use Rattle.pin_rule.specs.PartClaims.{StandsIn, IsOwned}
 use Rattle.pin_rule.specs.Steps.{after_write_row, written, without}
 use Rattle.pin_rule.specs.Keeps.{Keeps}
 use Rattle.pin_rule.proofs.Frames.{Same, row_in, wrote, row-claim, row-entry, row-row, row-cur, row-release, row-logged}
-use Rattle.pin_rule.proofs.Parts.{Kept, live_on, live_back, owned_moves}
-use Rattle.pin_rule.proofs.Versions.{idle}
+use Rattle.pin_rule.proofs.Parts.{Kept, live_on, live_back, free_on, free_back, owned_moves}
 use Rattle.pin_rule.proofs.Settling.{settles, right_owner}
 use Rattle.pin_rule.proofs.Seats.{IsAlike, same_some, owner_row, owns_cases, owns_here, owns_else}
 
@@ -44,6 +43,7 @@ module _ (L : List Entry → Type 0) (F : List Entry → List ℕ → Type 0) (v
         places = λ l p i pi. row-entry z words x row index l.page p (h.live.page_in l i) pi;
         in_use = λ r ri c _. stays r ri ∙ c;
         rows = λ r _ _ st. same r (λ e. mine.in_no_page (subst (IsHeldLive z words h.role) e st));
+        given = λ g p is pi. row-entry z words x row index g.page p (h.live.given_up g is).page_in pi;
       } in
       let is_mine : (p : OwnRow) → Owns w p → p ≡ o' = λ p e. same_some p o' (sym e ∙ new_own) in
       let back : (i : ℕ) (p : OwnRow) → OwnsAt views' i p → (q : OwnRow) × OwnsAt views i q × (q.row ≡ p.row) =
@@ -66,14 +66,14 @@ module _ (L : List Entry → Type 0) (F : List Entry → List ℕ → Type 0) (v
           | inl y ↦ inl (dite (ℕ_discrete y.0 id)
               (λ e. (id, o', owns_here views id v w at o' new_own, owner_row views id v o y.1 at own (subst (λ (j : ℕ). OwnsAt views j y.1) e y.2) ∙ y.3))
               (λ n. (y.0, y.1, owns_else views id v w at y.0 y.1 n y.2, y.3)))
-          | inr y ↦ elim y [ inl t ↦ inr (inl (live_on z words words' h.role kept r t)) | inr t ↦ absurd (idle z h.role h.live t.0 t.1) ]
+          | inr y ↦ elim y [ inl t ↦ inr (inl (live_on z words words' h.role kept r t)) | inr t ↦ inr (inr (free_on z words words' h.role kept r t)) ]
         ];
         owned = λ i p y. elim (owns_cases views id v w at i p y) [
           | inl t ↦ subst (IsOwned z words' h.role) (sym (is_mine p t.1)) (record {
             in_range = mine.in_range;
             in_use = stays row mine.in_range ∙ mine.in_use;
             in_no_page = λ st. mine.in_no_page (live_back z words words' h.role kept row st);
-            not_to_free = λ st. idle z h.role h.live st.0 st.1;
+            not_to_free = λ st. mine.not_to_free (free_back z words words' h.role kept row st);
             written = (
               (inside, wrote z words x (row_word z row index) h.long (row_in z row index mine.in_range inside)),
               each_without (StandsIn z words row) (StandsIn z words' row) index (λ u n y. (
@@ -87,6 +87,6 @@ module _ (L : List Entry → Type 0) (F : List Entry → List ℕ → Type 0) (v
               (same p.row (others i p t.0 t.1))
         ];
         one_owner = λ i j p q y y' e. let a = back i p y in let b = back j q y' in h.claims.one_owner i j a.0 b.0 a.1 b.1 (a.2 ∙ e ∙ sym b.2);
-        to_free = λ r t. absurd (idle z h.role h.live t.0 t.1);
+        to_free = λ r t. let k = h.claims.to_free r (free_back z words words' h.role kept r t) in (k.0, stays r k.0 ∙ k.1);
       })
       kept (h.facts id v at) (h.known id v at)

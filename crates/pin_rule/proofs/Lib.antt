@@ -1,3 +1,4 @@
+pub mod Bools
 pub mod Lists
 pub mod Paths
 pub mod Frames
@@ -8,6 +9,11 @@ pub mod Parts
 pub mod Settling
 pub mod Spare
 pub mod MakingOn
+pub mod Known
+pub mod Learning
+pub mod Oldest
+pub mod GoingOn
+pub mod Passing
 pub mod KindLoads
 pub mod KindClaim
 pub mod KindWriteRow
@@ -15,6 +21,7 @@ pub mod KindGiveBack
 pub mod KindPublish
 pub mod Numbers
 pub mod Counts
+pub mod Alone
 pub mod Telling
 pub mod Allowed
 pub mod Parting
@@ -25,4 +32,7 @@ pub mod KindWritePlace
 pub mod Places
 pub mod WholePage
 pub mod KindSwapCurrent
+pub mod KindFreeRow
+pub mod Leaving
+pub mod KindLoadRelease
 pub mod Beginning

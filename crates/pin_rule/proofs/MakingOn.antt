@@ -130,16 +130,18 @@ module _ (L : List Entry → Type 0) (F : List Entry → List ℕ → Type 0) (z
             pages_differ = h.live.pages_differ;
             room = λ _ _. made.room;
             making = λ m' is. subst (λ (x : Making). ¬ (In x.page (pages_taken h.role))) (same_some m m' is) made.apart;
-            idle = h.live.idle;
+            given_up = λ g is. let b = h.live.given_up g is in record { below = b.below; page_in = b.page_in; apart = b.apart; reached_in = b.reached_in };
           };
           pinned = each_set views id v w at (PinsLive h.role) (λ p e. h.pinned id v at p (sym remains.steady.pinned ∙ e)) h.pinned;
-          pins = record { counted = pins.counted; released = pins.released };
+          pins = record { counted = pins.counted; from_base = pins.from_base; released = pins.released };
           budget = budget_stays L F z words words' views id v w at h remains.steady.pinned leaves.releases remains.steady.pins_left;
           pages = pages_move z words words' h.role F h.log h.live h.pages leaves.kept;
           claims = claims';
           carried = record {
             between = carried.between;
             after_left = carried.after_left;
+            range = carried.range;
+            once = carried.once;
             stands = carried.stands;
             kept = λ m' next place row is to lt e. let same : m' ≡ m = sym (same_some m m' is) in
                 made.keeps next place row (subst (λ (x : Making). IsNextLog h.log x.entry next) same to)

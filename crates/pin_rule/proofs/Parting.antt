@@ -62,6 +62,7 @@ module _ (L : List Entry → Type 0) (F : List Entry → List ℕ → Type 0) (v
         pins = record {
           counted = λ l t k. let c = h.pins.counted l t k in let f : View → ℕ = λ u. pins_on l.version u.pinned in let a = total_append f vs new in
               let b = total_alike f views id v w at refl in omega arith;
+          from_base = h.pins.from_base;
           released = h.pins.released;
         };
         budget = (let b = h.budget in let a = total_append pins_of vs new in let t = total_set pins_of views id v w at in omega arith);
@@ -126,6 +127,7 @@ module _ (L : List Entry → Type 0) (F : List Entry → List ℕ → Type 0) (v
           counted = λ l t k. let c = h.pins.counted l t k in let f : View → ℕ = λ u. pins_on l.version u.pinned in
               let a = total_set f vs other o spent_view at' in let b = total_alike f views id v w at refl in let n = ap (pins_on l.version) unpinned in
               omega arith;
+          from_base = h.pins.from_base;
           released = h.pins.released;
         };
         budget = (let b = h.budget in let a = total_set pins_of vs other o spent_view at' in let t = total_set pins_of views id v w at in let n =

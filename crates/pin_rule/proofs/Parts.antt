@@ -7,11 +7,12 @@ use Rattle.pin_rule.specs.declared.view.View.{View}
 use Rattle.pin_rule.specs.declared.view.OwnRow.{OwnRow}
 use Rattle.pin_rule.specs.declared.view.Live.{Live}
 use Rattle.pin_rule.specs.declared.view.Making.{Making}
+use Rattle.pin_rule.specs.declared.view.GivingUp.{GivingUp}
 use Rattle.pin_rule.specs.declared.view.Role.{Role}
 use Rattle.pin_rule.specs.Layout.{release, claim, entry, row_at, logged}
 use Rattle.pin_rule.specs.Rows.{content_of}
 use Rattle.pin_rule.specs.Views.{IsLive}
-use Rattle.pin_rule.specs.Pages.{IsHeld, IsHeldLive}
+use Rattle.pin_rule.specs.Pages.{IsHeld, IsHeldLive, IsLeft, IsToFree}
 use Rattle.pin_rule.specs.PartCurrent.{IsCurrent, current_of}
 use Rattle.pin_rule.specs.PartLive.{IsVersions}
 use Rattle.pin_rule.specs.PartClaims.{StandsIn, IsOwned, Claims}
@@ -21,7 +22,7 @@ use Rattle.pin_rule.specs.Lawful.{ArePages}
 use Rattle.pin_rule.proofs.Lists.{at_short, each_map}
 use Rattle.pin_rule.proofs.Frames.{Same, content_same}
 use Rattle.pin_rule.proofs.Moves.{page_moves}
-use Rattle.pin_rule.proofs.Versions.{newest_live, idle}
+use Rattle.pin_rule.proofs.Versions.{newest_live}
 
 module _ (z : Sizes) (words words' : List ℕ) (role : Role) where
   -- the log and the page in the making are as they were
@@ -61,6 +62,8 @@ module _ (z : Sizes) (words words' : List ℕ) (role : Role) where
     pub places : (l : Live) (p : ℕ) → IsLive role l → p < z.places → entry z words' l.page p ≡ entry z words l.page p
     pub in_use : (r : ℕ) → r < z.rows → claim z words r ≡ 1 → IsHeldLive z words role r → claim z words' r ≡ 1
     pub rows : (r : ℕ) → r < z.rows → claim z words r ≡ 1 → IsHeldLive z words role r → Same z.width (row_at z words r) (row_at z words' r)
+    -- the page that is being given up has its entries
+    pub given : (g : GivingUp) (p : ℕ) → role.giving_up ≡ Some g → p < z.places → entry z words' g.page p ≡ entry z words g.page p
 
   pub held_on : Kept → (l : Live) (r : ℕ) → IsLive role l → IsHeld z words l.page r → IsHeld z words' l.page r
   held_on kept l r i x = (x.0, x.1, kept.places l x.0 i x.1 ∙ x.2)
@@ -73,6 +76,15 @@ module _ (z : Sizes) (words words' : List ℕ) (role : Role) where
 
   pub live_back : Kept → (r : ℕ) → IsHeldLive z words' role r → IsHeldLive z words role r
   live_back kept r x = (x.0, x.1, held_back kept x.0 r x.1 x.2)
+
+  pub left_back : Kept → (g : GivingUp) (r : ℕ) → role.giving_up ≡ Some g → IsLeft z words' g r → IsLeft z words g r
+  left_back kept g r is x = (x.0, x.1, x.2, sym (kept.given g x.0 is x.1) ∙ x.3)
+
+  pub free_on : Kept → (r : ℕ) → IsToFree z words role r → IsToFree z words' role r
+  free_on kept r t = let x = t.2 in (t.0, t.1, (x.0, x.1, x.2, kept.given t.0 x.0 t.1 x.1 ∙ x.3), λ y. t.3 (live_back kept r y))
+
+  pub free_back : Kept → (r : ℕ) → IsToFree z words' role r → IsToFree z words role r
+  free_back kept r t = (t.0, t.1, left_back kept t.0 r t.1 t.2, λ y. t.3 (live_on kept r y))
 
   module _ (F : List Entry → List ℕ → Type 0) (log : List Entry) (live : IsVersions z role) (h : ArePages F z words log role) (kept : Kept) where
     -- the words of a held row stay
@@ -94,7 +106,9 @@ module _ (z : Sizes) (words words' : List ℕ) (role : Role) where
     pub carried_moves : Carried F z words log role → Carried F z words' log role
     carried_moves c = record {
       between = λ a b d row ia ib id lt le x y. c.between a b d row ia ib id lt le (held_back kept a row ia x) (held_back kept d row id y);
-      after_left = λ g b d row e ib id le x y. absurd (idle z role live g e);
+      after_left = λ g b d row e ib id le x y. c.after_left g b d row e ib id le (left_back kept g row e x) (held_back kept d row id y);
+      range = λ g p row is pi e. c.range g p row is pi (sym (kept.given g p is pi) ∙ e);
+      once = λ g p q row is pi qi ep eq. c.once g p q row is pi qi (sym (kept.given g p is pi) ∙ ep) (sym (kept.given g q is qi) ∙ eq);
       stands = λ l row i x. held_on kept l row i (c.stands l row i x);
       kept = λ m next place row is to lt e. let k = c.kept m next place row is to lt e in let i = newest_live role in
           (held_on kept role.newest row i k.0, content_stays next role.newest row i k.0 k.1);
@@ -109,8 +123,7 @@ module _ (z : Sizes) (words words' : List ℕ) (role : Role) where
           (λ e x. record {
             known = x.known;
             live = λ l i is. let y = x.live l i is in (y.0, kept.places l e.place i y.0 ∙ y.1);
-            given_up =
-                λ g is _. absurd (idle z role live g is);
+            given_up = λ g is same. let y = x.given_up g is same in (y.0, kept.given g e.place is y.0 ∙ y.1);
           }) v.entries k.0,
       each_map (WordStands z words role) (WordStands z words' role)
           (λ w x. record {
@@ -141,7 +154,7 @@ module _ (z : Sizes) (words words' : List ℕ) (role : Role) where
       in_range = i.in_range;
       in_use = c;
       in_no_page = λ x. i.in_no_page (live_back kept o.row x);
-      not_to_free = λ x. idle z role live x.0 x.1;
+      not_to_free = λ x. i.not_to_free (free_back kept o.row x);
       written = each_map (StandsIn z words o.row) (StandsIn z words' o.row) (λ w x. (x.0, sym (s w.0 x.0) ∙ x.1)) o.wrote i.written;
     }
 
@@ -154,11 +167,10 @@ module _ (z : Sizes) (words words' : List ℕ) (role : Role) where
         | inl y ↦ inl y
         | inr y ↦ elim y [
           | inl t ↦ inr (inl (live_on kept r t))
-          | inr t ↦
-              absurd (idle z role live t.0 t.1)
+          | inr t ↦ inr (inr (free_on kept r t))
         ]
       ];
       owned = λ i o y. let q = c.owned i o y in owned_moves o q (stays o.row q.in_range ∙ q.in_use) (same o.row q.in_range);
       one_owner = c.one_owner;
-      to_free = λ r t. absurd (idle z role live t.0 t.1);
+      to_free = λ r t. let k = c.to_free r (free_back kept r t) in (k.0, stays r k.0 ∙ k.1);
     }

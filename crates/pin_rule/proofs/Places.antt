@@ -4,17 +4,13 @@ use Rattle.std.proofs.Common.{arith}
 use mathlib.Core.Bool.{cond}
 use mathlib.Core.Logic.{dite}
 use native.Mathlib.Decide.{ℕ_discrete}
-use Rattle.std.specs.Prelude.{Bool, true, false}
+use Rattle.std.specs.Prelude.{Bool}
 use Rattle.pin_rule.specs.declared.view.EntryFact.{EntryFact}
 use Rattle.pin_rule.specs.declared.view.WordFact.{WordFact}
 use Rattle.pin_rule.specs.declared.view.KnownPlace.{KnownPlace}
 use Rattle.pin_rule.specs.Lists.{Each, In, is_in}
 use Rattle.pin_rule.specs.Making.{rows_of, entries_of, facts_on, words_on, places_known}
 use Rattle.pin_rule.proofs.Spare.{is_in_tells}
-
-pub each_cond : {A : Type 0} (P : A → Type 0) (b : Bool) (l m : List A) → Each P l → Each P m → Each P (cond b l m)
-each_cond P true l m h k = h
-each_cond P false l m h k = k
 
 -- a row of the list stands at a place of it
 pub row_place : (ns : List ℕ) (row : ℕ) → In row (rows_of ns) → (i : ℕ) × (i < length ns) × (slice_index ns i ≡ suc row)

@@ -35,6 +35,7 @@ module _ (L : List Entry → Type 0) (F : List Entry → List ℕ → Type 0) (z
   pins_stay = record {
     counted = λ l t k. let c = h.pins.counted l t k in let r = releases l.page (h.live.page_in l (taken_live z h.role h.live h.taken l t k)) in
         let n = total_alike (λ (u : View). pins_on l.version u.pinned) views id v w at (ap (pins_on l.version) pinned) in omega arith;
+    from_base = λ l i. let b = h.pins.from_base l i in let r = releases l.page (h.live.page_in l i) in omega arith;
     released = λ page inside none. releases page inside ∙ h.pins.released page inside none;
   }
 

@@ -1,5 +1,5 @@
 -- The live versions by their numbers and pages.
-use Rattle.std.proofs.Common.{◌≡◌, ◌≢◌, ℕ, ◌≤◌, List, length, map, take, inl, inr, ◌⊎◌, ne_eqb, eq-eqb, sym, refl, ap, ◌∙◌, subst, arith}
+use Rattle.std.proofs.Common.{◌≡◌, ◌≢◌, ℕ, suc, ◌<◌, ◌≤◌, List, length, map, take, ◌++◌, inl, inr, ◌⊎◌, ne_eqb, eq-eqb, sym, refl, ap, ◌∙◌, subst, arith}
 use mathlib.Core.Option as maybe
 use mathlib.Core.Bool.{cond}
 use mathlib.Core.Logic.{dite}
@@ -42,17 +42,29 @@ module _ (z : Sizes) (role : Role) (h : IsVersions z role) where
         (in_mapped (λ (o : Older). o.live) x.0 role.older x.1))
   ]
 
+  -- an older version is not the newest
+  pub older_below : (o : Older) → In o role.older → o.live.version < role.newest.version
+  older_below o i = let r = in_at o.live (map (λ (x : Older). x.live) role.older) (in_mapped (λ (x : Older). x.live) o role.older i) in
+      let e = h.consecutive (suc r.0) o.live r.1 in omega arith
+
   -- the page in the making is that of no live version
   pub making_apart : (m : Making) (l : Live) → role.making ≡ Some m → IsLive role l → l.page ≢ m.page
   making_apart m l is i e = h.making m is (subst (λ (page : ℕ). In page (pages_taken role)) e
       (in_right l.page (given_page role.giving_up) (map (λ (x : Live). x.page) (lives role)) (in_mapped (λ (x : Live). x.page) l (lives role) i)))
 
-  pub idle : (g : GivingUp) → role.giving_up ≡ Some g → ⊥
-  idle g e = none_some g (sym h.idle ∙ e)
+  -- nor that of the version that is being given up
+  pub given_apart : (m : Making) (g : GivingUp) → role.making ≡ Some m → role.giving_up ≡ Some g → g.page ≢ m.page
+  given_apart m g is up e = let ls = map (λ (x : Live). x.page) (lives role) in h.making m is (subst (λ (page : ℕ). In page (pages_taken role)) e
+      (subst (λ (o : Option GivingUp). In g.page (given_page o ++ ls)) (sym up) (inl refl)))
 
--- the version is none above the newest, and if it is live this is its page
+  -- the version that is being given up is not live
+  pub given_old : (g : GivingUp) (l : Live) → role.giving_up ≡ Some g → IsLive role l → g.version ≢ l.version
+  given_old g l is i e = let b = (h.given_up g is).below l i in omega arith
+
+-- the version is none above the newest, and if it is live or being given up this is its page
 abbrev pub Speaks : Role → ℕ → ℕ → Type 0
-Speaks role page m = (m ≤ role.newest.version) × ((l : Live) → IsLive role l → l.version ≡ m → l.page ≡ page)
+Speaks role page m = (m ≤ role.newest.version) × ((l : Live) → IsLive role l → l.version ≡ m → l.page ≡ page) ×
+    ((g : GivingUp) → role.giving_up ≡ Some g → g.version ≡ m → g.page ≡ page)
 
 pub if_at_is : (page at version : ℕ) (else_ : Option ℕ) (m : ℕ) → if_at page at version else_ ≡ Some m → ((at ≡ page) × (version ≡ m)) ⊎ (else_ ≡ Some m)
 if_at_is page at version else_ m e = dite (ℕ_discrete at page)
@@ -65,11 +77,19 @@ module _ (z : Sizes) (role : Role) (h : IsVersions z role) where
     (let r : m ≤ role.newest.version = omega arith in r),
     λ l i e. ap (λ (x : Live). x.page) (same_live z role h l l0 i k.1 (e ∙ sym is ∙ sym e0)) ∙ k.3
         ∙ at,
+    λ g up e. absurd (given_old z role h g l0 up k.1 (e ∙ sym is ∙ sym e0)),
   )
 
   given_speaks : (o : Option GivingUp) (page m : ℕ) → role.giving_up ≡ o → version_given_up o page ≡ Some m → Speaks role page m
   given_speaks None page m is e = absurd (none_some m e)
-  given_speaks (Some g) page m is e = absurd (idle z role h g is)
+  given_speaks (Some g) page m is e = elim (if_at_is page g.page g.version None m e) [
+    | inl t ↦ (
+      (let b = (h.given_up g is).below role.newest (newest_live role) in let x = t.1 in let r : m ≤ role.newest.version = omega arith in r),
+      λ l i is_m. absurd (given_old z role h g l is i (t.1 ∙ sym is_m)),
+      λ k up _. ap (λ (x : GivingUp). x.page) (same_some k g (sym up ∙ is)) ∙ t.0,
+    )
+    | inr t ↦ absurd (none_some m t)
+  ]
 
   role_speaks : (o : Option Role) (page m : ℕ) → ((r : Role) → o ≡ Some r → r ≡ role) → version_of_role o page ≡ Some m → Speaks role page m
   role_speaks None page m is e = absurd (none_some m e)
@@ -79,6 +99,7 @@ module _ (z : Sizes) (role : Role) (h : IsVersions z role) where
         | inl t ↦ (
           (let x = t.1 in let r : m ≤ role.newest.version = omega arith in r),
           λ l i is_m. ap (λ (x : Live). x.page) (same_live z role h l role.newest i (newest_live role) (is_m ∙ sym t.1)) ∙ t.0,
+          λ g up is_m. absurd (given_old z role h g role.newest up (newest_live role) (is_m ∙ sym t.1)),
         )
         | inr t ↦ given_speaks role.giving_up page m refl t
       ]) e

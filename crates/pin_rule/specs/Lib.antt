@@ -5,6 +5,7 @@ pub mod Lists
 pub mod Views
 pub mod PartLive
 pub mod Making
+pub mod GivingUp
 pub mod Steps
 pub mod Pages
 pub mod PartCurrent
@@ -17,5 +18,6 @@ pub mod Keeps
 pub mod Told
 pub mod Ready
 pub mod NextVersion
+pub mod Freeing
 pub mod Hands
 pub mod Choosing

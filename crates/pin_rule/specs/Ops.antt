@@ -3,6 +3,7 @@ use Rattle.std.specs.Prelude.{ℕ, zero, suc, ◌<◌, ◌≤◌, ◌+◌, ◌%�
 use Rattle.pin_rule.specs.declared.sizes.Sizes.{Sizes}
 use Rattle.pin_rule.specs.declared.ops.Op.{Op}
 use Rattle.pin_rule.specs.declared.ops.Op.TheVariants.{LoadPlace, LoadRow, Claim, WriteRow, Publish, GiveBack, Pin, Unpin, LoadLog, WriteLog, WritePlace, SwapCurrent}
+use Rattle.pin_rule.specs.declared.ops.Op.TheVariants.{LoadRelease, FreeRow}
 use Rattle.pin_rule.specs.Layout.{release_word, claim_word, place_word, log_word, row_word, naming}
 
 abbrev pub word_of : Sizes → Op → ℕ
@@ -18,6 +19,8 @@ word_of z (LoadLog entry index) = log_word z entry index
 word_of z (WriteLog entry index word) = log_word z entry index
 word_of z (WritePlace page place word) = place_word z page place
 word_of z (SwapCurrent version page) = 0
+word_of z (LoadRelease page) = release_word z page
+word_of z (FreeRow row) = claim_word z row
 
 -- the word named lies in its part of the table; a swap leaves a version and a page that the table has room for
 abbrev pub IsIn : Sizes → Op → Type 0
@@ -33,6 +36,8 @@ IsIn z (LoadLog entry index) = (entry < z.log) × (index < 32)
 IsIn z (WriteLog entry index word) = (entry < z.log) × (index < 32)
 IsIn z (WritePlace page place word) = (page < z.versions) × (place < z.places)
 IsIn z (SwapCurrent version page) = (version ≤ z.log) × (page < z.versions)
+IsIn z (LoadRelease page) = page < z.versions
+IsIn z (FreeRow row) = row < z.rows
 
 -- the word that an exchange of 0 for a new word leaves
 abbrev pub exchanged : ℕ → ℕ → ℕ
@@ -57,3 +62,5 @@ does (LoadLog entry index) n = n
 does (WriteLog entry index word) n = word
 does (WritePlace page place word) n = word
 does (SwapCurrent version page) n = naming version page
+does (LoadRelease page) n = n
+does (FreeRow row) n = 0

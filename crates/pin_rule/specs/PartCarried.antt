@@ -6,7 +6,7 @@ use Rattle.pin_rule.specs.declared.view.Live.{Live}
 use Rattle.pin_rule.specs.declared.view.Making.{Making}
 use Rattle.pin_rule.specs.declared.view.GivingUp.{GivingUp}
 use Rattle.pin_rule.specs.declared.view.Role.{Role}
-use Rattle.pin_rule.specs.Layout.{row_at}
+use Rattle.pin_rule.specs.Layout.{entry, row_at}
 use Rattle.pin_rule.specs.Lists.{In}
 use Rattle.pin_rule.specs.Rows.{content_of}
 use Rattle.pin_rule.specs.Views.{IsLive}
@@ -20,6 +20,10 @@ pub record Carried (fits : List Entry → List ℕ → Type 0) (z : Sizes) (word
   -- the version that is being given up counts as the first
   pub after_left : (g : GivingUp) (b c : Live) (row : ℕ) → role.giving_up ≡ Some g → IsLive role b → IsLive role c → b.version ≤ c.version
       → IsLeft z words g row → IsHeld z words c.page row → In row b.carried
+  -- each entry of its page names a row, and no row stands twice in it
+  pub range : (g : GivingUp) (place row : ℕ) → role.giving_up ≡ Some g → place < z.places → entry z words g.page place ≡ suc row → row < z.rows
+  pub once : (g : GivingUp) (p q row : ℕ) → role.giving_up ≡ Some g → p < z.places → q < z.places → entry z words g.page p ≡ suc row
+      → entry z words g.page q ≡ suc row → p ≡ q
   -- what was carried into a version stands in its page
   pub stands : (l : Live) (row : ℕ) → IsLive role l → In row l.carried → IsHeld z words l.page row
   -- the page in the making has only rows of the newest page that fit the next log

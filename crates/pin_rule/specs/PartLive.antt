@@ -10,6 +10,7 @@ use Rattle.pin_rule.specs.declared.view.Pin.{Pin}
 use Rattle.pin_rule.specs.declared.view.Live.{Live}
 use Rattle.pin_rule.specs.declared.view.Older.{Older}
 use Rattle.pin_rule.specs.declared.view.Making.{Making}
+use Rattle.pin_rule.specs.declared.view.GivingUp.{GivingUp}
 use Rattle.pin_rule.specs.declared.view.Role.{Role}
 use Rattle.pin_rule.specs.Layout.{release}
 use Rattle.pin_rule.specs.Lists.{In, total, sum_to}
@@ -24,6 +25,13 @@ pub record IsEditor (views : List View) (log : List Entry) (role : Role) : Type 
   pub log_is : view.log ≡ log
   pub one : (i : ℕ) (v : View) (r : Role) → get_elem? views i ≡ maybe.some v → v.role ≡ Some r → i ≡ seat
 
+-- the version that is being given up is older than each live one, has a page of its own, and a place of it comes next
+pub record IsGivenUp (z : Sizes) (role : Role) (g : GivingUp) : Type 0 where
+  pub below : (l : Live) → IsLive role l → g.version < l.version
+  pub page_in : g.page < z.versions
+  pub apart : (l : Live) → IsLive role l → l.page ≢ g.page
+  pub reached_in : g.reached < z.places
+
 pub record IsVersions (z : Sizes) (role : Role) : Type 0 where
   -- the live versions are consecutive, newest first, and end with the newest
   pub consecutive : (i : ℕ) (l : Live) → get_elem? (lives role) i ≡ maybe.some l → l.version + i ≡ role.newest.version
@@ -33,8 +41,7 @@ pub record IsVersions (z : Sizes) (role : Role) : Type 0 where
   -- while a version is in the making there is room for it, and its page is none of those taken
   pub room : (m : Making) → role.making ≡ Some m → length (pages_taken role) < z.versions
   pub making : (m : Making) → role.making ≡ Some m → ¬ (In m.page (pages_taken role))
-  -- no version is being given up yet
-  pub idle : role.giving_up ≡ None
+  pub given_up : (g : GivingUp) → role.giving_up ≡ Some g → IsGivenUp z role g
 
 -- a view pins only live versions
 abbrev pub PinsLive : Role → View → Type 0
@@ -61,6 +68,8 @@ known_release (x ∷ xs) page = cond (eqb x.0 page) x.1 (known_release xs page)
 pub record Pins (z : Sizes) (words : List ℕ) (views : List View) (role : Role) (taken : ℕ) : Type 0 where
   -- each pin that was taken is held or was dropped
   pub counted : (l : Live) (t : ℕ) → HasTaken role taken l t → release z words l.page + pinning views l.version ≡ l.base + t
+  -- release words never fall
+  pub from_base : (l : Live) → IsLive role l → l.base ≤ release z words l.page
   pub released : (page : ℕ) → page < z.versions → ((l : Live) → IsLive role l → l.page ≢ page) → release z words page ≡ known_release role.released page
 
 -- a pin that is held

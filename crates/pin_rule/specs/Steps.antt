@@ -20,6 +20,7 @@ use Rattle.pin_rule.specs.Ops.{exchanged, one_more}
 use Rattle.pin_rule.specs.Views.{whole, now, version_at}
 use Rattle.pin_rule.specs.Making.{with_entry_word, with_place_word, making_in, by_making, next_log, rows_of, role_with_version, entries_of, facts_carried}
 use Rattle.pin_rule.specs.Making.{places_known}
+use Rattle.pin_rule.specs.GivingUp.{role_released, role_met, role_freed}
 
 -- The steps as they stand in a view's list
 
@@ -62,6 +63,12 @@ wrote_place z page place word = step_of kind.WritePlace (place_word z page place
 abbrev pub swapped : ℕ → ℕ → ℕ → Step
 swapped version page met = step_of kind.SwapCurrent 0 (Some met) (Some (naming version page))
 
+abbrev pub loaded_release : Sizes → ℕ → ℕ → Step
+loaded_release z page met = step_of kind.LoadRelease (release_word z page) (Some met) (Some met)
+
+abbrev pub freed_row : Sizes → ℕ → Step
+freed_row z row = step_of kind.FreeRow (claim_word z row) None (Some 0)
+
 -- they load word 0, and the table does not tell what they met
 abbrev pub was_split : Step
 was_split = step_of kind.Split 0 None None
@@ -89,13 +96,48 @@ abbrev pub met_word : Option ℕ → List WordFact → ℕ → ℕ → ℕ → L
 met_word None ws row index met = ws
 met_word (Some version) ws row index met = record { version = version; row = row; index = index; word = met } ∷ ws
 
+-- What the view with the whole share keeps of the newest page
+
+abbrev pub is_newest_page : Option Role → ℕ → Bool
+is_newest_page None page = false
+is_newest_page (Some r) page = eqb r.newest.page page
+
+abbrev pub keeps_page : View → ℕ → Bool
+keeps_page v page = cond (eqb v.share whole) (is_newest_page v.role page) false
+
+-- a place that is known stays, with the words of its row
+abbrev pub learned_place : ℕ → ℕ → List KnownPlace → List KnownPlace
+learned_place place met [] = record { place = place; met = met; words = [] } ∷ []
+learned_place place met (k ∷ ks) = cond (eqb k.place place) (k ∷ ks) (k ∷ learned_place place met ks)
+
+abbrev pub known_met : View → ℕ → ℕ → ℕ → List KnownPlace
+known_met v page place met = cond (keeps_page v page) (learned_place place met v.known) v.known
+
+-- one more word of the row that stands there
+abbrev pub learned_word : ℕ → ℕ → ℕ → KnownPlace → KnownPlace
+learned_word row index met k = record k { words = cond (eqb k.met (suc row)) ((index, met) ∷ k.words) k.words }
+
+abbrev pub known_read : View → ℕ → ℕ → ℕ → List KnownPlace
+known_read v row index met = cond (eqb v.share whole) (map (learned_word row index met) v.known) v.known
+
 -- The views afterwards
 
 abbrev pub after_load_place : View → ℕ → ℕ → ℕ → View
-after_load_place v page place met = noted (record v { entries = met_entry (version_at v page) v.entries place met }) (loaded_place v.sizes page place met)
+after_load_place v page place met = noted
+    (record v {
+      entries = met_entry (version_at v page) v.entries place met;
+      known = known_met v page place met;
+      role = role_met v.sizes v.role page place met;
+    })
+    (loaded_place v.sizes page place met)
 
 abbrev pub after_load_row : View → ℕ → ℕ → ℕ → View
-after_load_row v row index met = noted (record v { words = met_word (version_of v.entries row) v.words row index met }) (loaded_row v.sizes row index met)
+after_load_row v row index met = noted
+    (record v {
+      words = met_word (version_of v.entries row) v.words row index met;
+      known = known_read v row index met;
+    })
+    (loaded_row v.sizes row index met)
 
 -- a claim that met 0 was won
 abbrev pub claimed_row : Option OwnRow → ℕ → ℕ → Option OwnRow
@@ -137,9 +179,18 @@ abbrev pub without_place : ℕ → List KnownPlace → List KnownPlace
 without_place place [] = []
 without_place place (k ∷ ks) = cond (eqb k.place place) (without_place place ks) (k ∷ without_place place ks)
 
-abbrev pub published_known : List KnownPlace → ℕ → ℕ → List KnownPlace
-published_known ks place zero = without_place place ks
-published_known ks place (suc _) = ks
+abbrev pub words_of_own : Option OwnRow → List (ℕ × ℕ)
+words_of_own None = []
+words_of_own (Some o) = o.wrote
+
+-- the row stands at the place with the words that were written to it
+abbrev pub known_published : View → ℕ → ℕ → ℕ → List KnownPlace
+known_published v page place row = cond (keeps_page v page) (record { place = place; met = suc row; words = words_of_own v.own } ∷ []) []
+    ++ without_place place v.known
+
+abbrev pub published_known : View → ℕ → ℕ → ℕ → ℕ → List KnownPlace
+published_known v page place row zero = known_published v page place row
+published_known v page place row (suc n) = known_met v page place (suc n)
 
 abbrev pub after_publish : View → ℕ → ℕ → ℕ → ℕ → View
 after_publish v page place row met = noted
@@ -147,7 +198,7 @@ after_publish v page place row met = noted
       own = published_own v.own met;
       entries = met_entry (version_at v page) v.entries place (exchanged (suc row) met);
       words = published_words (version_at v page) v.own v.words met;
-      known = published_known v.known place met;
+      known = published_known v page place row met;
     })
     (published v.sizes page place row met)
 
@@ -203,6 +254,12 @@ after_swap_current v version page met = noted
     })
     (swapped version page met)
 
+abbrev pub after_load_release : View → ℕ → ℕ → View
+after_load_release v page met = noted (record v { role = role_released v.role page met }) (loaded_release v.sizes page met)
+
+abbrev pub after_free_row : View → ℕ → View
+after_free_row v row = noted (record v { role = role_freed v.sizes v.role }) (freed_row v.sizes row)
+
 -- The view after an operation that met a word
 
 abbrev pub after : View → Op → ℕ → View
@@ -218,6 +275,8 @@ after v (op.LoadLog entry index) met = after_load_log v entry index met
 after v (op.WriteLog entry index word) met = after_write_log v entry index word
 after v (op.WritePlace page place word) met = after_write_place v page place word
 after v (op.SwapCurrent version page) met = after_swap_current v version page met
+after v (op.LoadRelease page) met = after_load_release v page met
+after v (op.FreeRow row) met = after_free_row v row
 
 -- what is left to a seat that is split, and what the new seat has
 abbrev pub after_split : View → ℕ → View

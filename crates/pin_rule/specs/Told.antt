@@ -1,5 +1,5 @@
 -- What the rule says of one view that has a share, whatever else stands in the table.
-use Rattle.std.specs.Prelude.{◌≡◌, ◌≢◌, ℕ, suc, ◌+◌, ◌<◌, ◌≤◌, List, length, slice_index, Some}
+use Rattle.std.specs.Prelude.{◌≡◌, ◌≢◌, ℕ, suc, ◌+◌, ◌<◌, ◌≤◌, List, length, slice_index, Some, None}
 use mathlib.Core.Option as maybe
 use lib.ListN.{get_elem?}
 use Rattle.pin_rule.specs.declared.content.Entry.{Entry}
@@ -7,10 +7,13 @@ use Rattle.pin_rule.specs.declared.view.View.{View}
 use Rattle.pin_rule.specs.declared.view.EntryFact.{EntryFact}
 use Rattle.pin_rule.specs.declared.view.WordFact.{WordFact}
 use Rattle.pin_rule.specs.declared.view.KnownPlace.{KnownPlace}
+use Rattle.pin_rule.specs.declared.view.Older.{Older}
+use Rattle.pin_rule.specs.declared.view.GivingUp.{GivingUp}
 use Rattle.pin_rule.specs.declared.view.Role.{Role}
 use Rattle.pin_rule.specs.declared.sizes.Sizes.{Sizes}
 use Rattle.pin_rule.specs.declared.ops.Op.{Op}
 use Rattle.pin_rule.specs.declared.ops.Op.TheVariants.{LoadPlace, LoadRow, Claim, WriteRow, Publish, GiveBack, Pin, Unpin, LoadLog, WriteLog, WritePlace, SwapCurrent}
+use Rattle.pin_rule.specs.declared.ops.Op.TheVariants.{LoadRelease, FreeRow}
 use Rattle.pin_rule.specs.Layout.{version_named, page_named}
 use Rattle.pin_rule.specs.Lists.{In}
 use Rattle.pin_rule.specs.Rows.{key_of, content_of, on_path}
@@ -44,6 +47,13 @@ abbrev pub IsReached : Sizes → List KnownPlace → List ℕ → ℕ → Type 0
 IsReached z known key place = (step : ℕ) × (step < z.places) × (on_path z key step ≡ place) ×
     ((before : ℕ) (k : KnownPlace) → before < step → In k known → k.place ≡ on_path z key before → k.met ≢ 0)
 
+-- what is known with the whole share is alike to the facts of the newest version, and each word is known once
+pub record IsAlike (v : View) (version : ℕ) : Type 0 where
+  pub inside : (k : KnownPlace) → In k v.known → k.place < v.sizes.places
+  pub places : (k : KnownPlace) (place row : ℕ) → In k v.known → k.place ≡ place → KnowsPlace v version place row → k.met ≡ suc row
+  pub words : (k : KnownPlace) (row index a b : ℕ) → In k v.known → k.met ≡ suc row → In (index, a) k.words → KnowsWord v version row index b → a ≡ b
+  pub once : (k : KnownPlace) (row index a b : ℕ) → In k v.known → k.met ≡ suc row → In (index, a) k.words → In (index, b) k.words → a ≡ b
+
 -- of the rows of a version
 pub record IsTold (fits : List ℕ → Type 0) (v : View) (version : ℕ) : Type 0 where
   pub range : (row : ℕ) → KnowsRow v version row → row < v.sizes.rows
@@ -55,6 +65,9 @@ pub record IsTold (fits : List ℕ → Type 0) (v : View) (version : ℕ) : Type
   pub fitting : (row : ℕ) (g : ℕ → ℕ) → KnowsRow v version row → KnowsContent v version row g → fits (content_of g)
   -- no key stands twice
   pub keys_once : (p q a b : ℕ) (g : ℕ → ℕ) → KnowsPlace v version p a → KnowsPlace v version q b → KnowsKey v version a g → KnowsKey v version b g → p ≡ q
+  -- facts of one word are alike
+  pub words_once : (row index a b : ℕ) → KnowsWord v version row index a → KnowsWord v version row index b → a ≡ b
+  pub alike : v.share ≡ whole → (r : Role) → v.role ≡ Some r → r.newest.version ≡ version → IsAlike v version
   -- what is known with the whole share: a row stands on the path of its key, past places that are not empty
   pub reached : v.share ≡ whole → (k : KnownPlace) (row : ℕ) (g : ℕ → ℕ) → In k v.known → k.met ≡ suc row
       → ((index : ℕ) → OfKey g index → In (index, g index) k.words) → IsReached v.sizes v.known (key_of g) k.place
@@ -67,13 +80,32 @@ Tells lawful fits v = IsCaughtUp v → lawful v.log × IsTold (fits v.log) v (no
 abbrev pub IsCurrentFor : View → ℕ → Type 0
 IsCurrentFor v n = (now v ≤ version_named n) × (version_named n ≤ v.sizes.log) × (page_named n < v.sizes.versions)
 
+-- with the whole share, a place of the newest page that is known has the word that is known
+abbrev pub IsAsKnown : View → ℕ → ℕ → ℕ → Type 0
+IsAsKnown v page place n = v.share ≡ whole → (r : Role) (k : KnownPlace) → v.role ≡ Some r → r.newest.page ≡ page → In k v.known → k.place ≡ place → n ≡ k.met
+
+-- with the whole share, a known word of a row that stands in the newest page is the word there
+abbrev pub IsReadAsKnown : View → ℕ → ℕ → ℕ → Type 0
+IsReadAsKnown v row index n = v.share ≡ whole → (k : KnownPlace) (word : ℕ) → In k v.known → k.met ≡ suc row → In (index, word) k.words → n ≡ word
+
+-- an entry of the version that is being given up names a row of the table
+abbrev pub IsOfGivenUp : View → ℕ → ℕ → Type 0
+IsOfGivenUp v page n = (r : Role) (g : GivingUp) (row : ℕ) → v.role ≡ Some r → r.giving_up ≡ Some g → g.page ≡ page → n ≡ suc row → row < v.sizes.rows
+
+-- the pins dropped on an older version, whose page is not the newest one, are at most those taken on it, and all of them where no seat has a pin
+pub record IsReleaseOf (v : View) (r : Role) (o : Older) (n : ℕ) : Type 0 where
+  pub apart : r.newest.page ≢ o.live.page
+  pub from_base : o.live.base ≤ n
+  pub at_most : n ≤ o.live.base + o.taken
+  pub all_dropped : v.share ≡ whole → v.pinned ≡ None → n ≡ o.live.base + o.taken
+
 -- what the rule says of the word that an operation met
 abbrev pub Meets : View → Op → ℕ → Type 0
-Meets v (LoadPlace page place) n = Unit {0}
-Meets v (LoadRow row index) n = Unit {0}
+Meets v (LoadPlace page place) n = IsAsKnown v page place n × IsOfGivenUp v page n
+Meets v (LoadRow row index) n = IsReadAsKnown v row index n
 Meets v (Claim row) n = n ≤ 1
 Meets v (WriteRow row index word) n = Unit {0}
-Meets v (Publish page place row) n = Unit {0}
+Meets v (Publish page place row) n = IsAsKnown v page place n
 Meets v (GiveBack row) n = Unit {0}
 Meets v Pin n = IsCurrentFor v n
 Meets v (Unpin page) n = Unit {0}
@@ -81,3 +113,5 @@ Meets v (LoadLog entry index) n = (e : Entry) → get_elem? v.log entry ≡ mayb
 Meets v (WriteLog entry index word) n = Unit {0}
 Meets v (WritePlace page place word) n = Unit {0}
 Meets v (SwapCurrent version page) n = (r : Role) → v.role ≡ Some r → (version_named n ≡ r.newest.version) × (page_named n ≡ r.newest.page)
+Meets v (LoadRelease page) n = (r : Role) (o : Older) → v.role ≡ Some r → In o r.older → o.live.page ≡ page → IsReleaseOf v r o n
+Meets v (FreeRow row) n = Unit {0}

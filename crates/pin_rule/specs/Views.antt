@@ -1,5 +1,5 @@
 -- What a view has.
-use Rattle.std.specs.Prelude.{◌≡◌, ◌⊎◌, ℕ, List, [], ◌∷◌, ◌++◌, map, length, Some, None, Option, cond}
+use Rattle.std.specs.Prelude.{◌≡◌, ◌≢◌, ◌⊎◌, ℕ, List, [], ◌∷◌, ◌++◌, map, length, Some, None, Option, cond}
 use mathlib.Core.Option as maybe
 use lib.Dec.{eqb}
 use lib.ListN.{get_elem?}
@@ -31,6 +31,10 @@ OwnsAt views seat o = (v : View) × (get_elem? views seat ≡ maybe.some v) × O
 
 abbrev pub EachView : List View → (View → Type 0) → Type 0
 EachView views P = (seat : ℕ) (v : View) → get_elem? views seat ≡ maybe.some v → P v
+
+-- the views of two seats
+abbrev pub AreOfTwoSeats : List View → ℕ → ℕ → View → View → Type 0
+AreOfTwoSeats views i j v w = (i ≢ j) × (get_elem? views i ≡ maybe.some v) × (get_elem? views j ≡ maybe.some w)
 
 -- the live versions of the editor's role, newest first
 abbrev pub lives : Role → List Live

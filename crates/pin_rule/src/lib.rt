@@ -9,6 +9,7 @@
 pub mod choosers;
 pub mod content;
 mod editing;
+mod giving_up;
 pub mod hand;
 pub mod laws;
 pub mod limits;

@@ -21,6 +21,8 @@ pub enum Op {
     WriteLog { entry: u32, index: u32, word: u64 },
     WritePlace { page: u32, place: u32, word: u64 },
     SwapCurrent { version: u32, page: u32 },
+    LoadRelease { page: u32 },
+    FreeRow { row: u32 },
 }
 
 impl Sizes {

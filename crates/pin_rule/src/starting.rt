@@ -5,7 +5,7 @@ ghost use Rattle.pin_rule.specs.declared.ops.Op.TheVariants as op;
 ghost use Rattle.pin_rule.specs.Layout.{place_word, row_word};
 ghost use Rattle.pin_rule.specs.Steps.{after_load_place, after_load_row, after_write_row, after_write_place};
 ghost use Rattle.pin_rule.specs.Keeps.{Keeps};
-ghost use Rattle.pin_rule.specs.Told.{Tells};
+ghost use Rattle.pin_rule.specs.Told.{Tells, Meets};
 ghost use Rattle.pin_rule.specs.Hands.{view_of, sizes_of, table_of};
 
 use crate::content::Content;
@@ -38,6 +38,7 @@ impl<C: Content> Hand<C> {
         ensures table { table_of self.new ≡ table_of self.old }
         ensures view { view_of self.new ≡ after_load_row (view_of self.old) row index result }
         ensures told { Tells C.lawful C.fits (view_of self.new) }
+        ensures met { Meets (view_of self.old) (op.LoadRow row index) result }
     {
         self.load_at(Op::LoadRow { row, index }, start + index as usize)
     }
@@ -65,6 +66,7 @@ impl<C: Content> Hand<C> {
         ensures table { table_of self.new ≡ table_of self.old }
         ensures view { view_of self.new ≡ after_load_place (view_of self.old) page place result }
         ensures told { Tells C.lawful C.fits (view_of self.new) }
+        ensures met { Meets (view_of self.old) (op.LoadPlace page place) result }
     {
         self.load_at(Op::LoadPlace { page, place }, start + place as usize)
     }

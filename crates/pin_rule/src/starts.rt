@@ -126,6 +126,8 @@ impl Starts {
                 version: _,
                 page: _,
             } => 0,
+            Op::LoadRelease { page } => 1 + page as usize,
+            Op::FreeRow { row } => self.claim_at(row),
         }
     }
 }

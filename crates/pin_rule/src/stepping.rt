@@ -4,7 +4,7 @@ ghost use Rattle.std.specs.Prelude.{◌≡◌, ◌≢◌, ◌<◌, ◌≤◌};
 ghost use Rattle.pin_rule.specs.declared.ops.Op.TheVariants as op;
 ghost use Rattle.pin_rule.specs.Steps.{after_load_place, after_load_row, after_claim, after_write_row, after_publish, after_give_back};
 ghost use Rattle.pin_rule.specs.Keeps.{Keeps};
-ghost use Rattle.pin_rule.specs.Told.{Tells};
+ghost use Rattle.pin_rule.specs.Told.{Tells, Meets};
 ghost use Rattle.pin_rule.specs.Hands.{view_of, sizes_of, table_of};
 
 use crate::content::Content;
@@ -21,6 +21,7 @@ impl<C: Content> Hand<C> {
         ensures table { table_of self.new ≡ table_of self.old }
         ensures view { view_of self.new ≡ after_load_place (view_of self.old) page place result }
         ensures told { Tells C.lawful C.fits (view_of self.new) }
+        ensures met { Meets (view_of self.old) (op.LoadPlace page place) result }
     {
         self.load(Op::LoadPlace { page, place })
     }
@@ -33,6 +34,7 @@ impl<C: Content> Hand<C> {
         ensures table { table_of self.new ≡ table_of self.old }
         ensures view { view_of self.new ≡ after_load_row (view_of self.old) row index result }
         ensures told { Tells C.lawful C.fits (view_of self.new) }
+        ensures met { Meets (view_of self.old) (op.LoadRow row index) result }
     {
         self.load(Op::LoadRow { row, index })
     }
@@ -70,6 +72,7 @@ impl<C: Content> Hand<C> {
         ensures table { table_of self.new ≡ table_of self.old }
         ensures view { view_of self.new ≡ after_publish (view_of self.old) page place row result }
         ensures told { Tells C.lawful C.fits (view_of self.new) }
+        ensures met { Meets (view_of self.old) (op.Publish page place row) result }
     {
         let entry = row as u64 + 1;
         self.exchange(Op::Publish { page, place, row }, entry)

@@ -56,6 +56,7 @@ module _ {P : Step → Type 0} where
     pinned = k.pinned ∙ h.pinned;
     caught_up =
         h.caught_up ∙ ap length (sym k.log);
+    settled = λ r e. h.settled r (sym k.role ∙ e);
   }
 
 -- the steps are of a wider kind too

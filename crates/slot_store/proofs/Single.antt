@@ -6,6 +6,7 @@ use Rattle.pin_rule.specs.declared.sizes.Sizes.{Sizes}
 use Rattle.slot_store.specs.declared.site.Site.{Site}
 use Rattle.pin_rule.specs.declared.view.View.{View}
 use Rattle.pin_rule.specs.declared.view.OwnRow.{OwnRow}
+use Rattle.pin_rule.specs.declared.view.Role.{Role}
 use Rattle.pin_rule.specs.declared.view.EntryFact.{EntryFact}
 use Rattle.pin_rule.specs.declared.view.WordFact.{WordFact}
 use Rattle.pin_rule.specs.declared.view.Kind.TheVariants as kind
@@ -13,10 +14,12 @@ use Rattle.pin_rule.specs.Lists.{In}
 use Rattle.pin_rule.specs.Views.{version_at, version_pinned, version_of_role}
 use Rattle.pin_rule.specs.Steps.{met_entry, met_word, version_of, own_words, published_words, loaded_place, loaded_row, published, gave_back, after_load_place}
 use Rattle.pin_rule.specs.Steps.{after_load_row, after_publish, after_give_back}
+use Rattle.pin_rule.specs.GivingUp.{role_met}
 use Rattle.pin_rule.specs.Ops.{exchanged}
 use Rattle.pin_rule.specs.Told.{KnowsRow}
 use Rattle.pin_rule.proofs.Lists.{in_right}
 use Rattle.pin_rule.proofs.KindLoads.{names}
+use Rattle.pin_rule.proofs.Passing.{role_stays}
 use Rattle.slot_store.specs.Walks.{IsAtWork, Moves, KnowsAt, Reads}
 
 word_grows : (o : Option ℕ) (ws : List WordFact) (row index n : ℕ) (x : WordFact) → In x ws → In x (met_word o ws row index n)
@@ -56,6 +59,10 @@ knows_row z v row is = names_known v z.version row is
 -- the newest entry names its row
 pub names_it : (version : ℕ) (es : List EntryFact) (place row : ℕ) → version_of (record { version = version; place = place; row = row } ∷ es) row ≡ Some version
 names_it version es place row = ap (λ b. cond b (Some version) (version_of es row)) (eq-eqb row row refl)
+
+stays_settled : (z : Sizes) (o : Option Role) (page place n : ℕ) → ((r : Role) → o ≡ Some r → r.giving_up ≡ None) → role_met z o page place n ≡ o
+stays_settled z None page place n s = refl
+stays_settled z (Some r) page place n s = role_stays z page place n r (s r refl)
 
 module _ (z : Site) (v : View) (work : IsAtWork z v) where
   module _ (row index n : ℕ) where
@@ -101,7 +108,7 @@ module _ (z : Site) (v : View) (work : IsAtWork z v) where
       log_words = refl;
       quiet = ((tt, load_place_apart), tt);
       pinned = refl;
-      role = refl;
+      role = stays_settled v.sizes v.role z.page place n work.settled;
       steps = ap (λ (y : Sizes). v.steps ++ loaded_place y z.page place n ∷ []) work.sizes;
       entries = λ e i. entry_grows (version_at v z.page) v.entries place n e i;
       words = λ _ i. i;

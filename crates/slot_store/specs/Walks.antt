@@ -3,6 +3,7 @@ use Rattle.std.specs.Prelude.{◌≡◌, ◌≢◌, ℕ, suc, ◌+◌, ◌<◌, 
 use Rattle.slot_store.specs.declared.site.Site.{Site}
 use Rattle.pin_rule.specs.declared.view.View.{View}
 use Rattle.pin_rule.specs.declared.view.OwnRow.{OwnRow}
+use Rattle.pin_rule.specs.declared.view.Role.{Role}
 use Rattle.pin_rule.specs.declared.view.EntryFact.{EntryFact}
 use Rattle.pin_rule.specs.declared.view.WordFact.{WordFact}
 use Rattle.pin_rule.specs.declared.view.Step.{Step}
@@ -30,6 +31,8 @@ pub record IsAtWork (z : Site) (v : View) : Type 0 where
   pub share : v.share ≢ 0
   pub pinned : v.pinned ≡ Some record { version = z.version; page = z.page }
   pub caught_up : z.version ≡ now v
+  -- it gives up no version, so no load of a place changes its role
+  pub settled : (r : Role) → v.role ≡ Some r → r.giving_up ≡ None
 
 -- w is v after some steps, each of which is such; only its own row may be another
 pub record MovesBy (P : Step → Type 0) (v w : View) (added : List Step) : Type 0 where

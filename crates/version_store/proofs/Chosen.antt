@@ -10,7 +10,7 @@ use Rattle.pin_rule.specs.declared.sizes.Sizes.{Sizes}
 use Rattle.pin_rule.specs.Rows.{on_path}
 use Rattle.pin_rule.specs.NextVersion.{IsPast}
 use Rattle.pin_rule.proofs.Lists.{at_short}
-use Rattle.version_store.specs.Edits.{Found}
+use Rattle.version_store.specs.Rows.{Found}
 use Rattle.version_store.specs.Stages.{IsAt, key_in}
 use Rattle.version_store.specs.Choices.{count_taken, PutsAtFirst, HasChosen}
 use Rattle.version_store.proofs.Taken.{one_more, none_taken}

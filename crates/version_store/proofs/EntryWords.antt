@@ -37,6 +37,7 @@ module _ (c : Current) (v : View) (editor : IsEditorOf c v) where
   pub begins : (role_of v).making ≡ None → WritesEntry c v v []
   begins idle = record {
     goes = goes_nowhere v;
+    known = refl;
     role = editor.has ∙ ap (λ (m : Option Making). Some (with_making (role_of v) m)) idle;
   }
 
@@ -53,14 +54,15 @@ module _ (c : Current) (v : View) (editor : IsEditorOf c v) where
           goes = goes_as v (after_write_log w c.version (length xs) x) _ (entry_stores c.sizes c.version 0 (xs ++ x ∷ []))
               (sym (entry_next c.sizes c.version xs x))
               (goes_on v w (after_write_log w c.version (length xs) x) (entry_stores c.sizes c.version 0 xs) _ so_far.goes one);
+          known = so_far.known;
           role = ap (λ (o : Option Role). with_entry_word o x) so_far.role ∙ more_made (role_of v) c.next xs x spare;
         })
 
-    pub may : (L : List Entry → Type 0) (F : List Entry → List ℕ → Type 0) (entry : List ℕ)
+    pub may : (L : List Entry → Type 0) (F : List Entry → List ℕ → Type 0) (entry : List ℕ) → c.version < c.sizes.log
         → length (pages_taken (role_of v)) < c.sizes.versions → L (v.log ++ record { words = entry } ∷ [])
         → (length (xs ++ x ∷ []) ≡ 32 → xs ++ x ∷ [] ≡ entry) → length xs < 32
         → Keeps L F w (op.WriteLog c.version (length xs) x)
-    may L F entry room lawful whole few = let r = with_making (role_of v) (making_entry c.next xs) in
+    may L F entry short room lawful whole few = let r = with_making (role_of v) (making_entry c.next xs) in
         let same : w.sizes ≡ c.sizes = so_far.goes.stays.sizes ∙ editor.sizes in
         keeps_write_log L F w r c.version (length xs) x (record {
           has = so_far.role;
@@ -70,7 +72,7 @@ module _ (c : Current) (v : View) (editor : IsEditorOf c v) where
           lawful_next = λ next n. let words = ap (λ (l : List ℕ). l ++ x ∷ []) (made_is (role_of v) c.next xs) in
               let is : n.1.words ≡ entry = n.2 ∙ words ∙ whole (ap length (sym words) ∙ n.0) in
               subst L (sym (n.3 ∙ (λ i. so_far.goes.log i ++ record { words = is i } ∷ []))) lawful;
-        }) (subst (λ (z : Sizes). c.version < z.log) (sym same) c.version_in) few
+        }) (subst (λ (z : Sizes). c.version < z.log) (sym same) short) few
 
 -- the words so far and the next one
 module _ (entry : List ℕ) (long : length entry ≡ 32) (index : ℕ) (inside : index < 32) where

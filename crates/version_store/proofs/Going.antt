@@ -7,7 +7,8 @@ use Rattle.pin_rule.specs.declared.view.Step.{Step}
 use Rattle.pin_rule.specs.Steps.{wrote_log, wrote_place, loaded_row}
 use Rattle.version_store.specs.declared.current.Current.{Current}
 use Rattle.version_store.specs.Roles.{role_of, role_or_first}
-use Rattle.version_store.specs.Edits.{Found, entry_stores, row_loads, page_loads, page_stores, place_loads}
+use Rattle.version_store.specs.Rows.{Found}
+use Rattle.version_store.specs.Edits.{entry_stores, row_loads, page_loads, page_stores, place_loads}
 use Rattle.version_store.specs.Stages.{IsEditorOf, Stays, Goes}
 use Rattle.std.specs.Prelude.{Option, Some}
 
@@ -40,8 +41,8 @@ goes_as v w a b e h = subst (Goes v w) e h
 
 -- an editor whose newest version stays is one afterwards
 pub editor_on : (c : Current) (v w : View) (a : List Step) → IsEditorOf c v → Goes v w a → (r : Role) → w.role ≡ Some r
-    → r.newest ≡ (role_of v).newest → IsEditorOf c w
-editor_on c v w a e g r is same = let has : role_of w ≡ r = ap role_or_first is in record {
+    → r.newest ≡ (role_of v).newest → r.giving_up ≡ (role_of v).giving_up → IsEditorOf c w
+editor_on c v w a e g r is same idle = let has : role_of w ≡ r = ap role_or_first is in record {
   sizes = g.stays.sizes ∙ e.sizes;
   share = λ z. e.share (sym g.stays.share ∙ z);
   unpinned = g.stays.pinned ∙ e.unpinned;
@@ -49,6 +50,7 @@ editor_on c v w a e g r is same = let has : role_of w ≡ r = ap role_or_first i
   at = e.at ∙ ap length (sym g.log);
   version_is = ap (λ (x : Role). x.newest.version) has ∙ (λ i. (same i).version) ∙ e.version_is;
   page_is = ap (λ (x : Role). x.newest.page) has ∙ (λ i. (same i).page) ∙ e.page_is;
+  keeps_all = ap (λ (x : Role). x.giving_up) has ∙ idle ∙ e.keeps_all;
 }
 
 -- one word more

@@ -1,7 +1,8 @@
 -- The parts of an edit together make the next version.
-use Rattle.std.proofs.Common.{◌≡◌, ◌≢◌, ℕ, suc, ◌+◌, ◌<◌, List, [], ◌∷◌, ◌++◌, length, slice_index, append_assoc, sym, refl, ap, ◌∙◌, subst, arith}
-use Rattle.std.specs.Prelude.{Option, Some}
+use Rattle.std.proofs.Common.{◌≡◌, ◌≢◌, ℕ, suc, ◌+◌, ◌<◌, List, [], ◌∷◌, ◌++◌, length, slice_index, append_assoc, eq-eqb, sym, refl, ap, ◌∙◌, subst, arith}
+use Rattle.std.specs.Prelude.{Option, Some, None, Bool}
 use mathlib.Core.Option as maybe
+use mathlib.Core.Bool.{cond}
 use lib.ListN.{get_elem?}
 use Rattle.pin_rule.specs.declared.sizes.Sizes.{Sizes}
 use Rattle.pin_rule.specs.declared.content.Entry.{Entry}
@@ -10,13 +11,15 @@ use Rattle.pin_rule.specs.declared.view.Step.{Step}
 use Rattle.pin_rule.specs.declared.view.Role.{Role}
 use Rattle.pin_rule.specs.declared.view.Making.{Making}
 use Rattle.pin_rule.specs.declared.view.WordFact.{WordFact}
+use Rattle.pin_rule.specs.declared.view.KnownPlace.{KnownPlace}
 use Rattle.pin_rule.specs.declared.ops.Op.TheVariants as op
 use Rattle.pin_rule.specs.Layout.{version_named, page_named, taken_named}
 use Rattle.pin_rule.specs.Lists.{In}
 use Rattle.pin_rule.specs.Rows.{key_of, on_path}
-use Rattle.pin_rule.specs.Views.{now}
-use Rattle.pin_rule.specs.Making.{making_of, making_in, by_making, next_log, with_version, role_with_version}
-use Rattle.pin_rule.specs.Steps.{swapped, after_swap_current}
+use Rattle.pin_rule.specs.Views.{whole, now}
+use Rattle.pin_rule.specs.Making.{making_of, making_in, by_making, next_log, rows_of, places_known, with_version, role_with_version}
+use Rattle.pin_rule.specs.PartLive.{known_release}
+use Rattle.pin_rule.specs.Steps.{swapped, known_after, after_swap_current}
 use Rattle.pin_rule.specs.Told.{KnowsKey}
 use Rattle.pin_rule.specs.Keeps.{Keeps}
 use Rattle.pin_rule.specs.NextVersion.{IsKeepable, IsWritten, IsWholePage}
@@ -24,13 +27,16 @@ use Rattle.pin_rule.proofs.Lists.{in_at, at_in}
 use Rattle.pin_rule.proofs.Seats.{same_some}
 use Rattle.pin_rule.proofs.KindSwapCurrent.{keeps_swap_current}
 use Rattle.version_store.specs.declared.current.Current.{Current}
-use Rattle.version_store.specs.Roles.{role_of, role_or_first, pages_of, older_of}
-use Rattle.version_store.specs.Edits.{Found, KeepsExactly, entry_stores, page_loads, page_stores}
-use Rattle.version_store.specs.Stages.{IsEditorOf, Stays, next_of, with_making, making_entry, WritesEntry, FindsRows, WritesPage}
-use Rattle.version_store.specs.Choices.{HasChosen, MakesNext}
+use Rattle.version_store.specs.Roles.{role_of, role_or_first}
+use Rattle.version_store.specs.Rows.{Found, IsWholeRow}
+use Rattle.version_store.specs.Edits.{KeepsExactly, entry_stores, page_loads, page_stores}
+use Rattle.version_store.specs.Stages.{IsAt, IsEditorOf, Stays, next_of, with_making, making_entry, WritesEntry, FindsRows, WritesPage}
+use Rattle.version_store.specs.Graphs.{IsWholeKnown}
+use Rattle.version_store.specs.Choices.{HasChosen, KeepsRows, MakesNext}
 use Rattle.version_store.proofs.Going.{stays_on, editor_on}
 use Rattle.version_store.proofs.EntryWords.{made_is}
 use Rattle.version_store.proofs.WholeRows.{content_is}
+use Rattle.version_store.proofs.GraphRows.{was_found, is_found, keeps_rows}
 use Rattle.version_store.proofs.PageRows as rows
 use Rattle.version_store.proofs.RowsByNumber.{words_by, words_at, in_slice, slice_in}
 
@@ -46,7 +52,7 @@ module _ (c : Current) (v w : View) (entry : List ℕ) (editor : IsEditorOf c v)
   role_is = ap role_or_first wrote.role
 
   pub editor_written : IsEditorOf c w
-  editor_written = editor_on c v w _ editor wrote.goes (with_making (role_of v) (making_entry c.next entry)) wrote.role refl
+  editor_written = editor_on c v w _ editor wrote.goes (with_making (role_of v) (making_entry c.next entry)) wrote.role refl refl
 
   pub next_is : next_of w ≡ v.log ++ record { words = entry } ∷ []
   next_is = (λ i. next_log (wrote.goes.log i) (making_of (role_is i))) ∙ ap (λ (ws : List ℕ). v.log ++ record { words = ws } ∷ [])
@@ -143,9 +149,6 @@ module _ (u x : View) (r : Role) (m : Making) (version page met : ℕ) (has : u.
   steps_after : x.steps ≡ u.steps ++ swapped version page met ∷ []
   steps_after = ap (λ (y : View). y.steps) is
 
-  new_role : role_of x ≡ with_version r m version page met
-  new_role = ap role_or_first role_after
-
 -- four lists of steps, one after the other
 four : (s a b d e t : List Step) (t1 t2 t3 : List Step) → t1 ≡ s ++ a → t2 ≡ t1 ++ b → t3 ≡ t2 ++ d → t ≡ t3 ++ e → t ≡ s ++ (a ++ (b ++ (d ++ e)))
 four s a b d e t t1 t2 t3 p q r w = w ∙ ap (λ (l : List Step). l ++ e) r ∙ append_assoc t2 d e ∙ ap (λ (l : List Step). l ++ (d ++ e)) q
@@ -163,7 +166,7 @@ module _ (c : Current) (v v1 v2 : View) (entry : List ℕ) (found : List (Option
 
 module _ (c : Current) (F : List Entry → List ℕ → Type 0) (keeps : List ℕ → Type 0) (v v1 v2 v3 : View) (entry : List ℕ) (found : List (Option Found))
     (places : List ℕ) (editor : IsEditorOf c v) (long : length entry ≡ 32) (wrote : WritesEntry c v v1 entry) (finds : FindsRows c v1 v2 found)
-    (chosen : HasChosen keeps (F (next_of v1)) c.sizes found places) (wrote_page : WritesPage c v2 v3 places) where
+    (chosen : HasChosen keeps (F (next_of v1)) c.sizes found places) (wrote_page : WritesPage c v2 v3 places) (every : length found ≡ c.sizes.places) where
   abbrev m : Making
   m = record { page = c.next; entry = entry; places = places }
 
@@ -182,6 +185,7 @@ module _ (c : Current) (F : List Entry → List ℕ → Type 0) (keeps : List �
 
   editor_third : IsEditorOf c v3
   editor_third = editor_on c v2 v3 _ editor_second wrote_page.goes (with_making (role_of v) (Some m)) has (ap (λ (y : Role). y.newest) (sym role_before))
+      (ap (λ (y : Role). y.giving_up) (sym role_before))
 
   -- the new version may be made the current one
   pub may_swap : (L : List Entry → Type 0) → Keeps L F v3 (op.SwapCurrent (c.version + 1) c.next)
@@ -193,13 +197,30 @@ module _ (c : Current) (F : List Entry → List ℕ → Type 0) (keeps : List �
     whole = whole_page c F keeps v1 v2 entry found places (next_of v1) editor_first finds chosen v3 m wrote_page.words wrote_page.goes.log e.sizes refl long;
   }) e.share
 
-  pub makes : (x : View) (met : ℕ) → length found ≡ c.sizes.places → x ≡ after_swap_current v3 (c.version + 1) c.next met
-      → ((y : Role) → v3.role ≡ Some y → (version_named met ≡ y.newest.version) × (page_named met ≡ y.newest.page)) → MakesNext keeps c v x entry met
-  makes x met every_place is named = let e = editor_third in let n : ℕ = c.version + 1 in let next : n ≡ suc c.version = omega arith in
-      let role = new_role v3 x (with_making (role_of v) (Some m)) m n c.next met has refl is in
+  -- with the whole share
+
+  sharing : v3.share ≡ v.share
+  sharing = (stays_on v v1 v3 wrote.goes.stays (stays_on v1 v2 v3 finds.goes.stays wrote_page.goes.stays)).share
+
+  known_is : (x : View) (met : ℕ) → x ≡ after_swap_current v3 (c.version + 1) c.next met → v3.share ≡ whole
+      → x.known ≡ places_known c.version v2.words 0 places
+  known_is x met is all = ap (λ (y : View). y.known) is ∙ ap (λ (o : Option Making). by_making o [] (known_after v3)) (ap making_in has)
+      ∙ ap (λ (b : Bool). cond b (places_known (now v3) v3.words 0 places) []) (eq-eqb v3.share whole all)
+      ∙ (λ i. places_known (sym editor_third.at i) (wrote_page.words i) 0 places)
+
+  rows_kept : v1.share ≡ whole → IsWholeKnown c.sizes v1.known → KeepsRows keeps c.sizes v.known (places_known c.version v2.words 0 places)
+  rows_kept all before = let wholes : (o : ℕ) (f : Found) → IsAt found o f → IsWholeRow f.words = λ o f e. (finds.known o f e).is_whole in subst (λ (ks : List KnownPlace). KeepsRows keeps c.sizes ks
+      (places_known c.version v2.words 0 places)) wrote.known
+      (keeps_rows c.sizes keeps (F (next_of v1)) v1.known found places c.version v2.words chosen wholes (λ o f index e lt. (finds.known o f e).words index lt)
+      (λ o f index word e there lt. finds.words_once o f index word e there lt)
+      (was_found c.sizes v1.known v2.known found every (finds.learns all) wholes (finds.alike all) before)
+      (is_found c.sizes v1.known v2.known found every (finds.learns all) wholes (finds.alike all) before))
+
+  pub makes : (x : View) (met : ℕ) → x ≡ after_swap_current v3 (c.version + 1) c.next met
+      → ((y : Role) → v3.role ≡ Some y → (version_named met ≡ y.newest.version) × (page_named met ≡ y.newest.page)) → MakesNext keeps c v x entry places met
+  makes x met is named = let e = editor_third in let n : ℕ = c.version + 1 in let next : n ≡ suc c.version = omega arith in
       let said = named (with_making (role_of v) (Some m)) has in record {
         found = found;
-        places = places;
         stays = stays_on v v1 x wrote.goes.stays (stays_on v1 v2 x finds.goes.stays (stays_on v2 v3 x wrote_page.goes.stays
             (stays_after v3 x (with_making (role_of v) (Some m)) m n c.next met has refl is)));
         steps = four v.steps (entry_stores c.sizes c.version 0 entry) (page_loads c.sizes c.page 0 found) (page_stores c.sizes c.next 0 places)
@@ -207,16 +228,18 @@ module _ (c : Current) (F : List Entry → List ℕ → Type 0) (keeps : List �
             (steps_after v3 x (with_making (role_of v) (Some m)) m n c.next met has refl is ∙ ap (λ (k : ℕ). v3.steps ++ swapped k c.next met ∷ []) next);
         log = log_after v3 x (with_making (role_of v) (Some m)) m n c.next met has refl is
             ∙ ap (λ (l : List Entry). l ++ record { words = entry } ∷ []) (wrote_page.goes.log ∙ finds.goes.log ∙ wrote.goes.log);
-        every_place = every_place;
+        every_place = every;
         whole_rows = λ f i. let a = in_at (Some f) found i in (finds.known a.0 f a.1).is_whole;
         every_new_place = chosen.room;
         kept = keeps_exactly keeps (F (next_of v1)) c.sizes found places chosen;
         version_before = said.0 ∙ editor.version_is;
         page_before = said.1 ∙ editor.page_is;
-        has = role_after v3 x (with_making (role_of v) (Some m)) m n c.next met has refl is ∙ ap (λ (y : Role). Some y) (sym role);
-        idle = ap (λ (y : Role). y.making) role;
-        giving_up = ap (λ (y : Role). y.giving_up) role;
-        version_is = ap (λ (y : Role). y.newest.version) role ∙ next;
-        pages = ap pages_of role;
-        older = ap older_of role ∙ ap (λ (k : ℕ). (k, taken_named met) ∷ older_of (role_of v)) editor.version_is;
+        rows_in = λ place row is. let k = chosen.kept place row is in subst (λ (i : ℕ). i < c.sizes.rows) k.3 (finds.rows_in k.0 k.1 k.2);
+        graph = λ all before. subst (KeepsRows keeps c.sizes v.known) (sym (known_is x met is (sharing ∙ all)))
+            (rows_kept (wrote.goes.stays.share ∙ all) (subst (IsWholeKnown c.sizes) (sym wrote.known) before));
+        role = role_after v3 x (with_making (role_of v) (Some m)) m n c.next met has refl is ∙ (λ i. Some (record (role_of v) {
+          newest = record { version = next i; page = c.next; base = known_release (role_of v).released c.next; carried = rows_of places };
+          older = record { live = (role_of v).newest; taken = taken_named met } ∷ (role_of v).older;
+          making = None;
+        }));
       }

@@ -9,20 +9,25 @@ use Rattle.pin_rule.specs.declared.content.Entry.{Entry}
 use Rattle.pin_rule.specs.declared.view.View.{View}
 use Rattle.pin_rule.specs.declared.view.EntryFact.{EntryFact}
 use Rattle.pin_rule.specs.declared.view.WordFact.{WordFact}
+use Rattle.pin_rule.specs.declared.view.KnownPlace.{KnownPlace}
 use Rattle.pin_rule.specs.Lists.{In}
-use Rattle.pin_rule.specs.Views.{version_at, version_pinned, version_of_role, version_given_up}
+use Rattle.pin_rule.specs.Views.{whole, version_at, version_pinned, version_of_role, version_given_up}
 use Rattle.pin_rule.specs.Making.{making_of, next_log}
-use Rattle.pin_rule.specs.Steps.{met_entry, version_of, loaded_place, after_load_place}
-use Rattle.pin_rule.specs.Told.{KnowsKey, IsTold, Tells}
+use Rattle.pin_rule.specs.Steps.{met_entry, version_of, learned_place, loaded_place, after_load_place}
+use Rattle.pin_rule.specs.Told.{KnowsKey, IsTold, Tells, IsAsKnown}
 use Rattle.pin_rule.proofs.Lists.{at_end}
 use Rattle.pin_rule.proofs.Seats.{none_some, same_some}
 use Rattle.pin_rule.proofs.Frames.{same_key}
+use Rattle.pin_rule.proofs.Passing.{load_keeps_role}
 use Rattle.slot_store.proofs.Single.{entry_grows, names_it, names_known}
 use Rattle.version_store.specs.declared.current.Current.{Current}
 use Rattle.version_store.specs.Roles.{role_of, role_or_first}
-use Rattle.version_store.specs.Edits.{Found, IsWholeRow, page_loads, row_loads}
+use Rattle.version_store.specs.Learning.{Grown, Learns}
+use Rattle.version_store.specs.Rows.{Found, IsWholeRow}
+use Rattle.version_store.specs.Edits.{page_loads, row_loads}
 use Rattle.version_store.specs.Stages.{IsEditorOf, Goes, next_of, IsAt, key_in, ReadsRow, IsKnownRow, FindsRows}
 use Rattle.version_store.proofs.Going.{goes_nowhere, goes_on, goes_as, editor_on, loads_next}
+use Rattle.version_store.proofs.KnownPlaces.{met_is, learns_none, learns_empty, learns_row}
 use Rattle.version_store.proofs.RowWords.{told_of}
 
 -- the log that comes next is the same for a view with the same log and role
@@ -75,12 +80,20 @@ module _ (c : Current) (F : List ℕ → Type 0) (w : View) (told : IsTold F w c
   key_once e = told.keys_once o p f.row g.row (slice_index f.words) a.at b.at (knows_key c w o f a) (knows_same c w p f g b e)
 
 -- what is known of the rows that were found, and the rest by the rule
-finds : (c : Current) (v w : View) (found : List (Option Found)) (F : List ℕ → Type 0) → Goes v w (page_loads c.sizes c.page 0 found) → w.role ≡ v.role
-    → ((place : ℕ) (f : Found) → IsAt found place f → IsKnownRow c w place f) → IsTold F w c.version → FindsRows c v w found
-finds c v w found F goes role known told = record {
+finds : (c : Current) (v w : View) (found : List (Option Found)) (F : List ℕ → Type 0) → IsEditorOf c w → Goes v w (page_loads c.sizes c.page 0 found)
+    → w.role ≡ v.role → ((place : ℕ) (f : Found) → IsAt found place f → IsKnownRow c w place f) → (v.share ≡ whole → Learns v.known w.known found)
+    → IsTold F w c.version → FindsRows c v w found
+finds c v w found F editor goes role known learns told = record {
   goes = goes;
   role = role;
   known = known;
+  rows_in = λ place f a. subst (λ (z : Sizes). f.row < z.rows) editor.sizes (told.range f.row (place, (known place f a).at));
+  words_once = λ place f index word a fact lt. told.words_once f.row index word (slice_index f.words index) fact ((known place f a).words index lt);
+  learns = learns;
+  inside = λ all some l i. subst (λ (z : Sizes). l.place < z.places) editor.sizes
+      ((told.alike (goes.stays.share ∙ all) (role_of w) editor.has editor.version_is).inside l i);
+  alike = λ all place f l index word a i e there lt. (told.alike (goes.stays.share ∙ all) (role_of w) editor.has editor.version_is).words l f.row index word
+      (slice_index f.words index) i e there ((known place f a).words index lt);
   rows_once = λ o p f g a b. row_once c F w told o p f g (known o f a) (known p g b);
   keys_once = λ o p f g a b. key_once c F w told o p f g (known o f a) (known p g b);
 }
@@ -91,13 +104,18 @@ begins c v = record {
   goes = goes_nowhere v;
   role = refl;
   known = λ place f e. absurd (maybe.some-ne-none (Some f) (sym e));
+  rows_in = λ place f e. absurd (maybe.some-ne-none (Some f) (sym e));
+  words_once = λ place f index word e fact lt. absurd (maybe.some-ne-none (Some f) (sym e));
+  learns = λ all. learns_none v.known;
+  inside = λ all some. absurd (omega arith);
+  alike = λ all place f l index word e i is there lt. absurd (maybe.some-ne-none (Some f) (sym e));
   rows_once = λ o p f g a b _. absurd (maybe.some-ne-none (Some f) (sym a));
   keys_once = λ o p f g a b _. absurd (maybe.some-ne-none (Some f) (sym a));
 }
 
 module _ (c : Current) (v w : View) (editor : IsEditorOf c v) (found : List (Option Found)) (so_far : FindsRows c v w found) where
   pub editor_then : IsEditorOf c w
-  editor_then = editor_on c v w _ editor so_far.goes (role_of v) (so_far.role ∙ editor.has) refl
+  editor_then = editor_on c v w _ editor so_far.goes (role_of v) (so_far.role ∙ editor.has) refl refl
 
   -- the editor may speak of the page
   speaks : version_at w c.page ≡ Some c.version
@@ -115,7 +133,7 @@ module _ (c : Current) (v w : View) (editor : IsEditorOf c v) (found : List (Opt
         })
 
     same_role : u.role ≡ w.role
-    same_role = ap (λ (y : View). y.role) is
+    same_role = ap (λ (y : View). y.role) is ∙ load_keeps_role w (role_of w) c.page place n editor_then.has editor_then.keeps_all
 
     more_entries : (e : EntryFact) → In e w.entries → In e u.entries
     more_entries e i = subst (λ (y : View). In e y.entries) (sym is) (entry_grows (version_at w c.page) w.entries place n e i)
@@ -124,19 +142,29 @@ module _ (c : Current) (v w : View) (editor : IsEditorOf c v) (found : List (Opt
     more_words x i = subst (λ (y : View). In x y.words) (sym is) i
 
     pub editor_at : IsEditorOf c u
-    editor_at = editor_on c w u _ editor_then loads (role_of w) (same_role ∙ editor_then.has) refl
+    editor_at = editor_on c w u _ editor_then loads (role_of w) (same_role ∙ editor_then.has) refl refl
 
     pub next_at : next_of u ≡ next_of v
     next_at = next_stays v u (loads.log ∙ so_far.goes.log) (same_role ∙ so_far.role)
 
+    known_at : v.share ≡ whole → u.known ≡ learned_place place n w.known
+    known_at all = let e = editor_then in ap (λ (y : View). y.known) is
+        ∙ met_is w (role_of w) c.page place n (so_far.goes.stays.share ∙ all) e.has e.page_is
+
+    is_known : IsAsKnown w c.page place n → v.share ≡ whole → (l : KnownPlace) → In l w.known → l.place ≡ place → n ≡ l.met
+    is_known as_known all l i there = let e = editor_then in as_known (so_far.goes.stays.share ∙ all) (role_of w) l e.has e.page_is i there
+
     -- the place was empty
-    pub empty : (L : List Entry → Type 0) (F : List Entry → List ℕ → Type 0) → Tells L F u → n ≡ 0 → FindsRows c v u (found ++ None ∷ [])
-    empty L F told e = let goes = goes_on v w u (page_loads c.sizes c.page 0 found) _ so_far.goes loads in
-        finds c v u (found ++ None ∷ []) (F u.log)
+    pub empty : (L : List Entry → Type 0) (F : List Entry → List ℕ → Type 0) → Tells L F u → IsAsKnown w c.page place n → n ≡ 0
+        → FindsRows c v u (found ++ None ∷ [])
+    empty L F told as_known e = let goes = goes_on v w u (page_loads c.sizes c.page 0 found) _ so_far.goes loads in
+        finds c v u (found ++ None ∷ []) (F u.log) editor_at
         (goes_as v u _ (page_loads c.sizes c.page 0 (found ++ None ∷ [])) (ap (λ (k : ℕ). page_loads c.sizes c.page 0 found
         ++ loaded_place c.sizes c.page (length found) k ∷ []) e ∙ sym (loads_next c.sizes c.page found None)) goes)
         (same_role ∙ so_far.role)
-        (λ p f a. known_on c w u p f more_entries more_words (so_far.known p f (at_none found p f a))) (told_of L F c u editor_at told).1
+        (λ p f a. known_on c w u p f more_entries more_words (so_far.known p f (at_none found p f a)))
+        (λ all. subst (λ (ks : List KnownPlace). Learns v.known ks (found ++ None ∷ [])) (sym (known_at all))
+        (learns_empty v.known w.known found (so_far.learns all) place n at (is_known as_known all) e)) (told_of L F c u editor_at told).1
 
     -- a row was met
     module _ (row : ℕ) (met : n ≡ suc row) where
@@ -173,18 +201,21 @@ module _ (c : Current) (v w : View) (editor : IsEditorOf c v) (found : List (Opt
         ]
 
         pub editor_after : IsEditorOf c x
-        editor_after = editor_on c u x _ editor_at reads.goes (role_of u) (reads.role ∙ editor_at.has) refl
+        editor_after = editor_on c u x _ editor_at reads.goes (role_of u) (reads.role ∙ editor_at.has) refl refl
 
-        pub found_row : (L : List Entry → Type 0) (F : List Entry → List ℕ → Type 0) → Tells L F x
+        pub found_row : (L : List Entry → Type 0) (F : List Entry → List ℕ → Type 0) → Tells L F x → IsAsKnown w c.page place n
             → FindsRows c v x (found ++ Some (record { row = row; words = words }) ∷ [])
-        found_row L F told =
+        found_row L F told as_known =
             let a = page_loads c.sizes c.page 0 found in let b = loaded_place c.sizes c.page (length found) n ∷ [] in let d = row_loads c.sizes row 0 words in
             let goes = goes_on v w x a (b ++ d) so_far.goes (goes_on w u x b d loads reads.goes) in
-            finds c v x (found ++ Some (record { row = row; words = words }) ∷ []) (F x.log)
+            finds c v x (found ++ Some (record { row = row; words = words }) ∷ []) (F x.log) editor_after
             (goes_as v x _ (page_loads c.sizes c.page 0 (found ++ Some (record { row = row; words = words }) ∷ []))
             (ap (λ (k : ℕ). a ++ loaded_place c.sizes c.page (length found) k ∷ d) met ∙ sym (loads_next c.sizes c.page found (Some (record {
               row = row;
               words =
                   words;
             })))) goes)
-            (reads.role ∙ same_role ∙ so_far.role) all_known (told_of L F c x editor_after told).1
+            (reads.role ∙ same_role ∙ so_far.role) all_known
+            (λ all. learns_row v.known w.known found (so_far.learns all) place n at (is_known as_known all) row words met x.known
+            (subst (λ (ks : List KnownPlace). Grown ks x.known) (known_at all) reads.grown)
+            (reads.shows (loads.stays.share ∙ so_far.goes.stays.share ∙ all))) (told_of L F c x editor_after told).1

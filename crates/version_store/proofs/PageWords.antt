@@ -45,6 +45,7 @@ module _ (c : Current) (v : View) (editor : IsEditorOf c v) where
   pub begins : (m : Making) → (role_of v).making ≡ Some m → WritesPage c v v []
   begins m is = record {
     goes = goes_nowhere v;
+    known = refl;
     entries = refl;
     words = refl;
     role = λ n making empty. editor.has ∙ ap (λ (o : Option Making). Some (with_making (role_of v) o)) making
@@ -62,6 +63,7 @@ module _ (c : Current) (v : View) (editor : IsEditorOf c v) where
         subst (λ (y : View). WritesPage c v y (xs ++ x ∷ [])) (sym (is ∙ ap (λ (n : ℕ). after_write_place w c.next n x) at)) (record {
           goes = goes_as v t _ (page_stores c.sizes c.next 0 (xs ++ x ∷ [])) (sym (stores_next c.sizes c.next xs x))
               (goes_on v w t (page_stores c.sizes c.next 0 xs) _ so_far.goes one);
+          known = so_far.known;
           entries = so_far.entries;
           words = so_far.words;
           role = λ m making empty. ap (λ (o : Option Role). with_place_word o x) (so_far.role m making empty);

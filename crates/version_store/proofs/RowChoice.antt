@@ -7,7 +7,7 @@ use Rattle.pin_rule.specs.Choosing.{IsStepFor}
 use Rattle.pin_rule.specs.Steps.{version_of}
 use Rattle.pin_rule.specs.Told.{Tells}
 use Rattle.version_store.specs.declared.current.Current.{Current}
-use Rattle.version_store.specs.Edits.{IsWholeRow}
+use Rattle.version_store.specs.Rows.{IsWholeRow}
 use Rattle.version_store.specs.Stages.{IsEditorOf, ReadsRow}
 use Rattle.version_store.proofs.RowWords.{editor_then, knows_then, told_of}
 use Rattle.version_store.proofs.WholeRows.{content_is}

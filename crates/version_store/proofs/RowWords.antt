@@ -11,13 +11,17 @@ use Rattle.pin_rule.specs.declared.content.Entry.{Entry}
 use Rattle.pin_rule.specs.declared.view.View.{View}
 use Rattle.pin_rule.specs.declared.view.WordFact.{WordFact}
 use Rattle.pin_rule.specs.Lists.{In}
-use Rattle.pin_rule.specs.Steps.{version_of, met_word, loaded_row, after_load_row}
+use Rattle.pin_rule.specs.Views.{whole}
+use Rattle.pin_rule.specs.Steps.{version_of, met_word, loaded_row, learned_word, known_read, after_load_row}
 use Rattle.pin_rule.specs.Told.{KnowsRow, KnowsWord, IsTold, Tells}
 use Rattle.slot_store.proofs.Single.{names_known}
 use Rattle.version_store.specs.declared.current.Current.{Current}
 use Rattle.version_store.specs.Roles.{role_of}
-use Rattle.version_store.specs.Edits.{IsWholeRow, row_loads}
+use Rattle.version_store.specs.Rows.{IsWholeRow}
+use Rattle.version_store.specs.Edits.{row_loads}
+use Rattle.version_store.specs.Learning.{Shows}
 use Rattle.version_store.specs.Stages.{IsEditorOf, Goes, ReadsRow}
+use Rattle.version_store.proofs.KnownPlaces.{grown_still, grown_on, grown_read, grown_words, read_is, word_learned}
 use Rattle.version_store.proofs.Going.{goes_nowhere, goes_on, goes_as, editor_on, row_next}
 
 -- what the rule tells of an editor's view
@@ -34,14 +38,29 @@ more_known P xs x h last i lt = elim (cases_lt i (length xs)) [
       subst (λ (j : ℕ). P j (slice_index (xs ++ x ∷ []) j)) (sym e) (subst (P (length xs)) (sym (get_or-append_seam xs x [] 0)) last)
 ]
 
+-- the words of a row are known wherever it stands, and one word more
+shows_more : (w : View) (row : ℕ) (xs : List ℕ) (x : ℕ) → w.share ≡ whole → Shows w.known row xs → Shows (known_read w row (length xs) x) row (xs ++ x ∷ [])
+shows_more w row xs x all shows l i e = let f = learned_word row (length xs) x in let j = subst (In l) (read_is w row (length xs) x all) i in
+    let b = (grown_words row (length xs) x w.known).back l j in
+    more_known (λ (index word : ℕ). In (index, word) l.words) xs x (λ index lt. b.2.2 _ (shows b.0 b.1 (sym b.2.1 ∙ e) index lt))
+    (word_learned row (length xs) x w.known l j e)
+
 module _ (c : Current) (v : View) (row : ℕ) (editor : IsEditorOf c v) (named : version_of v.entries row ≡ Some c.version) where
   pub begins : ReadsRow c v v row []
-  begins = record { goes = goes_nowhere v; role = refl; entries = refl; earlier = λ _ i. i; known = λ i lt. absurd (omega arith) }
+  begins = record {
+    goes = goes_nowhere v;
+    role = refl;
+    entries = refl;
+    earlier = λ _ i. i;
+    known = λ i lt. absurd (omega arith);
+    grown = grown_still v.known;
+    shows = λ all l i e index lt. absurd (omega arith);
+  }
 
   -- the view after some words
   module _ (w : View) (xs : List ℕ) (so_far : ReadsRow c v w row xs) where
     pub editor_then : IsEditorOf c w
-    editor_then = editor_on c v w _ editor so_far.goes (role_of v) (so_far.role ∙ editor.has) refl
+    editor_then = editor_on c v w _ editor so_far.goes (role_of v) (so_far.role ∙ editor.has) refl refl
 
     pub named_then : version_of w.entries row ≡ Some c.version
     named_then = ap (λ es. version_of es row) so_far.entries ∙ named
@@ -66,6 +85,8 @@ module _ (c : Current) (v : View) (row : ℕ) (editor : IsEditorOf c v) (named :
           entries = so_far.entries;
           earlier = λ y i. keeps y (so_far.earlier y i);
           known = more_known (λ i word. KnowsWord t c.version row i word) xs x (λ i lt. keeps _ (so_far.known i lt)) (subst (In fact) (sym words) (inl refl));
+          grown = grown_on v.known w.known t.known so_far.grown (grown_read w row (length xs) x);
+          shows = λ all. shows_more w row xs x (so_far.goes.stays.share ∙ all) (so_far.shows all);
         })
 
   -- after the two lengths

@@ -8,7 +8,7 @@ use lib.Dec.{eqb}
 use Rattle.std.specs.Prelude.{Option, Some, None}
 use Rattle.pin_rule.specs.Lists.{In}
 use Rattle.pin_rule.proofs.Seats.{none_some, same_some}
-use Rattle.version_store.specs.Edits.{Found}
+use Rattle.version_store.specs.Rows.{Found}
 use Rattle.version_store.specs.Stages.{IsAt}
 
 -- the words of the first row of this number

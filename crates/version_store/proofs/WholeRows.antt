@@ -2,7 +2,7 @@
 use Rattle.std.proofs.Common.{◌≡◌, ℕ, suc, ◌+◌, ◌<◌, ◌≤◌, List, [], ◌∷◌, length, take, drop, slice_index, sym, refl, ap, ◌∙◌, arith}
 use Rattle.std.proofs.lemmas.List.{length-take-le, length-drop, get_or-take, get_or-drop}
 use Rattle.pin_rule.specs.Rows.{words_of, content_of}
-use Rattle.version_store.specs.Edits.{IsWholeRow}
+use Rattle.version_store.specs.Rows.{IsWholeRow}
 use Rattle.version_store.specs.Stages.{key_in}
 
 -- words that agree with a list from an index on

@@ -2,12 +2,19 @@
 use Rattle.std.specs.Prelude.{◌≡◌, ◌⊎◌, ℕ, zero, suc, ◌<◌, ◌≤◌, List, [], ◌∷◌, ◌++◌, length, slice_index, slice_set, Option, Some, None}
 use Rattle.pin_rule.specs.declared.sizes.Sizes.{Sizes}
 use Rattle.pin_rule.specs.declared.view.View.{View}
+use Rattle.pin_rule.specs.declared.view.Role.{Role}
+use Rattle.pin_rule.specs.declared.view.KnownPlace.{KnownPlace}
 use Rattle.pin_rule.specs.NextVersion.{IsPast}
 use Rattle.version_store.specs.declared.current.Current.{Current}
 use Rattle.pin_rule.specs.Layout.{version_named, page_named, taken_named}
 use Rattle.pin_rule.specs.Lists.{In}
-use Rattle.version_store.specs.Roles.{role_of, pages_of, older_of}
-use Rattle.version_store.specs.Edits.{Found, IsWholeRow, KeepsExactly, edit_steps}
+use Rattle.pin_rule.specs.Views.{whole}
+use Rattle.pin_rule.specs.Making.{rows_of}
+use Rattle.version_store.specs.Graphs.{rows_known, IsWholeKnown}
+use Rattle.pin_rule.specs.PartLive.{known_release}
+use Rattle.version_store.specs.Roles.{role_of}
+use Rattle.version_store.specs.Rows.{Found, IsWholeRow}
+use Rattle.version_store.specs.Edits.{KeepsExactly, edit_steps}
 use Rattle.version_store.specs.Stages.{IsAt, key_in, ReadsRow, Stays}
 
 -- how many places are not empty
@@ -38,10 +45,23 @@ pub record HasChosen (keeps next : List ℕ → Type 0) (z : Sizes) (found : Lis
 
 -- The whole edit
 
+-- the role once the next version, with these places, is the newest; the word met counts the pins taken on the version before
+abbrev pub next_role : Role → Current → List ℕ → ℕ → Role
+next_role r c places met = record r {
+  newest = record { version = suc c.version; page = c.next; base = known_release r.released c.next; carried = rows_of places };
+  older = record { live = r.newest; taken = taken_named met } ∷ r.older;
+  making = None;
+}
+
+-- each place of the new page is known, and its rows are those of the page before that are kept
+pub record KeepsRows (keeps : List ℕ → Type 0) (z : Sizes) (ks ls : List KnownPlace) : Type 0 where
+  pub all_known : IsWholeKnown z ls
+  pub kept : (row : List ℕ) → In row (rows_known ls) → In row (rows_known ks) × keeps row
+  pub every : (row : List ℕ) → In row (rows_known ks) → keeps row → In row (rows_known ls)
+
 -- the next version was made with this entry and the rows that are kept; w is the view after the swap, which met a word
-pub record MakesNext (keeps : List ℕ → Type 0) (c : Current) (v w : View) (entry : List ℕ) (met : ℕ) : Type 0 where
+pub record MakesNext (keeps : List ℕ → Type 0) (c : Current) (v w : View) (entry places : List ℕ) (met : ℕ) : Type 0 where
   pub found : List (Option Found)
-  pub places : List ℕ
   pub stays : Stays v w
   pub steps : w.steps ≡ v.steps ++ (edit_steps c.sizes c.version c.page c.next entry found places met)
   pub log : w.log ≡ v.log ++ record { words = entry } ∷ []
@@ -49,12 +69,9 @@ pub record MakesNext (keeps : List ℕ → Type 0) (c : Current) (v w : View) (e
   pub whole_rows : (f : Found) → In (Some f) found → IsWholeRow f.words
   pub every_new_place : length places ≡ c.sizes.places
   pub kept : KeepsExactly keeps found places
+  pub rows_in : (place row : ℕ) → slice_index places place ≡ suc row → row < c.sizes.rows
   pub version_before : version_named met ≡ c.version
   pub page_before : page_named met ≡ c.page
-  -- its role
-  pub has : w.role ≡ Some (role_of w)
-  pub idle : (role_of w).making ≡ None
-  pub giving_up : (role_of w).giving_up ≡ (role_of v).giving_up
-  pub version_is : (role_of w).newest.version ≡ suc c.version
-  pub pages : pages_of (role_of w) ≡ c.next ∷ pages_of (role_of v)
-  pub older : older_of (role_of w) ≡ (c.version, taken_named met) ∷ older_of (role_of v)
+  pub role : w.role ≡ Some (next_role (role_of v) c places met)
+  -- with the whole share the rows of the page were known, and those of the new one are
+  pub graph : v.share ≡ whole → IsWholeKnown c.sizes v.known → KeepsRows keeps c.sizes v.known w.known

@@ -1,22 +1,16 @@
 -- What an edit does, by the steps that it adds.
-use Rattle.std.specs.Prelude.{◌≡◌, ℕ, suc, ◌+◌, List, [], ◌∷◌, ◌++◌, length, slice_index, Option, Some, None}
+use Rattle.std.specs.Prelude.{◌≡◌, ℕ, suc, ◌+◌, ◌<◌, List, [], ◌∷◌, ◌++◌, length, slice_index, Option, Some, None}
 use Rattle.pin_rule.specs.declared.sizes.Sizes.{Sizes}
 use Rattle.pin_rule.specs.declared.view.Step.{Step}
 use Rattle.pin_rule.specs.Layout.{version_named, page_named, taken_named}
+use Rattle.pin_rule.specs.Making.{rows_of}
 use Rattle.pin_rule.specs.Lists.{In}
 use Rattle.pin_rule.specs.Steps.{loaded_place, loaded_row, wrote_log, wrote_place, swapped}
 use Rattle.version_store.specs.declared.edit_error.EditError.{EditError}
 use Rattle.version_store.specs.declared.edit_error.EditError.TheVariants.{VersionsFull, LogFull}
+use Rattle.version_store.specs.Rows.{Found, IsWholeRow}
 use Rattle.version_store.specs.Meaning.{EditorMeaning}
-
--- a row that was met at a place, with its words
-pub record Found : Type 0 where
-  pub row : ℕ
-  pub words : List ℕ
-
--- a whole row has its two lengths and as many words as they say
-abbrev pub IsWholeRow : List ℕ → Type 0
-IsWholeRow words = length words ≡ 2 + (slice_index words 0 + slice_index words 1)
+use Rattle.version_store.specs.GivingUp.{GivesUp, GivesUpAll, KeepsOldest}
 
 -- The steps of an edit
 
@@ -73,7 +67,10 @@ pub record MakesVersion (keeps : List ℕ → Type 0) (entry : List ℕ) (m n : 
   pub version_before : version_named met ≡ length m.log
   pub page_before : page_named met ≡ old
   pub log : n.log ≡ m.log ++ record { words = entry } ∷ []
-  pub older : n.older ≡ (length m.log, taken_named met) ∷ m.older
+  -- the rows of the new page were carried into the new version
+  pub base : ℕ
+  pub newest : n.newest ≡ record { version = suc (length m.log); page = new; base = base; carried = rows_of places }
+  pub older : n.older ≡ record { live = m.newest; taken = taken_named met } ∷ m.older
 
 -- the editor stays the same in all but its log, its live versions and its steps
 pub record IsSameEditor (m n : EditorMeaning) : Type 0 where
@@ -82,8 +79,6 @@ pub record IsSameEditor (m n : EditorMeaning) : Type 0 where
   pub share : n.share ≡ m.share
   pub pins_left : n.pins_left ≡ m.pins_left
 
--- Why an edit is refused
-
 -- as many versions as there are pages are live
 abbrev pub HasAllVersions : EditorMeaning → Type 0
 HasAllVersions m = length m.older + 1 ≡ m.sizes.versions
@@ -91,10 +86,38 @@ HasAllVersions m = length m.older + 1 ≡ m.sizes.versions
 abbrev pub HasWholeLog : EditorMeaning → Type 0
 HasWholeLog m = length m.log ≡ m.sizes.log
 
-abbrev pub IsLastOf : {A : Type 0} → A → List A → Type 0
-IsLastOf x xs = (front : _) × (xs ≡ front ++ x ∷ [])
+abbrev pub HasRoom : EditorMeaning → Type 0
+HasRoom m = (length m.older + 1 < m.sizes.versions) × (length m.log < m.sizes.log)
 
--- the oldest version is told with the pins taken on it; that any were dropped was not seen
-abbrev pub IsCause : EditorMeaning → EditError → Type 0
-IsCause m (VersionsFull version taken released) = HasAllVersions m × IsLastOf (version, taken) m.older × (released ≡ 0)
-IsCause m (LogFull entries) = (¬ (HasAllVersions m)) × HasWholeLog m × (entries ≡ length m.log)
+-- versions were given up as far as could be, and then the next one was made, for which there was room
+abbrev pub Edits : (List ℕ → Type 0) → List ℕ → EditorMeaning → EditorMeaning → Type 0
+Edits keeps entry m n = (count : ℕ) × (l : EditorMeaning) × GivesUpAll count m l × HasRoom l × MakesVersion keeps entry l n
+
+-- Why an edit is refused
+
+-- the oldest version stays, and is told with the pins taken on it and those that were dropped
+pub record IsFullOf (version taken released : ℕ) (m n : EditorMeaning) : Type 0 where
+  pub count : ℕ
+  pub before : EditorMeaning
+  pub gave_up : GivesUp count m before
+  pub stays : KeepsOldest before n released
+  pub version_is : stays.oldest.live.version ≡ version
+  pub taken_is : stays.oldest.taken ≡ taken
+  pub all_live : HasAllVersions n
+
+-- versions were given up as far as could be; then there was room for one more, but none in the log
+pub record IsFullLog (entries : ℕ) (m n : EditorMeaning) : Type 0 where
+  pub count : ℕ
+  pub gave_up : GivesUpAll count m n
+  pub some_left : ¬ (HasAllVersions n)
+  pub whole_log : HasWholeLog n
+  pub entries_are : entries ≡ length n.log
+
+abbrev pub Refuses : EditError → EditorMeaning → EditorMeaning → Type 0
+Refuses (VersionsFull version taken released) m n = IsFullOf version taken released m n
+Refuses (LogFull entries) m n = IsFullLog entries m n
+
+-- the log, the newest version and its page are as they were
+pub record IsSameVersion (m n : EditorMeaning) : Type 0 where
+  pub log : n.log ≡ m.log
+  pub newest : n.newest ≡ m.newest

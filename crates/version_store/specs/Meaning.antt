@@ -5,27 +5,34 @@ use Rattle.pin_rule.specs.declared.sizes.Sizes.{Sizes}
 use Rattle.pin_rule.specs.declared.content.Entry.{Entry}
 use Rattle.pin_rule.specs.declared.view.Step.{Step}
 use Rattle.pin_rule.specs.declared.view.View.{View}
-use Rattle.version_store.specs.Roles.{role_of, older_of}
+use Rattle.pin_rule.specs.declared.view.Live.{Live}
+use Rattle.pin_rule.specs.declared.view.Older.{Older}
+use Rattle.version_store.specs.Roles.{role_of}
+use Rattle.version_store.specs.Graphs.{rows_known}
 
--- the sizes of the table, the log of its newest version, the table, and of the bench its pins left and its steps
+-- The sizes of the table, the log of its newest version, the table, and of the bench its pins left, its graph and its steps. The graph is the rows of the
+-- page of the version, each the list of its words; two graphs are compared by their members
 pub record BenchMeaning : Type 0 where
   pub sizes : Sizes
   pub log : List Entry
   pub table : TableId × ℕ
   pub pins_left : ℕ
+  pub graph : List (List ℕ)
   pub steps : List Step
 
 abbrev pub bench_meaning : View → TableId × ℕ → BenchMeaning
-bench_meaning v table = record { sizes = v.sizes; log = v.log; table = table; pins_left = v.pins_left; steps = v.steps }
+bench_meaning v table = record { sizes = v.sizes; log = v.log; table = table; pins_left = v.pins_left; graph = rows_known v.known; steps = v.steps }
 
--- the same of an editor, with its share and its live versions before the newest, newest first, each with the pins taken on it
+-- The same of an editor, with its share and its live versions: the newest, and those before it, newest first, each with the pins taken on it. A live version
+-- has its page, the release word of that page when it began, and the rows that were carried into it
 pub record EditorMeaning : Type 0 where
   pub sizes : Sizes
   pub log : List Entry
   pub table : TableId × ℕ
   pub share : ℕ
   pub pins_left : ℕ
-  pub older : List (ℕ × ℕ)
+  pub newest : Live
+  pub older : List Older
   pub steps : List Step
 
 abbrev pub editor_meaning : View → TableId × ℕ → EditorMeaning
@@ -35,7 +42,8 @@ editor_meaning v table = record {
   table = table;
   share = v.share;
   pins_left = v.pins_left;
-  older = older_of (role_of v);
+  newest = (role_of v).newest;
+  older = (role_of v).older;
   steps = v.steps;
 }
 
@@ -44,4 +52,5 @@ pub record IsNewBench (z : Sizes) (m : BenchMeaning) : Type 0 where
   pub sizes : m.sizes ≡ z
   pub log : m.log ≡ []
   pub pins_left : m.pins_left ≡ z.pins
+  pub graph : m.graph ≡ []
   pub steps : m.steps ≡ []

@@ -1,5 +1,5 @@
 -- What the parts of an edit do to the editor's view.
-use Rattle.std.specs.Prelude.{◌≡◌, ◌≢◌, ℕ, ◌<◌, List, [], ◌∷◌, ◌++◌, length, slice_index, Option, Some, None}
+use Rattle.std.specs.Prelude.{◌≡◌, ◌≢◌, ℕ, suc, ◌<◌, List, [], ◌∷◌, ◌++◌, length, slice_index, Option, Some, None}
 use mathlib.Core.Option as maybe
 use lib.ListN.{get_elem?}
 use Rattle.pin_rule.specs.declared.content.Entry.{Entry}
@@ -8,14 +8,17 @@ use Rattle.pin_rule.specs.declared.view.Step.{Step}
 use Rattle.pin_rule.specs.declared.view.Role.{Role}
 use Rattle.pin_rule.specs.declared.view.Making.{Making}
 use Rattle.pin_rule.specs.declared.view.WordFact.{WordFact}
+use Rattle.pin_rule.specs.declared.view.KnownPlace.{KnownPlace}
 use Rattle.pin_rule.specs.Lists.{In}
 use Rattle.pin_rule.specs.Rows.{key_of}
-use Rattle.pin_rule.specs.Views.{now}
+use Rattle.pin_rule.specs.Views.{whole, now}
 use Rattle.pin_rule.specs.Making.{making_of, next_log}
 use Rattle.pin_rule.specs.Told.{KnowsPlace, KnowsWord}
 use Rattle.version_store.specs.declared.current.Current.{Current}
 use Rattle.version_store.specs.Roles.{role_of}
-use Rattle.version_store.specs.Edits.{Found, IsWholeRow, entry_stores, row_loads, page_loads, page_stores}
+use Rattle.version_store.specs.Learning.{Grown, Shows, Learns}
+use Rattle.version_store.specs.Rows.{Found, IsWholeRow}
+use Rattle.version_store.specs.Edits.{entry_stores, row_loads, page_loads, page_stores}
 
 -- the editor in the version that is current
 pub record IsEditorOf (c : Current) (v : View) : Type 0 where
@@ -26,6 +29,8 @@ pub record IsEditorOf (c : Current) (v : View) : Type 0 where
   pub at : c.version ≡ now v
   pub version_is : (role_of v).newest.version ≡ c.version
   pub page_is : (role_of v).newest.page ≡ c.page
+  -- no version is being given up, so no load of a place changes the role
+  pub keeps_all : (role_of v).giving_up ≡ None
 
 -- what no step of an edit changes
 pub record Stays (v w : View) : Type 0 where
@@ -54,6 +59,7 @@ making_entry page (w ∷ ws) = Some record { page = page; entry = w ∷ ws; plac
 
 pub record WritesEntry (c : Current) (v w : View) (entry : List ℕ) : Type 0 where
   pub goes : Goes v w (entry_stores c.sizes c.version 0 entry)
+  pub known : w.known ≡ v.known
   pub role : w.role ≡ Some (with_making (role_of v) (making_entry c.next entry))
 
 -- the log that the entry in the making leads to
@@ -69,6 +75,8 @@ pub record ReadsRow (c : Current) (v w : View) (row : ℕ) (words : List ℕ) : 
   pub entries : w.entries ≡ v.entries
   pub earlier : (x : WordFact) → In x v.words → In x w.words
   pub known : (index : ℕ) → index < length words → KnowsWord w c.version row index (slice_index words index)
+  pub grown : Grown v.known w.known
+  pub shows : v.share ≡ whole → Shows w.known row words
 
 abbrev pub IsAt : List (Option Found) → ℕ → Found → Type 0
 IsAt found place f = get_elem? found place ≡ maybe.some (Some f)
@@ -88,6 +96,15 @@ pub record FindsRows (c : Current) (v w : View) (found : List (Option Found)) : 
   pub goes : Goes v w (page_loads c.sizes c.page 0 found)
   pub role : w.role ≡ v.role
   pub known : (place : ℕ) (f : Found) → IsAt found place f → IsKnownRow c w place f
+  pub rows_in : (place : ℕ) (f : Found) → IsAt found place f → f.row < c.sizes.rows
+  -- no fact tells another word of these rows
+  pub words_once : (place : ℕ) (f : Found) (index word : ℕ) → IsAt found place f → KnowsWord w c.version f.row index word → index < length f.words
+      → word ≡ slice_index f.words index
+  -- with the whole share
+  pub learns : v.share ≡ whole → Learns v.known w.known found
+  pub inside : v.share ≡ whole → 0 < length found → (l : KnownPlace) → In l w.known → l.place < c.sizes.places
+  pub alike : v.share ≡ whole → (place : ℕ) (f : Found) (l : KnownPlace) (index word : ℕ) → IsAt found place f → In l w.known → l.met ≡ suc f.row
+      → In (index, word) l.words → index < length f.words → word ≡ slice_index f.words index
   pub rows_once : (o p : ℕ) (f g : Found) → IsAt found o f → IsAt found p g → f.row ≡ g.row → o ≡ p
   pub keys_once : (o p : ℕ) (f g : Found) → IsAt found o f → IsAt found p g → key_in f.words ≡ key_in g.words → o ≡ p
 
@@ -96,6 +113,7 @@ pub record FindsRows (c : Current) (v w : View) (found : List (Option Found)) : 
 -- the places of the page in the making were written after those that were there
 pub record WritesPage (c : Current) (v w : View) (places : List ℕ) : Type 0 where
   pub goes : Goes v w (page_stores c.sizes c.next 0 places)
+  pub known : w.known ≡ v.known
   pub entries : w.entries ≡ v.entries
   pub words : w.words ≡ v.words
   pub role : (m : Making) → (role_of v).making ≡ Some m → m.places ≡ []

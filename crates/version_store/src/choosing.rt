@@ -5,7 +5,7 @@ ghost use Rattle.pin_rule.specs.declared.content.Entry.{Entry};
 ghost use Rattle.pin_rule.specs.Hands.{view_of, table_of};
 ghost use Rattle.pin_rule.specs.Steps.{version_of};
 ghost use Rattle.pin_rule.specs.Told.{Tells};
-ghost use Rattle.version_store.specs.Edits.{Found};
+ghost use Rattle.version_store.specs.Rows.{Found};
 ghost use Rattle.version_store.specs.Stages.{IsEditorOf, next_of, FindsRows};
 ghost use Rattle.version_store.specs.Choices.{count_taken, ChoosesRow, HasChosen};
 

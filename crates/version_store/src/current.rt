@@ -1,18 +1,18 @@
 //! The current version, and where the next one goes.
 
-ghost use Rattle.std.specs.Prelude.{◌<◌};
+ghost use Rattle.std.specs.Prelude.{◌<◌, ◌≤◌};
 
 use pin_rule::sizes::Sizes;
 
-/// The current version and its page, in a table of these sizes that has room
-/// for one more version, and the page of that version.
+/// The current version and its page, in a table of these sizes, and the page of
+/// the version that is to follow.
 #[derive(Clone, Copy)]
 pub(crate) struct Current {
     pub(crate) sizes: Sizes,
     pub(crate) version: u32,
     pub(crate) page: u32,
     pub(crate) next: u32,
-    ghost version_in: { version < sizes.log },
+    ghost version_in: { version ≤ sizes.log },
     ghost page_in: { page < sizes.versions },
     ghost next_in: { next < sizes.versions },
 }

@@ -15,6 +15,7 @@ use pin_rule::hand::Hand;
 /// them the next version is in the making.
 pub(crate) fn write_entry<C: Content>(hand: &mut Hand<C>, current: Current, entry: &[u64; 32])
     requires editor { IsEditorOf current (view_of hand.old) }
+    requires log { current.version < current.sizes.log }
     requires idle { (role_of (view_of hand.old)).making ≡ None }
     requires next { spare_page (role_of (view_of hand.old)) ≡ current.next }
     requires room { length (pages_taken (role_of (view_of hand.old))) < current.sizes.versions }

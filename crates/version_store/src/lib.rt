@@ -8,13 +8,23 @@
 #![tactic(auto)]
 
 pub mod bench;
+mod bench_rows;
+mod carried_rows;
 mod choosing;
 mod current;
 pub mod edit_error;
 mod editing;
+mod editing_alone;
 pub mod editor;
 mod entry_writing;
+mod freeing;
+pub mod gathering;
+mod giving_up;
+mod leaving;
+mod live_version;
+mod lives;
 mod next_version;
+mod page_reading;
 mod page_writing;
 mod parting;
 mod row_placing;

@@ -28,6 +28,7 @@ pub(crate) fn make_next<C: Content, H: Chooser<C>>(
     places: &mut [u64],
 ) -> u64
     requires editor { IsEditorOf current (view_of hand.old) }
+    requires log { current.version < current.sizes.log }
     requires idle { (role_of (view_of hand.old)).making ≡ None }
     requires next { spare_page (role_of (view_of hand.old)) ≡ current.next }
     requires room { length (pages_taken (role_of (view_of hand.old))) < current.sizes.versions }
@@ -36,7 +37,7 @@ pub(crate) fn make_next<C: Content, H: Chooser<C>>(
     requires buffer { length buffer.old ≡ current.sizes.width }
     requires places { length places.old ≡ current.sizes.places }
     ensures table { table_of hand.new ≡ table_of hand.old }
-    ensures made { MakesNext (H.keeps chooser.old) current (view_of hand.old) (view_of hand.new) entry.now result }
+    ensures made { MakesNext (H.keeps chooser.old) current (view_of hand.old) (view_of hand.new) entry.now places.new result }
     ensures buffer { length buffer.new ≡ current.sizes.width }
     ensures places { length places.new ≡ current.sizes.places }
     ensures same_leads { (first next : List Entry) → H.leads chooser.new first next ↔ H.leads chooser.old first next }

@@ -3,7 +3,7 @@
 ghost use Rattle.std.specs.Prelude.{◌≡◌, ◌≤◌, ◌*◌, [], IfOk, IfErr};
 ghost use Rattle.pin_rule.specs.Hands.{view_of, table_of};
 ghost use Rattle.pin_rule.specs.Views.{whole, now};
-ghost use Rattle.version_store.specs.Roles.{role_of, older_of};
+ghost use Rattle.version_store.specs.Roles.{role_of};
 ghost use Rattle.version_store.specs.Meaning.{bench_meaning};
 ghost use Rattle.version_store.specs.Means.{bench_of, editor_of};
 ghost use Rattle.version_store.specs.Parts.{Parts};
@@ -79,28 +79,29 @@ fn part_editor<C: Content>(
     count: u32,
 ) -> (Editor<C>, Vec<Pass<C>>)
     requires has_all { (view_of editor.hand).share ≡ whole }
-    requires one_version { older_of (role_of (view_of editor.hand)) ≡ [] }
+    requires one_version { (role_of (view_of editor.hand)).older ≡ [] }
     requires count { (1 ≤ count) × (count ≤ 16) }
     requires room { IsRoomFor editor.sizes count room }
     ensures { Parts (bench_meaning (view_of editor.hand) (table_of editor.hand)) count (editor_of result.0) result.1.items }
 {
     let Editor {
+        alloc,
         mut hand,
         sizes,
-        version,
+        lives,
         left,
-        taken,
         row,
         places,
     } = editor;
     let pins = left / count;
+    let version = lives.newest.version;
     let passes = split_passes(&mut hand, sizes, version, room, pins, count);
     let editor = Editor {
+        alloc,
         hand,
         sizes,
-        version,
+        lives,
         left: left - count * pins,
-        taken,
         row,
         places,
     };
@@ -117,7 +118,7 @@ impl<C: Content> Bench<C> {
         ensures parts { IfOk result (λ r. Parts (bench_of self) count (editor_of r.0) r.1.items) }
         ensures refused { IfErr result (λ e. e.0 ≡ self) }
     {
-        let room = match make_room(self.alloc, self.editor.sizes, count) {
+        let room = match make_room(self.editor.alloc, self.editor.sizes, count) {
             Ok(room) => room,
             Err(error) => return Err((self, error)),
         };

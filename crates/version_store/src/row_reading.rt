@@ -4,7 +4,7 @@ ghost use Rattle.std.specs.Prelude.{◌≡◌, ◌≤◌, ◌<◌, Some, take, l
 ghost use Rattle.pin_rule.specs.Hands.{view_of, table_of};
 ghost use Rattle.pin_rule.specs.Steps.{version_of};
 ghost use Rattle.pin_rule.specs.Told.{Tells};
-ghost use Rattle.version_store.specs.Edits.{IsWholeRow};
+ghost use Rattle.version_store.specs.Rows.{IsWholeRow};
 ghost use Rattle.version_store.specs.Stages.{IsEditorOf, ReadsRow};
 
 use crate::current::Current;

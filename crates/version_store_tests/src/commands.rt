@@ -73,7 +73,7 @@ fn told_version(alloc: Global, made: Result<u32, EditError>) -> Result<String, A
 }
 
 /// The entry whose words count on from this one.
-fn entry_from(first: u64) -> [u64; 32] {
+pub(crate) fn entry_from(first: u64) -> [u64; 32] {
     let mut entry = [0u64; 32];
     for index in 0..32usize {
         entry[index] = first.wrapping_add(index as u64);

@@ -2,26 +2,39 @@
 //! answer.
 //!
 //! A line has the sizes of the table that are not the largest, how many passes there are, and commands, with a
-//! semicolon between two. A line of `threads` has passes and an editor work at the same time. The output that is
-//! wanted was worked out from the definitions.
+//! semicolon between two. A line of `threads` or of `soak` has passes and an editor work at the same time, and one of `alone` has a
+//! bench that was gathered make some versions. The output that is wanted was worked out from the definitions.
 #![tactic(auto)]
 
+mod alone;
 mod commands;
 mod keep_even;
 mod sizes;
 mod story;
 mod working;
 
+use crate::sizes::number;
 use std::io;
 use std::thread::Threads;
+
+/// What a line is answered.
+fn told_line<R: Threads + Sync>(rt: &HostRuntime, threads: &R, line: &str) -> io::Result<String> {
+    if let Some(count) = line.strip_prefix("threads ") {
+        return Ok(working::told_together(threads, rt.alloc(), count)?);
+    }
+    if let Some(count) = line.strip_prefix("soak ") {
+        return Ok(working::told_soak(threads, rt.alloc(), count)?);
+    }
+    if let Some(edits) = line.strip_prefix("alone ") {
+        return Ok(alone::told_alone(rt.alloc(), number(edits))?);
+    }
+    Ok(story::told(rt.alloc(), line)?)
+}
 
 /// Writes each of the lines with its answers.
 fn tell_all<R: Threads + Sync>(rt: &HostRuntime, threads: &R, lines: &str) -> io::Result<()> {
     for line in lines.lines() {
-        let told = match line.strip_prefix("threads ") {
-            Some(count) => working::told_together(threads, rt.alloc(), count)?,
-            None => story::told(rt.alloc(), line)?,
-        };
+        let told = told_line(rt, threads, line)?;
         println!(rt; "{line} =>{told}")?;
     }
     Ok(())

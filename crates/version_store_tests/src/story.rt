@@ -135,6 +135,7 @@ fn told_command(
             let (which, first) = rest.split_once(' ').unwrap_or((rest, ""));
             told_edit(alloc, editor, which, number(first))
         }
+        "give" => format!(in alloc; "gave up {}", editor.give_up()),
         "live" => format!(in alloc; "live {} of version {}", editor.live(), editor.version()),
         _ => told_of_user(alloc, users, command, rest),
     }

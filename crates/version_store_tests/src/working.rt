@@ -60,7 +60,11 @@ fn is_right(page: &mut Pinned<AnyRow>, keeping: Keeping, key: u64) -> bool {
         None => {
             let put = page.publish(&[key], &[version]);
             let again = found(page, key);
-            (put == Put::Made || put == Put::Already) && again == Some(version)
+            match put {
+                Put::Made | Put::Already => again == Some(version),
+                Put::PageFull | Put::PoolFull => again.is_none() || again == Some(version),
+                Put::TooWide => false,
+            }
         }
     }
 }
@@ -144,19 +148,18 @@ fn work_all<R: Threads + Sync>(rt: &R, passes: Vec<Pass<AnyRow>>, keeping: Keepi
     }
 }
 
-/// Makes versions, and answers how many were made.
+/// Tries to make versions, and answers how many were made: as many as can be live, and more where older ones were
+/// given up.
 fn make_versions(editor: Editor<AnyRow>, keeping: Keeping, times: u32) -> u32 {
     let mut editor = editor;
     for _time in 0..times {
         let entry = [editor.version() as u64 + 1; 32];
-        let made = match keeping {
+        let _made = match keeping {
             Keeping::All => editor.edit(&entry, &mut KeepAll),
             Keeping::None => editor.edit(&entry, &mut KeepNone),
             Keeping::Even => editor.edit(&entry, &mut KeepEven),
         };
-        if made.is_err() {
-            break;
-        }
+        editor.give_up();
     }
     editor.version()
 }
@@ -167,12 +170,24 @@ fn together<R: Threads + Sync>(
     editor: Editor<AnyRow>,
     passes: Vec<Pass<AnyRow>>,
     keeping: Keeping,
+    times: u32,
 ) -> (u32, Report) {
     thread::join(
         rt,
-        move || make_versions(editor, keeping, 20),
+        move || make_versions(editor, keeping, times),
         move || work_all(rt, passes, keeping),
     )
+}
+
+/// A table that is soon full: fewer places and rows than keys, and two versions at most.
+fn wanted_small() -> Wanted {
+    let mut wanted = Wanted::largest();
+    wanted.log = 4096;
+    wanted.versions = 2;
+    wanted.places = 8;
+    wanted.rows = 8;
+    wanted.width = 8;
+    wanted
 }
 
 /// The table of those that work together: each version may have new rows of all keys.
@@ -188,22 +203,26 @@ fn wanted() -> Wanted {
 fn told_keeping<R: Threads + Sync>(
     rt: &R,
     alloc: Global,
+    wanted: Wanted,
     passes: u64,
     keeping: Keeping,
+    times: u32,
 ) -> Result<String, AllocError> {
-    let bench = Bench::make(alloc, wanted().sizes())?;
+    let bench = Bench::make(alloc, wanted.sizes())?;
     let (editor, passes) = match bench.part(bounded(passes, 1, 16)) {
         Ok(parts) => parts,
         Err((_, error)) => return Err(error),
     };
-    let (version, report) = together(rt, editor, passes, keeping);
+    let (versions, report) = together(rt, editor, passes, keeping, times);
     let Report {
         answers,
         fitting,
         falls,
     } = report;
+    let least = wanted.versions.saturating_sub(1).min(times as u64);
+    let versions = (versions as u64).min(least);
     format!(in alloc;
-        " {version} versions, {answers} answers of which {fitting} fit, {falls} falls;"
+        " {versions} or more versions, {answers} answers of which {fitting} fit, {falls} falls;"
     )
 }
 
@@ -214,8 +233,22 @@ pub(crate) fn told_together<R: Threads + Sync>(
     passes: &str,
 ) -> Result<String, AllocError> {
     let passes = number(passes);
-    let mut told = told_keeping(rt, alloc, passes, Keeping::All)?;
-    told.push_str(&told_keeping(rt, alloc, passes, Keeping::None)?)?;
-    told.push_str(&told_keeping(rt, alloc, passes, Keeping::Even)?)?;
+    let mut told = told_keeping(rt, alloc, wanted(), passes, Keeping::All, 20)?;
+    told.push_str(&told_keeping(rt, alloc, wanted(), passes, Keeping::None, 20)?)?;
+    told.push_str(&told_keeping(rt, alloc, wanted(), passes, Keeping::Even, 20)?)?;
+    Ok(told)
+}
+
+/// The same over a small table, with thousands of edits that are tried.
+pub(crate) fn told_soak<R: Threads + Sync>(
+    rt: &R,
+    alloc: Global,
+    passes: &str,
+) -> Result<String, AllocError> {
+    let passes = number(passes);
+    let small = wanted_small();
+    let mut told = told_keeping(rt, alloc, small, passes, Keeping::All, 4000)?;
+    told.push_str(&told_keeping(rt, alloc, small, passes, Keeping::None, 4000)?)?;
+    told.push_str(&told_keeping(rt, alloc, small, passes, Keeping::Even, 4000)?)?;
     Ok(told)
 }

@@ -5,7 +5,7 @@ use Rattle.pin_rule.specs.declared.content.Entry.{Entry}
 use Rattle.pin_rule.specs.Hands.{view_of}
 use Rattle.pin_rule.proofs.KindLoads.{keeps_load_place}
 use Rattle.slot_store.proofs.Passing.{row_met}
-use Rattle.version_store.specs.Edits.{Found}
+use Rattle.version_store.specs.Rows.{Found}
 use Rattle.version_store.specs.Stages.{next_of}
 use Rattle.version_store.proofs.PageRows as finds
 use Rattle.version_store.proofs.Chosen as chosen
@@ -42,7 +42,7 @@ loop-place-preserved-then-met-eq0 g c =
         ch.0 ++ None ∷ [],
         (let n = length-append ch.0 (None ∷ []) in let m = ch.1 in omega arith),
         finds.empty k v w c.requires.editor ch.0 ch.2 c.loop-place.place met (sym ch.1) u c.load_place_at-met.ensures.view g.C.Content.lawful g.C.Content.fits
-            c.load_place_at-met.ensures.told c.if-met-eq0.true,
+            c.load_place_at-met.ensures.told c.load_place_at-met.ensures.met.0 c.if-met-eq0.true,
         chosen.empty (g.H.Chooser.keeps c.args.chooser.now) (g.C.Content.fits (next_of v)) k.sizes ch.0 c.loop-place.places ch.3,
       );
       same_leads = i.same_leads;
@@ -72,7 +72,7 @@ loop-place-preserved g c =
     let keeps = g.H.Chooser.keeps c.args.chooser.now in let keeps' = g.H.Chooser.keeps c.loop-place.chooser in
     let new = c.choose_row.new.places in let old = c.loop-place.places in
     let more = finds.found_row k v w c.requires.editor ch.0 ch.2 c.loop-place.place met (sym ch.1) u is row (row_met met c.if-met-eq0.false) x r.words r.reads
-    r.is_whole g.C.Content.lawful g.C.Content.fits c.choose_row.ensures.told in
+    r.is_whole g.C.Content.lawful g.C.Content.fits c.choose_row.ensures.told c.load_place_at-met.ensures.met.0 in
     let f : Found = record { row = row; words = r.words } in
     let same = finds.next_at k v w c.requires.editor ch.0 ch.2 c.loop-place.place met (sym ch.1) u is in record {
       table = c.choose_row.ensures.table ∙ c.load_place_at-met.ensures.table ∙ i.table;

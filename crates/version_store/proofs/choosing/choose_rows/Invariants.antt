@@ -2,7 +2,7 @@ use Rattle.std.proofs.Common.{◌≡◌, ℕ, List, length}
 use Rattle.std.specs.Prelude.{◌↔◌, Option}
 use Rattle.pin_rule.specs.declared.content.Entry.{Entry}
 use Rattle.pin_rule.specs.Hands.{view_of, table_of}
-use Rattle.version_store.specs.Edits.{Found}
+use Rattle.version_store.specs.Rows.{Found}
 use Rattle.version_store.specs.Stages.{next_of, FindsRows}
 use Rattle.version_store.specs.Choices.{HasChosen}
 use Rattle.version_store.proofs.choosing.choose_rows.Given as goal
