@@ -2,3 +2,6 @@ pub mod KeptEntries
 pub mod Sums
 pub mod SameKernels
 pub mod Rises
+pub mod Steps
+pub mod RowsOfKeys
+pub mod NextEdits
