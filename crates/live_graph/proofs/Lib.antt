@@ -5,3 +5,4 @@ pub mod Rises
 pub mod Steps
 pub mod RowsOfKeys
 pub mod NextEdits
+pub mod TallyCounts
