@@ -6,3 +6,5 @@ pub mod Steps
 pub mod RowsOfKeys
 pub mod NextEdits
 pub mod TallyCounts
+pub mod Comings
+pub mod KeptAnswers

@@ -27,7 +27,7 @@ part_within {part} {steps} front back p = record {
       ∙ sym (append_assoc front p.before (part ++ (p.after ++ back)));
 }
 
-module _ (m : PageMeaning) {steps : List Step} (front back : List Step) where
+module _ (m : PageMeaning) (steps : List Step) (front back : List Step) where
   no_row_within : {key : List ℕ} → HasNoRow m steps key → HasNoRow m (front ++ (steps ++ back)) key
   no_row_within h = record {
     look = h.look;
@@ -62,13 +62,13 @@ module _ (m : PageMeaning) {steps : List Step} (front back : List Step) where
 -- with more steps behind them
 pub came_before : (m : PageMeaning) (steps more : List Step) (grammar : Grammar) (key : Key) (origin : Origin) → Came m steps grammar key origin
     → Came m (steps ++ more) grammar key origin
-came_before m steps more grammar key origin came = came_within m [] more grammar key origin came
+came_before m steps more grammar key origin came = came_within m steps [] more grammar key origin came
 
 -- with more steps before them
 pub came_behind : (m : PageMeaning) (more steps : List Step) (grammar : Grammar) (key : Key) (origin : Origin) → Came m steps grammar key origin
     → Came m (more ++ steps) grammar key origin
 came_behind m more steps grammar key origin came =
-    subst (λ all. Came m (more ++ all) grammar key origin) (append-nil steps) (came_within m more [] grammar key origin came)
+    subst (λ all. Came m (more ++ all) grammar key origin) (append-nil steps) (came_within m steps more [] grammar key origin came)
 
 -- the room that the key's row has is all that could be wanting but a free row and a free place
 pub shown : (m : PageMeaning) (steps : List Step) (grammar : Grammar) (key : Key) (origin : Origin) → Came m steps grammar key origin

@@ -22,17 +22,17 @@ use Rattle.live_graph.specs.Showing.{Comes, Came}
 
 -- the words code this expansion
 abbrev pub CodesItems : List ℕ → Expansion → Type 0
-CodesItems payload expansion = payload ≡ item_payload_words expansion
+CodesItems payload expansion = FitsCoding expansion × (payload ≡ item_payload_words expansion)
 
 abbrev pub CodesScan : List ℕ → ScanExpansion → Type 0
-CodesScan payload expansion = payload ≡ scan_payload_words expansion
+CodesScan payload expansion = FitsScanCoding expansion × (payload ≡ scan_payload_words expansion)
 
 -- an expansion can be read of the words
 abbrev pub CanReadItems : List ℕ → Type 0
-CanReadItems payload = (coded : Expansion) × FitsCoding coded × IsTyped coded × CodesItems payload coded
+CanReadItems payload = (coded : Expansion) × FitsCoding coded × IsTyped coded × (payload ≡ item_payload_words coded)
 
 abbrev pub CanReadScan : List ℕ → Type 0
-CanReadScan payload = (coded : ScanExpansion) × FitsScanCoding coded × IsTypedScan coded × CodesScan payload coded
+CanReadScan payload = (coded : ScanExpansion) × FitsScanCoding coded × IsTypedScan coded × (payload ≡ scan_payload_words coded)
 
 -- no row has the key: a place on its path is empty, or each place has another key
 abbrev pub IsMissing : Sizes → ℕ → List Step → List ℕ → Type 0

@@ -15,6 +15,7 @@ mod finding;
 mod graph;
 mod kept;
 mod laws;
+mod naming;
 mod obtaining;
 mod offering;
 mod origin;

@@ -11,6 +11,7 @@ ghost use Rattle.live_graph.specs.Answers.{HasCome, Pays, ExpandsKernel, Expands
 use crate::NoMemory;
 use crate::answer::Answer;
 use crate::finding::{find_items, find_scan};
+use crate::naming::{is_kernel, is_state};
 use crate::offering::offer;
 use crate::origin::Origin;
 use edit_log::Grammar;
@@ -39,6 +40,7 @@ pub(crate) fn obtain_items<P: Page<GraphRows>, L: Ledger>(
     ensures refused { OnErr result (IsLater (P.means page.old) (P.means page.new)) }
     ensures never_back { steps.old ≤ steps.new }
 {
+    is_kernel(grammar, kernel);
     let key = item_key(alloc, kernel)?;
     if let Some(expansion) = find_items(alloc, page, &key)? {
         return Ok(Answer {
@@ -69,6 +71,7 @@ pub(crate) fn obtain_scan<P: Page<GraphRows>, L: Ledger>(
     ensures refused { OnErr result (IsLater (P.means page.old) (P.means page.new)) }
     ensures never_back { steps.old ≤ steps.new }
 {
+    is_state(grammar, state);
     let key = graph_content::scan_key(alloc, state)?;
     if let Some(expansion) = find_scan(alloc, page, &key)? {
         return Ok(Answer {

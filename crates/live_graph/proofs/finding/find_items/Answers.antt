@@ -1,5 +1,6 @@
 use Rattle.std.proofs.Common.{sym, ap, ◌∙◌, subst}
 use Rattle.row_coding.specs.Words.{item_payload_words}
+use Rattle.row_coding.specs.Conditions.{FitsCoding}
 use Rattle.graph_content.specs.Contents.{FitsLog}
 use Rattle.slot_store.specs.Answers.{Finds}
 use Rattle.live_graph.proofs.finding.find_items.Goals as goal
@@ -16,5 +17,5 @@ returns-in_ok-expansion-in-Found-clause-looks g c =
     record {
       added = added.0;
       comes = record { is = added.1; quiet = added.2 };
-      looks = (c.in-Found.payload.now, can.3 ∙ ap item_payload_words (sym same), added.3);
+      looks = (c.in-Found.payload.now, (subst FitsCoding (sym same) can.1, can.3 ∙ ap item_payload_words (sym same)), added.3);
     }
