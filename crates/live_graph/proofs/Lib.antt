@@ -8,3 +8,4 @@ pub mod NextEdits
 pub mod TallyCounts
 pub mod Comings
 pub mod KeptAnswers
+pub mod Keeping

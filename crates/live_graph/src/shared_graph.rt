@@ -77,9 +77,9 @@ impl<P: Page<GraphRows>> SharedGraph<'_, P> {
 
     /// Gives the page back, and how the expansions of the keys came that were asked for.
     pub fn end(self) -> (P, Tallies)
-        ensures page { P.means result.0 ≡ self.page }
-        ensures tallies { result.1 ≡ tallies_of self }
-        ensures ends { Ends self }
+        ensures page { P.means result.0 ≡ self.entry.page }
+        ensures tallies { result.1 ≡ tallies_of self.entry }
+        ensures ends { Ends self.entry }
     {
         let SharedGraph {
             grammar: _,
