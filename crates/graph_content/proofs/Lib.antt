@@ -13,3 +13,6 @@ pub mod MoveHeads
 pub mod RowTests
 pub mod KeySizes
 pub mod RowChanges
+pub mod RowKeys
+pub mod LogLaws
+pub mod Choices

@@ -94,7 +94,7 @@ row_over g next key row left is = record {
 
 -- ---- what the test of a row tells
 
-exclusive : (g next : Grammar) (key : Key) → IsAffected g next key → IsUnaffected g next key → ⊥
+pub exclusive : (g next : Grammar) (key : Key) → IsAffected g next key → IsUnaffected g next key → ⊥
 exclusive g next key (inl gone) left = gone left.stays
 exclusive g next key (inr differs) left = differs left.same
 

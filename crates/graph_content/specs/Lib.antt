@@ -3,3 +3,4 @@ pub mod Changes
 pub mod Rows
 pub mod Modifications
 pub mod Parts
+pub mod Contents

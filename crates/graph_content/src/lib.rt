@@ -8,12 +8,17 @@
 
 use std::alloc::AllocError;
 
+mod choosing;
+mod graph_rows;
 mod laws;
 mod modify;
 mod row_parts;
 mod touching;
 
-pub use laws::{touched_is_affected, untouched_is_unaffected};
+pub use graph_rows::GraphRows;
+pub use laws::{
+    keys_fit, kept_is_unaffected, one_history, touched_is_affected, untouched_is_unaffected,
+};
 pub use modify::Modify;
 pub use row_coding::{
     Kind, item_key, item_payload, kind_of, read_items, read_scan, scan_key, scan_payload,

@@ -2,3 +2,9 @@ pub mod Meaning
 pub mod Cost
 pub mod Asking
 pub mod Kept
+pub mod Sharing
+pub mod Showing
+pub mod Tallying
+pub mod CatchingUp
+pub mod Answers
+pub mod Ending

@@ -1,0 +1,17 @@
+//! The choice of an edit among the rows of a shared table.
+
+use crate::graph_rows::GraphRows;
+use crate::modify::Modify;
+use pin_rule::choosers::Chooser;
+
+impl Chooser<GraphRows> for Modify<'_> {
+    ghost use Rattle.graph_content.specs.Contents.{Leads, Keeps};
+
+    ghost leads = { Leads };
+
+    ghost keeps = { Keeps };
+
+    fn keep(&mut self, row: &[u64]) -> bool {
+        self.keep(row)
+    }
+}

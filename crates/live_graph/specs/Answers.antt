@@ -1,0 +1,126 @@
+-- What a page and a user of it answer about one key: parts of the work of a graph over the page.
+use Rattle.std.specs.Prelude.{◌≡◌, ◌⊎◌, ℕ, ◌+◌, ◌-◌, ◌<◌, List, [], ◌∷◌, ◌++◌, Contains, length, map, slice_get, Some, None, Option, Result, IfOk}
+use Rattle.edit_log.specs.History.{Grammar}
+use Rattle.item_sets.specs.declared.item.Item.{Item}
+use Rattle.item_sets.specs.declared.expansion.Expansion.{Expansion}
+use Rattle.item_sets.specs.Expansions.{IsExpansionOf}
+use Rattle.isg_states.specs.declared.scan_key.ScanKey.{ScanKey}
+use Rattle.isg_states.specs.declared.ranges.ScanExpansion.{ScanExpansion}
+use Rattle.isg_states.specs.Expansion.{IsScanExpansionOf}
+use Rattle.pin_rule.specs.declared.sizes.Sizes.{Sizes}
+use Rattle.pin_rule.specs.declared.view.Step.{Step}
+use Rattle.slot_store.specs.Meaning.{Meaning as PageMeaning}
+use Rattle.slot_store.specs.Answers.{IsFound, IsMade, IsAlready, IsPageFull, IsPoolFull, IsInitial}
+use Rattle.row_coding.specs.Words.{item_payload_words, scan_payload_words}
+use Rattle.row_coding.specs.Conditions.{FitsCoding, IsTyped, FitsScanCoding, IsTypedScan}
+use Rattle.row_coding.specs.Rows.{Key, key_words, kernel, scan}
+use Rattle.graph_content.specs.Contents.{FitsLog, IsLogOfGrammar}
+use Rattle.live_graph.specs.declared.origin.Origin.{Origin}
+use Rattle.live_graph.specs.declared.origin.Origin.TheVariants.{Found, Made, Raced, Alone}
+use Rattle.live_graph.specs.declared.answer.Answer.{Answer}
+use Rattle.live_graph.specs.Showing.{Comes, Came}
+
+-- the words code this expansion
+abbrev pub CodesItems : List ℕ → Expansion → Type 0
+CodesItems payload expansion = FitsCoding expansion × (payload ≡ item_payload_words expansion)
+
+abbrev pub CodesScan : List ℕ → ScanExpansion → Type 0
+CodesScan payload expansion = FitsScanCoding expansion × (payload ≡ scan_payload_words expansion)
+
+-- an expansion can be read of the words
+abbrev pub CanReadItems : List ℕ → Type 0
+CanReadItems payload = (coded : Expansion) × FitsCoding coded × IsTyped coded × (payload ≡ item_payload_words coded)
+
+abbrev pub CanReadScan : List ℕ → Type 0
+CanReadScan payload = (coded : ScanExpansion) × FitsScanCoding coded × IsTypedScan coded × (payload ≡ scan_payload_words coded)
+
+-- no row has the key: a place on its path is empty, or each place has another key
+abbrev pub IsMissing : Sizes → ℕ → List Step → List ℕ → Type 0
+IsMissing z page added key = ((place : ℕ) × IsInitial z page added key place) ⊎ IsPageFull z page added key
+
+-- by these steps a row was found whose payload codes the expansion, or none
+abbrev pub Looks : {E : Type 0} → (List ℕ → E → Type 0) → (List ℕ → Type 0) → Sizes → ℕ → List Step → List ℕ → Option E → Type 0
+Looks Codes fits z page added key None = IsMissing z page added key
+Looks Codes fits z page added key (Some expansion) = (payload : List ℕ) × Codes payload expansion × IsFound z page added fits key payload
+
+-- the look added only its steps
+pub record HasLooked {E : Type 0} (Codes : List ℕ → E → Type 0) (old new : PageMeaning) (key : List ℕ) (found : Option E) : Type 0 where
+  pub added : List Step
+  pub comes : Comes old new added
+  pub looks : Looks Codes (FitsLog old.log) old.sizes old.page added key found
+
+-- why a row that was to be published was or was not
+abbrev pub Offers : Sizes → ℕ → List Step → (key payload : List ℕ) → Origin → Type 0
+Offers z page added key payload Found = ⊥
+Offers z page added key payload Made = IsMade z page added key payload
+Offers z page added key payload Raced = IsAlready z page added key
+Offers z page added key payload Alone = (z.width - 2 < length key + length payload) ⊎ (IsPoolFull z page added ⊎ IsPageFull z page added key)
+
+-- the call that publishes added only its steps
+pub record HasOffered (old new : PageMeaning) (key payload : List ℕ) (origin : Origin) : Type 0 where
+  pub added : List Step
+  pub comes : Comes old new added
+  pub offers : Offers old.sizes old.page added key payload origin
+
+-- by the steps that were added the key's expansion came so
+pub record HasCome (grammar : Grammar) (old new : PageMeaning) (key : Key) (origin : Origin) : Type 0 where
+  pub added : List Step
+  pub comes : Comes old new added
+  pub came : Came old added grammar key origin
+
+-- a key that was found took no steps of expansion, and each other took its cost
+abbrev pub Pays : {K : Type 0} → (K → ℕ → Type 0) → K → Origin → (before after : ℕ) → Type 0
+Pays Costs key Found before after = after ≡ before
+Pays Costs key Made before after = (cost : ℕ) × Costs key cost × (after ≡ before + cost)
+Pays Costs key Raced before after = (cost : ℕ) × Costs key cost × (after ≡ before + cost)
+Pays Costs key Alone before after = (cost : ℕ) × Costs key cost × (after ≡ before + cost)
+
+-- ---- what is kept
+
+-- keys with how their expansions came
+abbrev pub origins : {K E : Type 0} → List (K × Answer E) → List (K × Origin)
+origins kept = map (λ one. (one.0, one.1.origin)) kept
+
+-- each key is kept with its expansion
+abbrev pub HoldsAnswers : {K E : Type 0} → (K → E → Type 0) → List (K × Answer E) → Type 0
+HoldsAnswers Expands kept = (key : _) (answer : _) → Contains kept (key, answer) → Expands key answer.expansion
+
+-- the key was kept before, and nothing was done; or it was not, its expansion came, and it stands behind the others
+abbrev pub Grows : {K E : Type 0} → Grammar → (K → Key) → (old new : PageMeaning) → K → (before after : List (K × Answer E)) → Type 0
+Grows grammar as_key old new key before after = ((new ≡ old) × (after ≡ before))
+    ⊎ ((answer : _) × (after ≡ before ++ (key, answer) ∷ []) × HasCome grammar old new (as_key key) answer.origin)
+
+-- each key is kept with how its expansion came, as the steps show
+abbrev pub HoldsOrigins : {K : Type 0} → (K → Key) → PageMeaning → List Step → Grammar → List (K × Origin) → Type 0
+HoldsOrigins as_key m steps grammar kept = (key : _) (origin : Origin) → Contains kept (key, origin) → Came m steps grammar (as_key key) origin
+
+-- at this place the key stands with its expansion
+abbrev pub StandsAnswer : {K E : Type 0} → (K → E → Type 0) → List (K × Answer E) → K → (place : ℕ) → Type 0
+StandsAnswer Expands kept key place = (answer : _) × (slice_get kept place ≡ Some (key, answer)) × Expands key answer.expansion
+
+abbrev pub ExpandsKernel : Grammar → List Item → Expansion → Type 0
+ExpandsKernel grammar items expansion = IsExpansionOf grammar.rules items expansion
+
+abbrev pub ExpandsScan : Grammar → ScanKey → ScanExpansion → Type 0
+ExpandsScan grammar key expansion = IsScanExpansionOf grammar key expansion.ranges
+
+abbrev pub kernel_key : List Item → Key
+kernel_key items = kernel items
+
+abbrev pub scan_key : ScanKey → Key
+scan_key key = scan key
+
+-- ---- the keeper's invariant
+
+-- what is kept of both kinds, over a page whose log is the grammar's
+pub record IsKept (grammar : Grammar) (basis page : PageMeaning) (scans : List (ScanKey × Answer ScanExpansion)) (kernels : List (List Item
+    × Answer Expansion)) : Type 0 where
+  pub log : IsLogOfGrammar basis.log grammar
+  pub added : List Step
+  pub comes : Comes basis page added
+  pub scan_expansions : HoldsAnswers (ExpandsScan grammar) scans
+  pub kernel_expansions : HoldsAnswers (ExpandsKernel grammar) kernels
+  pub scan_origins : HoldsOrigins scan_key basis added grammar (origins scans)
+  pub kernel_origins : HoldsOrigins kernel_key basis added grammar (origins kernels)
+  pub few_scans : length scans < 4294967296
+  pub few_kernels : length kernels < 4294967296

@@ -1,0 +1,21 @@
+-- What the steps of a graph over a page show when it ends.
+use Rattle.std.specs.Prelude.{List, Contains}
+use Rattle.item_sets.specs.declared.item.Item.{Item}
+use Rattle.isg_states.specs.declared.scan_key.ScanKey.{ScanKey}
+use Rattle.pin_rule.specs.declared.view.Step.{Step}
+use Rattle.row_coding.specs.Rows.{key_words, kernel, scan}
+use Rattle.live_graph.specs.declared.origin.Origin.{Origin}
+use Rattle.live_graph.specs.Sharing.{Shared}
+use Rattle.live_graph.specs.Showing.{Comes, Came, Shows, IsNarrow}
+
+-- Only quiet steps were added to those of the basis. They show of each key how its expansion came; and of each whose row is not too
+-- wide, that the page has it, or had no room.
+pub record Ends (graph : Shared) : Type 0 where
+  pub added : List Step
+  pub comes : Comes graph.basis graph.page added
+  pub kernels_came : (items : List Item) (origin : Origin) → Contains graph.kernels (items, origin) → Came graph.basis added graph.grammar (kernel items) origin
+  pub scans_came : (key : ScanKey) (origin : Origin) → Contains graph.scans (key, origin) → Came graph.basis added graph.grammar (scan key) origin
+  pub kernels_shown : (items : List Item) (origin : Origin) → Contains graph.kernels (items, origin) → IsNarrow graph.basis.sizes graph.grammar (kernel items)
+      → Shows graph.basis added (key_words (kernel items))
+  pub scans_shown : (key : ScanKey) (origin : Origin) → Contains graph.scans (key, origin) → IsNarrow graph.basis.sizes graph.grammar (scan key)
+      → Shows graph.basis added (key_words (scan key))
