@@ -9,5 +9,5 @@ pub places_push : (pieces : List (List ℕ)) (n : ℕ) → length pieces ≡ n �
 places_push pieces n count each place d less = ⊎_elim
     (λ before. get_or_append_left pieces (cut_text n ∷ []) d place before ∙ each place d before)
     (λ past. get_or_push pieces (cut_text n) d place (omega (arith, length_push pieces (cut_text n)))
-      ∙ ap cut_text (omega (arith, length_push pieces (cut_text n))))
+    ∙ ap cut_text (omega (arith, length_push pieces (cut_text n))))
     (cases_lt place (length pieces))

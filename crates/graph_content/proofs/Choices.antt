@@ -48,7 +48,8 @@ next_log g touch first next leads =
     record {
       history = leads.log.history ++ leads.edit ∷ [];
       is =
-          subst (λ log. IsLogOf log (leads.log.history ++ leads.edit ∷ [])) (sym leads.longer) (log_push first leads.log.history leads.entry leads.edit leads.log.is accepted leads.words);
+          subst (λ log. IsLogOf log (leads.log.history ++ leads.edit ∷ [])) (sym leads.longer)
+          (log_push first leads.log.history leads.entry leads.edit leads.log.is accepted leads.words);
       made = ap (λ h. after h leads.edit) leads.log.made ∙ sym (grammar_push leads.log.history leads.edit);
     }
 

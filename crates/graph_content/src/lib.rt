@@ -17,7 +17,7 @@ mod touching;
 
 pub use graph_rows::GraphRows;
 pub use laws::{
-    keys_fit, kept_is_unaffected, one_history, touched_is_affected, untouched_is_unaffected,
+    kept_is_unaffected, keys_fit, one_history, touched_is_affected, untouched_is_unaffected,
 };
 pub use modify::Modify;
 pub use row_coding::{

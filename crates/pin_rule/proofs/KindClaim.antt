@@ -57,7 +57,13 @@ module _ (L : List Entry → Type 0) (F : List Entry → List ℕ → Type 0) (v
     same r i _ = sym (claim-row z words 1 row r i inside)
 
     kept : Kept z words words' h.role
-    kept = record { places = λ l p _ _. claim-entry z words 1 row l.page p inside; in_use = λ r _ c _. stays r c; rows = λ r _ _ _. same r; given = λ g p _ _. claim-entry z words 1 row g.page p inside }
+    kept = record {
+      places = λ l p _ _. claim-entry z words 1 row l.page p inside;
+      in_use = λ r _ c _. stays r c;
+      rows = λ r _ _ _. same r;
+      given = λ g p _ _.
+          claim-entry z words 1 row g.page p inside;
+    }
 
     outside : ¬ (IsHeldLive z words h.role row)
     outside x = not_one (claim z words row) ((h.pages x.0 x.1).entries x.2.0 row x.2.1 x.2.2).in_use free

@@ -43,7 +43,13 @@ module _ (L : List Entry → Type 0) (F : List Entry → List ℕ → Type 0) (z
     (at : get_elem? views id ≡ maybe.some v)
     (h : Lawful L F z words views) (long : length words' ≡ length words) (alike : IsAlike v w) (right : IsRightful w) (else_ : Elsewhere z words words') where
   kept : Kept z words words' h.role
-  kept = record { places = λ l p _ _. else_.entries l.page p; in_use = λ r _ c _. else_.claims r ∙ c; rows = λ r _ _ _ i _. sym (else_.rows r i); given = λ g p _ _. else_.entries g.page p }
+  kept = record {
+    places = λ l p _ _. else_.entries l.page p;
+    in_use = λ r _ c _. else_.claims r
+        ∙ c;
+    rows = λ r _ _ _ i _. sym (else_.rows r i);
+    given = λ g p _ _. else_.entries g.page p;
+  }
 
   pub repins : (taken : ℕ) → slice_index words' 0 ≡ current_of h.role taken → w.own ≡ v.own → (w.log ≡ v.log) → KnowsLog h.log w → Knows z words h.role w
       → KnowsWhole z words h.role w

@@ -189,7 +189,8 @@ module _ (L : List Entry → Type 0) (F : List Entry → List ℕ → Type 0) (v
   }
 
   current' : IsCurrent L z words' log' role' 0
-  current' = let c = h.current in let k = c.making m new.making in let long : length log' ≡ length h.log + 1 = length-append h.log (record { words = m.entry } ∷ []) in
+  current' = let c = h.current in let k = c.making m new.making in
+      let long : length log' ≡ length h.log + 1 = length-append h.log (record { words = m.entry } ∷ []) in
       let is = version_is in let was = c.version in record {
         cur = (let some_words : 0 < word_count z = omega arith in wrote z words (naming version page) 0 h.long some_words
             ∙ (let n : ℕ = naming version page in let r : n ≡ n + 0 = omega arith in r));

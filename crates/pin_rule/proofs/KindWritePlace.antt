@@ -1,5 +1,27 @@
 -- A place of the page in the making keeps the rule.
-use Rattle.std.proofs.Common.{◌≡◌, ◌≢◌, ℕ, suc, ◌+◌, ◌<◌, List, [], ◌∷◌, ◌++◌, inl, inr, length, length-append, set, length-set, slice_index, sym, refl, ap, ◌∙◌}
+use Rattle.std.proofs.Common.{
+  ◌≡◌,
+  ◌≢◌,
+  ℕ,
+  suc,
+  ◌+◌,
+  ◌<◌,
+  List,
+  [],
+  ◌∷◌,
+  ◌++◌,
+  inl,
+  inr,
+  length,
+  length-append,
+  set,
+  length-set,
+  slice_index,
+  sym,
+  refl,
+  ap,
+  ◌∙◌,
+}
 use Rattle.std.proofs.Common.{subst, arith}
 use Rattle.std.proofs.lemmas.Bool.{cases_lt}
 use Rattle.std.proofs.Math.ListN.{get_or-append}
@@ -65,7 +87,8 @@ module _ (L : List Entry → Type 0) (F : List Entry → List ℕ → Type 0) (v
     places = λ l p i pi. place-page v.sizes words word page place l.page p inside pi (apart l i);
     in_use = λ r ri c _. place-claim v.sizes words word page place r ri ∙ c;
     rows = λ r _ _ _. same r;
-    given = λ g p is pi. place-page v.sizes words word page place g.page p inside pi (λ e. given_apart v.sizes h.role h.live m g new.making is (e ∙ new.page_is));
+    given = λ g p is pi. place-page v.sizes words word page place g.page p inside pi
+        (λ e. given_apart v.sizes h.role h.live m g new.making is (e ∙ new.page_is));
   }
 
   has_making : with_place_word (Some h.role) word ≡ Some (role_making h.role m')

@@ -59,7 +59,8 @@ pub outside : (ns : List ℕ) → ¬ (In (first_outside (length ns) 0 ns) ns)
 outside ns = elim (first_or_all (length ns) 0 ns) [
   | inl out ↦ out
   | inr all ↦ λ i. let n : ℕ = length ns in let many = has_all_below (suc n) ns
-      (λ k lt. dite (ℕ_discrete k n) (λ same. subst (λ (m : ℕ). In m ns) ((let last = all.0 in let r : first_outside n 0 ns ≡ k = omega arith in r)) i) (λ ne. all.1 k (omega arith) (omega arith))) in omega arith
+      (λ k lt. dite (ℕ_discrete k n) (λ same. subst (λ (m : ℕ). In m ns) ((let last = all.0 in let r : first_outside n 0 ns ≡ k = omega arith in r)) i)
+      (λ ne. all.1 k (omega arith) (omega arith))) in omega arith
 ]
 
 first_is : (count from page : ℕ) (ns : List ℕ) → from ≤ page → page ≤ from + count → (¬ (In page ns)) → ((i : ℕ) → from ≤ i → i < page → In i ns)
@@ -84,6 +85,7 @@ module _ (r : Role) where
 
   -- the page that is not taken, where all below it are, is the spare page
   pub spare_is : (page : ℕ) → (¬ (In page (pages_taken r))) → ((i : ℕ) → i < page → In i (pages_taken r)) → spare_page r ≡ page
-  spare_is page out below = first_is (length (pages_taken r)) 0 page (pages_taken r) (omega arith) (let few = has_all_below page (pages_taken r) below in let n : ℕ = length (pages_taken r) in
+  spare_is page out below = first_is (length (pages_taken r)) 0 page (pages_taken r) (omega arith) (let few = has_all_below page (pages_taken r) below in
+      let n : ℕ = length (pages_taken r) in
       let le : page ≤ n = few in let k : page ≤ 0 + n = omega arith in k) out
       (λ i _ lt. below i lt)

@@ -23,7 +23,21 @@ use Rattle.pin_rule.specs.PartLive.{pins_on}
 use Rattle.pin_rule.specs.PartClaims.{StandsIn}
 use Rattle.pin_rule.specs.PartFacts.{HasEntry, EntryStands, WordStands, IsKnown}
 use Rattle.pin_rule.specs.Lawful.{Lawful}
-use Rattle.pin_rule.specs.Told.{KnowsPlace, KnowsRow, KnowsWord, OfKey, KnowsKey, IsReached, IsAlike, IsTold, Tells, IsCurrentFor, IsAsKnown, IsReadAsKnown, IsOfGivenUp}
+use Rattle.pin_rule.specs.Told.{
+  KnowsPlace,
+  KnowsRow,
+  KnowsWord,
+  OfKey,
+  KnowsKey,
+  IsReached,
+  IsAlike,
+  IsTold,
+  Tells,
+  IsCurrentFor,
+  IsAsKnown,
+  IsReadAsKnown,
+  IsOfGivenUp,
+}
 use Rattle.pin_rule.specs.Told.{IsReleaseOf, Meets}
 use Rattle.pin_rule.proofs.Frames.{Same, key_alike, content_same}
 use Rattle.pin_rule.proofs.Lists.{each_in, total_zero}
@@ -61,10 +75,12 @@ module _ (L : List Entry → Type 0) (F : List Entry → List ℕ → Type 0) (z
   known_word all k row index a i is w = (each_in (StandsIn z words row) (index, a) k.words ((stands all k i).2 row is) w).1
 
   is_alike : v.sizes ≡ z → v.share ≡ whole → (r : Role) → v.role ≡ Some r → r.newest.version ≡ now v → IsAlike v (now v)
-  is_alike sizes all r has e = let newest : h.role.newest.version ≡ now v = ap (λ (x : Role). x.newest.version) (sym (is_role L F z words views id v at h r has)) ∙ e in
+  is_alike sizes all r has e = let newest : h.role.newest.version ≡ now v = ap (λ (x : Role). x.newest.version)
+      (sym (is_role L F z words views id v at h r has)) ∙ e in
       record {
         inside = λ k i. subst (λ (y : Sizes). k.place < y.places) (sym sizes) (stands all k i).0;
-        places = λ k place row i at_place fact. sym (stands all k i).1 ∙ ap (entry z words h.role.newest.page) at_place ∙ (newest_placed place row newest fact).1;
+        places = λ k place row i at_place fact. sym (stands all k i).1 ∙ ap (entry z words h.role.newest.page) at_place
+            ∙ (newest_placed place row newest fact).1;
         words = λ k row index a b i is w fact. sym (known_word all k row index a i is w) ∙ newest_read row index b newest fact;
         once = λ k row index a b i is w x. sym (known_word all k row index a i is w) ∙ known_word all k row index b i is x;
       }

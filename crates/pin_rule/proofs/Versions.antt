@@ -16,7 +16,20 @@ use Rattle.pin_rule.specs.declared.view.Role.{Role}
 use Rattle.pin_rule.specs.declared.view.GivingUp.{GivingUp}
 use Rattle.pin_rule.specs.declared.view.Making.{Making}
 use Rattle.pin_rule.specs.Lists.{In}
-use Rattle.pin_rule.specs.Views.{lives, IsLive, given_page, pages_taken, Names, IsCaughtUp, now, if_at, version_given_up, version_of_role, version_pinned, version_at}
+use Rattle.pin_rule.specs.Views.{
+  lives,
+  IsLive,
+  given_page,
+  pages_taken,
+  Names,
+  IsCaughtUp,
+  now,
+  if_at,
+  version_given_up,
+  version_of_role,
+  version_pinned,
+  version_at,
+}
 use Rattle.pin_rule.specs.PartLive.{IsVersions, HasTaken}
 use Rattle.pin_rule.specs.Lawful.{Lawful}
 use Rattle.pin_rule.proofs.Lists.{in_at, in_mapped, in_right, take_prefix}

@@ -2,7 +2,20 @@
 use Rattle.std.specs.Prelude.{ℕ, zero, suc, ◌<◌, ◌≤◌, ◌+◌, ◌%◌, ◌^◌}
 use Rattle.pin_rule.specs.declared.sizes.Sizes.{Sizes}
 use Rattle.pin_rule.specs.declared.ops.Op.{Op}
-use Rattle.pin_rule.specs.declared.ops.Op.TheVariants.{LoadPlace, LoadRow, Claim, WriteRow, Publish, GiveBack, Pin, Unpin, LoadLog, WriteLog, WritePlace, SwapCurrent}
+use Rattle.pin_rule.specs.declared.ops.Op.TheVariants.{
+  LoadPlace,
+  LoadRow,
+  Claim,
+  WriteRow,
+  Publish,
+  GiveBack,
+  Pin,
+  Unpin,
+  LoadLog,
+  WriteLog,
+  WritePlace,
+  SwapCurrent,
+}
 use Rattle.pin_rule.specs.declared.ops.Op.TheVariants.{LoadRelease, FreeRow}
 use Rattle.pin_rule.specs.Layout.{release_word, claim_word, place_word, log_word, row_word, naming}
 

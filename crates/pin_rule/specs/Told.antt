@@ -12,7 +12,20 @@ use Rattle.pin_rule.specs.declared.view.GivingUp.{GivingUp}
 use Rattle.pin_rule.specs.declared.view.Role.{Role}
 use Rattle.pin_rule.specs.declared.sizes.Sizes.{Sizes}
 use Rattle.pin_rule.specs.declared.ops.Op.{Op}
-use Rattle.pin_rule.specs.declared.ops.Op.TheVariants.{LoadPlace, LoadRow, Claim, WriteRow, Publish, GiveBack, Pin, Unpin, LoadLog, WriteLog, WritePlace, SwapCurrent}
+use Rattle.pin_rule.specs.declared.ops.Op.TheVariants.{
+  LoadPlace,
+  LoadRow,
+  Claim,
+  WriteRow,
+  Publish,
+  GiveBack,
+  Pin,
+  Unpin,
+  LoadLog,
+  WriteLog,
+  WritePlace,
+  SwapCurrent,
+}
 use Rattle.pin_rule.specs.declared.ops.Op.TheVariants.{LoadRelease, FreeRow}
 use Rattle.pin_rule.specs.Layout.{version_named, page_named}
 use Rattle.pin_rule.specs.Lists.{In}

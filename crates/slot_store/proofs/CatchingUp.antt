@@ -89,7 +89,18 @@ module _ (z : Site) (w : View) (entry index n : ℕ) (pinned : w.pinned ≡ Some
   more_words u is few = subst (λ (x : View). ReadsNext z w x entry (index + 1)) (sym (is ∙ with_next false (ne_eqb _ 32 (λ e. let l = long in omega arith))))
       (record {
         added = loaded_log w.sizes entry index n ∷ [];
-        moves = record { sizes = refl; share = refl; pinned = refl; pins_left = refl; own = refl; role = refl; steps = refl; loads = (refl, tt); log = prefix_self w.log };
+        moves = record {
+          sizes = refl;
+          share = refl;
+          pinned = refl;
+          pins_left = refl;
+          own = refl;
+          role = refl;
+          steps = refl;
+          loads = (refl, tt);
+          log =
+              prefix_self w.log;
+        };
         at = at;
         words = long;
       })
@@ -173,7 +184,18 @@ knows_more v w u entry index n k below is = let below_w : entry < now w = (let e
     subst (λ (x : View). ReadsKnown v x) (sym (known_entry w u entry index n below_w is)) (let b = loaded_log w.sizes entry index n ∷ [] in record {
       added = k.added ++ b;
       moves = moves_on v w (noted w (loaded_log w.sizes entry index n)) k.added b k.moves
-          (record { sizes = refl; share = refl; pinned = refl; pins_left = refl; own = refl; role = refl; steps = refl; loads = (refl, tt); log = prefix_self w.log });
+          (record {
+            sizes = refl;
+            share = refl;
+            pinned = refl;
+            pins_left = refl;
+            own = refl;
+            role = refl;
+            steps = refl;
+            loads = (refl, tt);
+            log = prefix_self
+                w.log;
+          });
       log = k.log;
       log_words = k.log_words;
     })

@@ -32,5 +32,5 @@ returns-in_ok-put_cuts-in-Some-clause-prefix c =
     last_apart cut_text head (codes "\n") cuts before last is ∙ sym (append_assoc head (flat_map cut_text before) (cut_text last ++ codes "\n")) in
     err_then c.put_line-in-Some.result
     (λ (kept : c.put_line-in-Some.new.lines ≡ c.put_cuts.new.lines). stops_after c.args.lines.now c.put_cuts.new.lines c.put_line-in-Some.new.lines
-      (head ++ flat_map cut_text before) (cut_text last ++ codes "\n") (head ++ flat_map cut_text cuts ++ codes "\n") second kept same)
+    (head ++ flat_map cut_text before) (cut_text last ++ codes "\n") (head ++ flat_map cut_text cuts ++ codes "\n") second kept same)
     c.put_line-in-Some.ensures.kept

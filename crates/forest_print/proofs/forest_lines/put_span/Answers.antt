@@ -42,7 +42,7 @@ returns-clause-whole c =
     simp append_assoc in
     ok_then c.put_line.result
     (λ (put : c.put_line.new.lines ≡ c.put.new.lines ++ cut_text node.to ++ codes "\n").
-      put ∙ ap (λ l. l ++ cut_text node.to ++ codes "\n") third ∙ same)
+    put ∙ ap (λ l. l ++ cut_text node.to ++ codes "\n") third ∙ same)
     c.put_line.ensures.whole
 
 pub returns-clause-prefix : goal.returns-clause-prefix
@@ -60,5 +60,5 @@ returns-clause-prefix c =
     place_apart (codes "node ") name (codes " ") (decimal node.from) (decimal node.to) (codes "\n") in
     err_then c.put_line.result
     (λ (kept : c.put_line.new.lines ≡ c.put.new.lines).
-      stops_after lines c.put.new.lines c.put_line.new.lines before rest (span_line name node.from node.to) third kept same)
+    stops_after lines c.put.new.lines c.put_line.new.lines before rest (span_line name node.from node.to) third kept same)
     c.put_line.ensures.kept

@@ -31,4 +31,5 @@ returns g c =
     let grammar = (g.G.Graph.means c.args.graph.now).grammar in
     parse c.in-Ok.ensures.tokens
     (subst (λ found. IsParse grammar.rules (kinds_of found) c.in_ok-outcome.outcome) c.deref.ensures.value
-    (subst (λ (scanned : Grammar). IsParse scanned.rules (kinds_of c.deref.result.now) c.in_ok-outcome.outcome) c.in-Ok.ensures.grammar c.in_ok-outcome.ensures))
+    (subst (λ (scanned : Grammar). IsParse scanned.rules (kinds_of c.deref.result.now) c.in_ok-outcome.outcome) c.in-Ok.ensures.grammar
+    c.in_ok-outcome.ensures))

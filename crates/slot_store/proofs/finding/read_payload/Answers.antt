@@ -54,10 +54,12 @@ load_row_at-requires-clause-keeps g c =
 
 pub loop-i-preserved : goal.loop-i-preserved
 loop-i-preserved g c =
-    let z = c.args.site in let v = view_of c.args.hand.now in let w = view_of c.loop-i.hand in let u = view_of c.load_row_at.new.self in let i : ℕ = c.loop-i.i in
+    let z = c.args.site in let v = view_of c.args.hand.now in let w = view_of c.loop-i.hand in let u = view_of c.load_row_at.new.self in
+    let i : ℕ = c.loop-i.i in
     let k = c.loop-i.invariant in let asked = c.requires.room in record {
       table = c.load_row_at.ensures.table ∙ k.table;
-      told = (let next = goes_on z v w u c.args.row (length c.args.key.now + 2) c.load_row_at-count.result i c.load_row_at.result c.loop-i.buffer c.requires.work
+      told = (let next = goes_on z v w u c.args.row (length c.args.key.now + 2) c.load_row_at-count.result i c.load_row_at.result c.loop-i.buffer
+          c.requires.work
           c.load_row_at.ensures.view (let wide = k.wide in let long = k.long in omega arith) (let wide = k.wide in omega arith) k.copies in
           told_at g.C.Content.lawful g.C.Content.fits z u (work_on z v u next.added c.requires.work next.moves) c.load_row_at.ensures.told);
       from = refl;

@@ -27,7 +27,8 @@ load_place_at-met-requires-clause-share g c = let k = c.loop-step.invariant.walk
 pub load_place_at-met-requires-clause-place : goal.load_place_at-met-requires-clause-place
 load_place_at-met-requires-clause-place g c = let z = c.args.site in let k = c.loop-step.invariant.walking in
     let same : sizes_of c.loop-step.hand ≡ z.sizes = k.moves.sizes ∙ c.requires.sizes in
-    let inside = on_the_page IsPlain z (view_of c.args.hand.now) (view_of c.loop-step.hand) c.args.key.now c.loop-step._step c.loop-step.place k c.loop-step-test.true
+    let inside = on_the_page IsPlain z (view_of c.args.hand.now) (view_of c.loop-step.hand) c.args.key.now c.loop-step._step c.loop-step.place k
+    c.loop-step-test.true
     in
     subst (λ (y : Sizes). (c.args.site.page < y.versions) × (c.loop-step.place < y.places)) (sym same) (c.args.site.page_in, inside)
 
@@ -49,7 +50,8 @@ overflow_cast-row g c =
     let z = c.args.site in let v = view_of c.args.hand.now in let w = view_of c.loop-step.hand in let u = view_of c.load_place_at-met.new.self in
     let n : ℕ = c.load_place_at-met.result in let place : ℕ = c.loop-step.place in
     let k = c.loop-step.invariant.walking in let work = work_on z v w k.added c.requires k.moves in
-    let told = told_at g.C.Content.lawful g.C.Content.fits z u (loaded_on z w u work place n c.load_place_at-met.ensures.view) c.load_place_at-met.ensures.told in
+    let told = told_at g.C.Content.lawful g.C.Content.fits z u (loaded_on z w u work place n c.load_place_at-met.ensures.view) c.load_place_at-met.ensures.told
+    in
     let m = meets z w u work place n c.load_place_at-met.ensures.view _ told (n - 1) (row_met n c.if-met-eq0.false) in
     let inside : n - 1 < z.sizes.rows = m.met.0 in let few = z.sizes.rows_in in
     record { fits = omega arith }
@@ -59,7 +61,8 @@ has_key-requires-clause-row g c =
     let z = c.args.site in let v = view_of c.args.hand.now in let w = view_of c.loop-step.hand in let u = view_of c.load_place_at-met.new.self in
     let n : ℕ = c.load_place_at-met.result in let place : ℕ = c.loop-step.place in
     let k = c.loop-step.invariant.walking in let work = work_on z v w k.added c.requires k.moves in
-    let told = told_at g.C.Content.lawful g.C.Content.fits z u (loaded_on z w u work place n c.load_place_at-met.ensures.view) c.load_place_at-met.ensures.told in
+    let told = told_at g.C.Content.lawful g.C.Content.fits z u (loaded_on z w u work place n c.load_place_at-met.ensures.view) c.load_place_at-met.ensures.told
+    in
     let m = meets z w u work place n c.load_place_at-met.ensures.view _ told (n - 1) (row_met n c.if-met-eq0.false) in
     let inside : n - 1 < z.sizes.rows = m.met.0 in
     inside
@@ -69,12 +72,14 @@ returns-then-has_key-clause-walked g c =
     let z = c.args.site in let v = view_of c.args.hand.now in let w = view_of c.loop-step.hand in let u = view_of c.load_place_at-met.new.self in
     let n : ℕ = c.load_place_at-met.result in let place : ℕ = c.loop-step.place in
     let k = c.loop-step.invariant.walking in let work = work_on z v w k.added c.requires k.moves in
-    let told = told_at g.C.Content.lawful g.C.Content.fits z u (loaded_on z w u work place n c.load_place_at-met.ensures.view) c.load_place_at-met.ensures.told in
+    let told = told_at g.C.Content.lawful g.C.Content.fits z u (loaded_on z w u work place n c.load_place_at-met.ensures.view) c.load_place_at-met.ensures.told
+    in
     let m = meets z w u work place n c.load_place_at-met.ensures.view _ told (n - 1) (row_met n c.if-met-eq0.false) in
     let inside : n - 1 < z.sizes.rows = m.met.0 in
     found z v w c.args.key.now c.loop-step._step place k u (view_of c.has_key.new.hand) (n - 1) m
     (IsTrue c.has_key.result) c.has_key.ensures.compared
-    (c.has_key.ensures.compared.own ∙ ap (λ (y : View). y.own) c.load_place_at-met.ensures.view ∙ c.loop-step.invariant.own) c.loop-step-test.true c.if-has_key.true inside
+    (c.has_key.ensures.compared.own ∙ ap (λ (y : View). y.own) c.load_place_at-met.ensures.view ∙ c.loop-step.invariant.own) c.loop-step-test.true
+    c.if-has_key.true inside
     (loaded_it z w u work place n c.load_place_at-met.ensures.view _ told (n - 1) (row_met n c.if-met-eq0.false))
 
 pub next_place-place-requires : goal.next_place-place-requires
@@ -86,7 +91,8 @@ loop-step-preserved g c =
     let z = c.args.site in let v = view_of c.args.hand.now in let w = view_of c.loop-step.hand in let u = view_of c.load_place_at-met.new.self in
     let n : ℕ = c.load_place_at-met.result in let place : ℕ = c.loop-step.place in
     let k = c.loop-step.invariant.walking in let work = work_on z v w k.added c.requires k.moves in
-    let told = told_at g.C.Content.lawful g.C.Content.fits z u (loaded_on z w u work place n c.load_place_at-met.ensures.view) c.load_place_at-met.ensures.told in
+    let told = told_at g.C.Content.lawful g.C.Content.fits z u (loaded_on z w u work place n c.load_place_at-met.ensures.view) c.load_place_at-met.ensures.told
+    in
     let m = meets z w u work place n c.load_place_at-met.ensures.view _ told (n - 1) (row_met n c.if-met-eq0.false) in
     let inside : n - 1 < z.sizes.rows = m.met.0 in record {
       table = c.has_key.ensures.table ∙ c.load_place_at-met.ensures.table ∙ c.loop-step.invariant.table;

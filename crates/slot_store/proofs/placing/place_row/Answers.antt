@@ -65,7 +65,8 @@ loop-step-preserved g c =
     let x = view_of c.has_key.new.hand in
     let n : ℕ = c.offer-met.result in let key = c.args.key.now in let payload = c.args.payload.now in let words = row_of key payload in
     let row = c.args.row in let step : ℕ = c.loop-step._step in
-    let place : ℕ = c.loop-step.place in let k = c.loop-step.invariant.walking in let f = c.offer-met.ensures.offer in let some = row_met n c.if-met-eq0.false in
+    let place : ℕ = c.loop-step.place in let k = c.loop-step.invariant.walking in let f = c.offer-met.ensures.offer in
+    let some = row_met n c.if-met-eq0.false in
     let m = other z v w key payload row step place k u n f (n - 1) some in record {
       table = c.has_key.ensures.table ∙ c.offer-met.ensures.table ∙ c.loop-step.invariant.table;
       owns = owns_on z v w key payload row step place k u n f (n - 1) some x (IsTrue c.has_key.result) c.has_key.ensures.compared;

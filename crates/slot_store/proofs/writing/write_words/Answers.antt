@@ -13,7 +13,8 @@ write_row_at-requires-clause-share g c = let t = c.loop-i.invariant.writes in
     (work_on c.args.site (view_of c.args.hand.now) (view_of c.loop-i.hand) t.added c.requires.work t.moves).share
 
 pub write_row_at-requires-clause-word : goal.write_row_at-requires-clause-word
-write_row_at-requires-clause-word g c = let same : (sizes_of c.loop-i.hand) ≡ c.args.site.sizes = c.loop-i.invariant.writes.moves.sizes ∙ c.requires.work.sizes in
+write_row_at-requires-clause-word g c = let same : (sizes_of c.loop-i.hand) ≡ c.args.site.sizes = c.loop-i.invariant.writes.moves.sizes
+    ∙ c.requires.work.sizes in
     let a : (sizes_of c.loop-i.hand).rows ≡ c.args.site.sizes.rows = ap (λ (y : Sizes). y.rows) same in
     let b : (sizes_of c.loop-i.hand).width ≡ c.args.site.sizes.width = ap (λ (y : Sizes). y.width) same in (omega arith, omega arith)
 
