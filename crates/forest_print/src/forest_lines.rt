@@ -33,6 +33,9 @@ fn put_after_head(lines: &mut Lines, places: &Places, head: &Piece, cuts: &[u32]
     ensures whole { OnOk result (lines.new ≡ lines.old ++ head.now ++ flat_map cut_text cuts.now ++ codes "\n") }
     ensures prefix { OnErr result (AppendsPrefix lines.old lines.new (head.now ++ flat_map cut_text cuts.now ++ codes "\n")) }
 {
+    if cuts.len() == 2 {
+        return places.put_two(lines, head, cuts[0], cuts[1]);
+    }
     match cuts.split_last() {
         None => lines.put_line(head),
         Some((last, before)) => {
@@ -72,6 +75,7 @@ fn put_split(lines: &mut Lines, places: &Places, head: &mut Head, split: &Split)
 }
 
 /// Appends a line for each split.
+#[inline(never)]
 fn put_splits(lines: &mut Lines, places: &Places, head: &mut Head, splits: &[Split]) -> Result<(), NoMemory>
     ensures whole { OnOk result (lines.new ≡ lines.old ++ flat_map split_line splits.now) }
     ensures prefix { OnErr result (AppendsPrefix lines.old lines.new (flat_map split_line splits.now)) }
