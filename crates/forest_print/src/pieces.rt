@@ -7,20 +7,22 @@ use crate::NoMemory;
 use std::marker::Model;
 
 /// How many bytes the room of a piece has.
-const ROOM: usize = 31;
+const ROOM: usize = 32;
 
 /// How many bytes are made ready at a time.
 const STEP: usize = 2048;
 
 /// As many bytes as two sizes and a room can come to, whatever numbers the sizes are.
-const REACH: usize = 541;
+const REACH: usize = 542;
 
-/// A text of less than 31 bytes. After it the room is full of line ends: copying all of it is one move of a known
+/// A text of less than 32 bytes. After it the room is full of line ends: copying all of it is one move of a known
 /// length, and the piece with a line end costs no more than the piece alone.
 #[derive(Drop)]
 pub(crate) struct Piece {
     room: [u8; ROOM],
     size: u8,
+    /// Not read. With it a piece has 40 bytes, and less has to be reckoned to find one in a table.
+    spare: [u8; 7],
 }
 
 impl Model for Piece {
@@ -28,7 +30,7 @@ impl Model for Piece {
 
     ghost view = { λ p. take p.size p.room };
 
-    ghost invariant = { λ p. (p.size < 31) × ((at : ℕ) → p.size ≤ at → slice_index_or p.room at 10 ≡ 10) };
+    ghost invariant = { λ p. (p.size < 32) × ((at : ℕ) → p.size ≤ at → slice_index_or p.room at 10 ≡ 10) };
 }
 
 impl Piece {
@@ -39,12 +41,13 @@ impl Piece {
         Piece {
             room: [b'\n'; ROOM],
             size: 0,
+            spare: [0; 7],
         }
     }
 
     /// Puts one more byte at the end.
     fn push(&mut self, byte: u8)
-        requires { length self.old < 30 }
+        requires { length self.old < 31 }
         ensures { self.new ≡ self.old ++ byte ∷ [] }
     {
         self.room[usize::from(self.size)] = byte;
@@ -53,7 +56,7 @@ impl Piece {
 
     /// Puts more bytes at the end.
     pub(crate) fn add(&mut self, bytes: &[u8])
-        requires { length self.old + length bytes.now ≤ 30 }
+        requires { length self.old + length bytes.now ≤ 31 }
         ensures { self.new ≡ self.old ++ bytes.now }
     {
         for byte in bytes {
@@ -109,17 +112,19 @@ fn make_room(bytes: &mut Vec<u8>, length: usize, more: usize) -> Result<(), NoMe
 /// Writes a room over the bytes from `at` on.
 #[inline(always)]
 fn write_at(bytes: &mut [u8], at: usize, room: &[u8; ROOM])
-    requires { at + 31 ≤ length bytes.old }
-    ensures front { (count : ℕ) → count ≤ 31 → take (at + count) bytes.new ≡ take at bytes.old ++ take count room.now }
+    requires { at + 32 ≤ length bytes.old }
+    ensures front { (count : ℕ) → count ≤ 32 → take (at + count) bytes.new ≡ take at bytes.old ++ take count room.now }
     ensures len { length bytes.new ≡ length bytes.old }
 {
-    bytes[at..at + ROOM].copy_from_slice(room);
+    if let Some(front) = bytes[at..].first_chunk_mut::<ROOM>() {
+        *front = *room;
+    }
 }
 
 /// Writes three pieces and a line end over the first bytes, and tells how many they are.
 #[inline(always)]
 fn write_three(bytes: &mut [u8], first: &Piece, second: &Piece, third: &Piece) -> usize
-    requires { 541 ≤ length bytes.old }
+    requires { 542 ≤ length bytes.old }
     ensures front { take result bytes.new ≡ first.now ++ second.now ++ third.now ++ codes "\n" }
     ensures within { result ≤ length bytes.new }
     ensures len { length bytes.new ≡ length bytes.old }
