@@ -1,6 +1,6 @@
 //! Short pieces of lines, and the bytes that they are written to.
 
-ghost use Rattle.std.specs.Prelude.{◌≡◌, ℕ, ◌+◌, ◌^◌, ◌<◌, ◌≤◌, List, [], ◌∷◌, ◌++◌, codes, length, take, slice_index_or, OnOk, OnErr};
+ghost use Rattle.std.specs.Prelude.{◌≡◌, ℕ, ◌+◌, ◌^◌, ◌<◌, ◌≤◌, List, [], ◌∷◌, ◌++◌, codes, length, take, drop, slice_index_or, OnOk, OnErr};
 ghost use Rattle.std.specs.Vec.{vec_len};
 
 use crate::NoMemory;
@@ -109,6 +109,17 @@ fn make_room(bytes: &mut Vec<u8>, length: usize, more: usize) -> Result<(), NoMe
     Ok(())
 }
 
+/// Writes a room over the first bytes, as an array, so that no test is made whether the two overlap.
+#[inline(always)]
+fn write_front(bytes: &mut [u8], room: &[u8; ROOM])
+    requires { 32 ≤ length bytes.old }
+    ensures { bytes.new ≡ room.now ++ drop 32 bytes.old }
+{
+    if let Some(front) = bytes.first_chunk_mut::<ROOM>() {
+        *front = *room;
+    }
+}
+
 /// Writes a room over the bytes from `at` on.
 #[inline(always)]
 fn write_at(bytes: &mut [u8], at: usize, room: &[u8; ROOM])
@@ -116,9 +127,7 @@ fn write_at(bytes: &mut [u8], at: usize, room: &[u8; ROOM])
     ensures front { (count : ℕ) → count ≤ 32 → take (at + count) bytes.new ≡ take at bytes.old ++ take count room.now }
     ensures len { length bytes.new ≡ length bytes.old }
 {
-    if let Some(front) = bytes[at..].first_chunk_mut::<ROOM>() {
-        *front = *room;
-    }
+    write_front(&mut bytes[at..], room);
 }
 
 /// Writes three pieces and a line end over the first bytes, and tells how many they are.
