@@ -29,7 +29,12 @@ fn put_cuts(lines: &mut Lines, places: &Places, cuts: &[u32]) -> Result<(), NoMe
 }
 
 /// Appends how a line begins, a blank and the number for each cut after the first, and a line end.
-fn put_after_head(lines: &mut Lines, places: &Places, head: &Piece, cuts: &[u32]) -> Result<(), NoMemory>
+fn put_after_head(
+    lines: &mut Lines,
+    places: &Places,
+    head: &Piece,
+    cuts: &[u32],
+) -> Result<(), NoMemory>
     ensures whole { OnOk result (lines.new ≡ lines.old ++ head.now ++ flat_map cut_text cuts.now ++ codes "\n") }
     ensures prefix { OnErr result (AppendsPrefix lines.old lines.new (head.now ++ flat_map cut_text cuts.now ++ codes "\n")) }
 {
@@ -61,7 +66,12 @@ fn put_bare(lines: &mut Lines, rule: u32) -> Result<(), NoMemory>
 }
 
 /// Appends the line for a split. The head stays as it was where it serves.
-fn put_split(lines: &mut Lines, places: &Places, head: &mut Head, split: &Split) -> Result<(), NoMemory>
+fn put_split(
+    lines: &mut Lines,
+    places: &Places,
+    head: &mut Head,
+    split: &Split,
+) -> Result<(), NoMemory>
     ensures whole { OnOk result (lines.new ≡ lines.old ++ split_line split.now) }
     ensures prefix { OnErr result (AppendsPrefix lines.old lines.new (split_line split.now)) }
 {
@@ -76,7 +86,12 @@ fn put_split(lines: &mut Lines, places: &Places, head: &mut Head, split: &Split)
 
 /// Appends a line for each split.
 #[inline(never)]
-fn put_splits(lines: &mut Lines, places: &Places, head: &mut Head, splits: &[Split]) -> Result<(), NoMemory>
+fn put_splits(
+    lines: &mut Lines,
+    places: &Places,
+    head: &mut Head,
+    splits: &[Split],
+) -> Result<(), NoMemory>
     ensures whole { OnOk result (lines.new ≡ lines.old ++ flat_map split_line splits.now) }
     ensures prefix { OnErr result (AppendsPrefix lines.old lines.new (flat_map split_line splits.now)) }
 {
@@ -98,7 +113,13 @@ fn put_span(lines: &mut Lines, places: &Places, name: &[u8], node: &Node) -> Res
 }
 
 /// Appends the lines for a node whose symbol has this name, and for its splits.
-fn put_node(lines: &mut Lines, places: &Places, head: &mut Head, name: &[u8], node: &Node) -> Result<(), NoMemory>
+fn put_node(
+    lines: &mut Lines,
+    places: &Places,
+    head: &mut Head,
+    name: &[u8],
+    node: &Node,
+) -> Result<(), NoMemory>
     ensures whole { OnOk result (lines.new ≡ lines.old ++ node_text name.now node.now) }
     ensures prefix { OnErr result (AppendsPrefix lines.old lines.new (node_text name.now node.now)) }
 {
@@ -108,7 +129,12 @@ fn put_node(lines: &mut Lines, places: &Places, head: &mut Head, name: &[u8], no
 }
 
 /// Appends the lines for all nodes.
-fn put_nodes(grammar: &Grammar, nodes: &[Node], places: &Places, lines: &mut Lines) -> Result<(), NoMemory>
+fn put_nodes(
+    grammar: &Grammar,
+    nodes: &[Node],
+    places: &Places,
+    lines: &mut Lines,
+) -> Result<(), NoMemory>
     requires { (node : TheNode) → Contains nodes.now node → IsNamed grammar.now.grammar.symbols node.symbol }
     ensures whole { OnOk result (lines.new ≡ lines.old ++ nodes_text (name_of grammar.now.grammar.symbols) nodes.now) }
     ensures prefix { OnErr result (AppendsPrefix lines.old lines.new (nodes_text (name_of grammar.now.grammar.symbols) nodes.now)) }

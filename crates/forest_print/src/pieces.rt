@@ -206,7 +206,12 @@ impl Lines {
 
     /// Appends three pieces and a line end, or nothing.
     #[inline(always)]
-    pub(crate) fn put_three(&mut self, first: &Piece, second: &Piece, third: &Piece) -> Result<(), NoMemory>
+    pub(crate) fn put_three(
+        &mut self,
+        first: &Piece,
+        second: &Piece,
+        third: &Piece,
+    ) -> Result<(), NoMemory>
         ensures whole { OnOk result (self.new ≡ self.old ++ (first.now ++ second.now ++ third.now ++ codes "\n")) }
         ensures kept { OnErr result (self.new ≡ self.old) }
     {

@@ -74,7 +74,13 @@ impl Places {
 
     /// Appends how a line begins, two places and a line end, or nothing.
     #[inline(always)]
-    pub(crate) fn put_two(&self, lines: &mut Lines, head: &Piece, middle: u32, last: u32) -> Result<(), NoMemory>
+    pub(crate) fn put_two(
+        &self,
+        lines: &mut Lines,
+        head: &Piece,
+        middle: u32,
+        last: u32,
+    ) -> Result<(), NoMemory>
         ensures whole { OnOk result (lines.new ≡ lines.old ++ (head.now ++ cut_text middle ++ cut_text last ++ codes "\n")) }
         ensures kept { OnErr result (lines.new ≡ lines.old) }
     {

@@ -1,7 +1,6 @@
 use Rattle.std.proofs.Common.{◌≡◌, ℕ, List, [], ◌∷◌, ◌++◌, codes, ap, sym, ◌∙◌, append_assoc}
 use Rattle.std.specs.List.{flat_map}
 use Rattle.forest_print.specs.Lines.{cut_text}
-use Rattle.forest_print.specs.Prefixes.{AppendsPrefix}
 use Rattle.forest_print.proofs.PrefixSteps.{stops_in, stops_after, on_err, err_then}
 use Rattle.forest_print.proofs.SplitParts.{last_apart}
 use Rattle.forest_print.proofs.forest_lines.put_after_head.Goals as goal
@@ -32,5 +31,5 @@ returns-in_ok-put_cuts-in-Some-clause-prefix c =
     last_apart cut_text head (codes "\n") cuts before last is ∙ sym (append_assoc head (flat_map cut_text before) (cut_text last ++ codes "\n")) in
     err_then c.put_line-in-Some.result
     (λ (kept : c.put_line-in-Some.new.lines ≡ c.put_cuts.new.lines). stops_after c.args.lines.now c.put_cuts.new.lines c.put_line-in-Some.new.lines
-      (head ++ flat_map cut_text before) (cut_text last ++ codes "\n") (head ++ flat_map cut_text cuts ++ codes "\n") second kept same)
+    (head ++ flat_map cut_text before) (cut_text last ++ codes "\n") (head ++ flat_map cut_text cuts ++ codes "\n") second kept same)
     c.put_line-in-Some.ensures.kept

@@ -1,6 +1,5 @@
-use Rattle.std.proofs.Common.{◌≡◌, ℕ, List, ◌++◌, codes, decimal, ap, sym, ◌∙◌, append_assoc}
+use Rattle.std.proofs.Common.{◌≡◌, ℕ, List, ◌++◌, codes, decimal, ap, ◌∙◌, append_assoc}
 use Rattle.forest_print.specs.Lines.{cut_text, span_line}
-use Rattle.forest_print.specs.Prefixes.{AppendsPrefix}
 use Rattle.forest_print.proofs.PrefixSteps.{stops_after, on_err, err_then, ok_then}
 use Rattle.forest_print.proofs.SplitParts.{place_apart}
 use Rattle.forest_print.proofs.forest_lines.put_span.Goals as goal
@@ -42,7 +41,7 @@ returns-clause-whole c =
     simp append_assoc in
     ok_then c.put_line.result
     (λ (put : c.put_line.new.lines ≡ c.put.new.lines ++ cut_text node.to ++ codes "\n").
-      put ∙ ap (λ l. l ++ cut_text node.to ++ codes "\n") third ∙ same)
+    put ∙ ap (λ l. l ++ cut_text node.to ++ codes "\n") third ∙ same)
     c.put_line.ensures.whole
 
 pub returns-clause-prefix : goal.returns-clause-prefix
@@ -60,5 +59,5 @@ returns-clause-prefix c =
     place_apart (codes "node ") name (codes " ") (decimal node.from) (decimal node.to) (codes "\n") in
     err_then c.put_line.result
     (λ (kept : c.put_line.new.lines ≡ c.put.new.lines).
-      stops_after lines c.put.new.lines c.put_line.new.lines before rest (span_line name node.from node.to) third kept same)
+    stops_after lines c.put.new.lines c.put_line.new.lines before rest (span_line name node.from node.to) third kept same)
     c.put_line.ensures.kept

@@ -1,4 +1,4 @@
-use Rattle.std.proofs.Common.{◌≡◌, ℕ, List, [], ◌∷◌, ◌++◌, length, codes, decimal, ap, sym, ◌∙◌, subst, append_assoc}
+use Rattle.std.proofs.Common.{◌≡◌, ℕ, List, ◌∷◌, ◌++◌, length, codes, decimal, ap, sym, ◌∙◌, append_assoc}
 use Rattle.std.specs.List.{flat_map}
 use Rattle.forest_print.specs.Lines.{cut_text, split_line}
 use Rattle.forest_print.specs.Parts.{head_text}
@@ -18,7 +18,7 @@ returns-in-None-clause-whole c =
     let same : lines ++ codes "rule " ++ decimal split.rule.0 ++ codes " at\n" ≡ lines ++ bare = simp append_assoc in
     ok_then c.put_bare.result
     (λ (put : c.put_bare.new.lines ≡ lines ++ codes "rule " ++ decimal split.rule.0 ++ codes " at\n").
-      put ∙ same ∙ ap (λ l. lines ++ l) (sym line))
+    put ∙ same ∙ ap (λ l. lines ++ l) (sym line))
     c.put_bare.ensures.whole
 
 pub returns-in-Some-clause-whole : goal.returns-in-Some-clause-whole
@@ -36,7 +36,7 @@ returns-in-Some-clause-whole c =
     let same : lines ++ text ++ flat_map cut_text after ++ codes "\n" ≡ lines ++ (text ++ flat_map cut_text after ++ codes "\n") = simp append_assoc in
     ok_then c.put_after_head.result
     (λ (put : c.put_after_head.new.lines ≡ lines ++ text ++ flat_map cut_text after ++ codes "\n").
-      put ∙ same ∙ ap (λ l. lines ++ l) (sym line))
+    put ∙ same ∙ ap (λ l. lines ++ l) (sym line))
     c.put_after_head.ensures.whole
 
 pub returns-in-Some-clause-prefix : goal.returns-in-Some-clause-prefix
@@ -53,5 +53,5 @@ returns-in-Some-clause-prefix c =
     let line : split_line split ≡ text ++ flat_map cut_text after ++ codes "\n" = first_apart split.rule.0 first split.cuts after text told is in
     err_then c.put_after_head.result
     (λ (stopped : AppendsPrefix lines c.put_after_head.new.lines (text ++ flat_map cut_text after ++ codes "\n")).
-      stops_same lines c.put_after_head.new.lines (text ++ flat_map cut_text after ++ codes "\n") (split_line split) stopped line)
+    stops_same lines c.put_after_head.new.lines (text ++ flat_map cut_text after ++ codes "\n") (split_line split) stopped line)
     c.put_after_head.ensures.prefix

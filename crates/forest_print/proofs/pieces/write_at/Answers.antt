@@ -9,4 +9,4 @@ returns-clause-front c =
     let old = c.args.bytes.now in
     let more : ℕ = length old - at in
     λ (count : ℕ) (few : count ≤ 32). room_counts old c.write_front.new.bytes c.args.room.now (drop 32 (mid_of at more old)) (post_of at more old) at count
-      (omega arith) (omega arith) c.write_front.ensures
+    (omega arith) (omega arith) c.write_front.ensures
