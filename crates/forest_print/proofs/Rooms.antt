@@ -1,6 +1,6 @@
 -- What stands in the room of a piece, and what is left of it where it is copied whole and only its front counts.
-use Rattle.std.proofs.Common.{◌≡◌, ℕ, zero, suc, ◌+◌, ◌<◌, ◌≤◌, List, [], ◌∷◌, ◌++◌, length, take, drop, replicate, slice_index_or, refl, ap, sym, inl, inr}
-use Rattle.std.proofs.Common.{◌∙◌, append_assoc, arith, rules}
+use Rattle.std.proofs.Common.{◌≡◌, ℕ, zero, suc, ◌+◌, ◌<◌, ◌≤◌, List, [], ◌∷◌, ◌++◌, length, take, drop, replicate, slice_index_or, refl, ap, sym}
+use Rattle.std.proofs.Common.{◌∙◌, append_assoc, arith}
 use Rattle.std.proofs.Math.Seq.{take-append-add}
 use Rattle.std.proofs.lemmas.List.{take-append-le, length-append, length-drop, length-take, length-take-le, take_more}
 
@@ -45,3 +45,10 @@ three_rooms was one two three r1 r2 r3 s1 s2 s3 first second third less is =
     ap (λ n. take n three) count ∙ third ∙ ap (λ front. front ++ take (s3 + 1) r3) two_begun
     ∙ ap (λ end. take s1 r1 ++ take s2 r2 ++ end) (with_end r3 s3 less is)
     ∙ sym (append_assoc (take s1 r1 ++ take s2 r2) (take s3 r3) (10 ∷ []))
+
+-- a room was written over the front of the bytes from a place on
+pub room_counts : (old new room rest after : List ℕ) (at count : ℕ) → at ≤ length old → count ≤ length room → new ≡ room ++ rest
+    → take (at + count) (take at old ++ (new ++ after)) ≡ take at old ++ take count room
+room_counts old new room rest after at count within few is =
+    front_counts old new after at count within (omega (arith, ap length is, length-append room rest))
+    ∙ ap (λ front. take at old ++ front) (ap (take count) is ∙ take-append-le count room rest few)

@@ -38,6 +38,9 @@ fn put_after_head(
     ensures whole { OnOk result (lines.new ≡ lines.old ++ head.now ++ flat_map cut_text cuts.now ++ codes "\n") }
     ensures prefix { OnErr result (AppendsPrefix lines.old lines.new (head.now ++ flat_map cut_text cuts.now ++ codes "\n")) }
 {
+    if cuts.len() == 2 {
+        return places.put_two(lines, head, cuts[0], cuts[1]);
+    }
     match cuts.split_last() {
         None => lines.put_line(head),
         Some((last, before)) => {
@@ -82,6 +85,7 @@ fn put_split(
 }
 
 /// Appends a line for each split.
+#[inline(never)]
 fn put_splits(
     lines: &mut Lines,
     places: &Places,

@@ -16,7 +16,6 @@ pub(crate) struct Head {
 }
 
 impl Head {
-    #[inline(never)]
     pub(crate) fn new(rule: u32, first: u32) -> Head
         ensures rule { result.rule ≡ rule }
         ensures first { result.first ≡ first }
@@ -36,7 +35,16 @@ impl Head {
         ensures first { self.new.first ≡ first }
     {
         if self.rule != rule || self.first != first {
-            *self = Head::new(rule, first);
+            self.renew(rule, first);
         }
+    }
+
+    /// The same where it is another one.
+    #[inline(never)]
+    fn renew(&mut self, rule: u32, first: u32)
+        ensures rule { self.new.rule ≡ rule }
+        ensures first { self.new.first ≡ first }
+    {
+        *self = Head::new(rule, first);
     }
 }

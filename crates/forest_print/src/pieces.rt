@@ -1,26 +1,28 @@
 //! Short pieces of lines, and the bytes that they are written to.
 
-ghost use Rattle.std.specs.Prelude.{◌≡◌, ℕ, ◌+◌, ◌^◌, ◌<◌, ◌≤◌, List, [], ◌∷◌, ◌++◌, codes, length, take, slice_index_or, OnOk, OnErr};
+ghost use Rattle.std.specs.Prelude.{◌≡◌, ℕ, ◌+◌, ◌^◌, ◌<◌, ◌≤◌, List, [], ◌∷◌, ◌++◌, codes, length, take, drop, slice_index_or, OnOk, OnErr};
 ghost use Rattle.std.specs.Vec.{vec_len};
 
 use crate::NoMemory;
 use std::marker::Model;
 
 /// How many bytes the room of a piece has.
-const ROOM: usize = 31;
+const ROOM: usize = 32;
 
 /// How many bytes are made ready at a time.
 const STEP: usize = 2048;
 
 /// As many bytes as two sizes and a room can come to, whatever numbers the sizes are.
-const REACH: usize = 541;
+const REACH: usize = 542;
 
-/// A text of less than 31 bytes. After it the room is full of line ends: copying all of it is one move of a known
+/// A text of less than 32 bytes. After it the room is full of line ends: copying all of it is one move of a known
 /// length, and the piece with a line end costs no more than the piece alone.
 #[derive(Drop)]
 pub(crate) struct Piece {
     room: [u8; ROOM],
     size: u8,
+    /// Not read. With it a piece has 40 bytes, and less has to be reckoned to find one in a table.
+    spare: [u8; 7],
 }
 
 impl Model for Piece {
@@ -28,7 +30,7 @@ impl Model for Piece {
 
     ghost view = { λ p. take p.size p.room };
 
-    ghost invariant = { λ p. (p.size < 31) × ((at : ℕ) → p.size ≤ at → slice_index_or p.room at 10 ≡ 10) };
+    ghost invariant = { λ p. (p.size < 32) × ((at : ℕ) → p.size ≤ at → slice_index_or p.room at 10 ≡ 10) };
 }
 
 impl Piece {
@@ -39,12 +41,13 @@ impl Piece {
         Piece {
             room: [b'\n'; ROOM],
             size: 0,
+            spare: [0; 7],
         }
     }
 
     /// Puts one more byte at the end.
     fn push(&mut self, byte: u8)
-        requires { length self.old < 30 }
+        requires { length self.old < 31 }
         ensures { self.new ≡ self.old ++ byte ∷ [] }
     {
         self.room[usize::from(self.size)] = byte;
@@ -53,7 +56,7 @@ impl Piece {
 
     /// Puts more bytes at the end.
     pub(crate) fn add(&mut self, bytes: &[u8])
-        requires { length self.old + length bytes.now ≤ 30 }
+        requires { length self.old + length bytes.now ≤ 31 }
         ensures { self.new ≡ self.old ++ bytes.now }
     {
         for byte in bytes {
@@ -106,20 +109,31 @@ fn make_room(bytes: &mut Vec<u8>, length: usize, more: usize) -> Result<(), NoMe
     Ok(())
 }
 
+/// Writes a room over the first bytes, as an array, so that no test is made whether the two overlap.
+#[inline(always)]
+fn write_front(bytes: &mut [u8], room: &[u8; ROOM])
+    requires { 32 ≤ length bytes.old }
+    ensures { bytes.new ≡ room.now ++ drop 32 bytes.old }
+{
+    if let Some(front) = bytes.first_chunk_mut::<ROOM>() {
+        *front = *room;
+    }
+}
+
 /// Writes a room over the bytes from `at` on.
 #[inline(always)]
 fn write_at(bytes: &mut [u8], at: usize, room: &[u8; ROOM])
-    requires { at + 31 ≤ length bytes.old }
-    ensures front { (count : ℕ) → count ≤ 31 → take (at + count) bytes.new ≡ take at bytes.old ++ take count room.now }
+    requires { at + 32 ≤ length bytes.old }
+    ensures front { (count : ℕ) → count ≤ 32 → take (at + count) bytes.new ≡ take at bytes.old ++ take count room.now }
     ensures len { length bytes.new ≡ length bytes.old }
 {
-    bytes[at..at + ROOM].copy_from_slice(room);
+    write_front(&mut bytes[at..], room);
 }
 
 /// Writes three pieces and a line end over the first bytes, and tells how many they are.
 #[inline(always)]
 fn write_three(bytes: &mut [u8], first: &Piece, second: &Piece, third: &Piece) -> usize
-    requires { 541 ≤ length bytes.old }
+    requires { 542 ≤ length bytes.old }
     ensures front { take result bytes.new ≡ first.now ++ second.now ++ third.now ++ codes "\n" }
     ensures within { result ≤ length bytes.new }
     ensures len { length bytes.new ≡ length bytes.old }

@@ -71,6 +71,27 @@ impl Places {
             None => put_far_line(lines, place),
         }
     }
+
+    /// Appends how a line begins, two places and a line end, or nothing.
+    #[inline(always)]
+    pub(crate) fn put_two(
+        &self,
+        lines: &mut Lines,
+        head: &Piece,
+        middle: u32,
+        last: u32,
+    ) -> Result<(), NoMemory>
+        ensures whole { OnOk result (lines.new ≡ lines.old ++ (head.now ++ cut_text middle ++ cut_text last ++ codes "\n")) }
+        ensures kept { OnErr result (lines.new ≡ lines.old) }
+    {
+        let Some(second) = self.get(middle) else {
+            return put_far_two(lines, head, middle, last);
+        };
+        let Some(third) = self.get(last) else {
+            return put_far_two(lines, head, middle, last);
+        };
+        lines.put_three(head, second, third)
+    }
 }
 
 /// Appends a blank and the number of a place that no table has, or nothing.
@@ -91,4 +112,14 @@ fn put_far_line(lines: &mut Lines, place: u32) -> Result<(), NoMemory>
     ensures kept { OnErr result (lines.new ≡ lines.old) }
 {
     lines.put_line(&piece_of(place))
+}
+
+/// The line with two places, of which no table has one.
+#[cold]
+#[inline(never)]
+fn put_far_two(lines: &mut Lines, head: &Piece, middle: u32, last: u32) -> Result<(), NoMemory>
+    ensures whole { OnOk result (lines.new ≡ lines.old ++ (head.now ++ cut_text middle ++ cut_text last ++ codes "\n")) }
+    ensures kept { OnErr result (lines.new ≡ lines.old) }
+{
+    lines.put_three(head, &piece_of(middle), &piece_of(last))
 }

@@ -1,7 +1,6 @@
 use Rattle.std.proofs.Common.{◌≡◌, ℕ, List, [], ◌∷◌, ◌++◌, codes, ap, sym, ◌∙◌, append_assoc}
 use Rattle.std.specs.List.{flat_map}
 use Rattle.forest_print.specs.Lines.{cut_text}
-use Rattle.forest_print.specs.Prefixes.{AppendsPrefix}
 use Rattle.forest_print.proofs.PrefixSteps.{stops_in, stops_after, on_err, err_then}
 use Rattle.forest_print.proofs.SplitParts.{last_apart}
 use Rattle.forest_print.proofs.forest_lines.put_after_head.Goals as goal

@@ -1,8 +1,8 @@
-use Rattle.std.proofs.Common.{◌≡◌, ℕ, List, ◌++◌, ◌∷◌, [], sym, ap, ◌∙◌, codes, decimal, refl, subst, append_assoc, append-nil}
+use Rattle.std.proofs.Common.{◌++◌, ap, ◌∙◌, refl, subst, append_assoc}
 use Rattle.std.specs.List.{flat_map}
 use Rattle.forest_print.specs.Prefixes.{AppendsPrefix}
 use Rattle.forest_print.specs.Lines.{split_line, span_line, node_text}
-use Rattle.forest_print.proofs.PrefixSteps.{stops_first, stops_in, stops_last, stops_same, stops_at, on_err}
+use Rattle.forest_print.proofs.PrefixSteps.{stops_first, stops_last, on_err}
 use Rattle.forest_print.proofs.forest_lines.put_node.Goals as goal
 
 pub returns-in_err-put_span-clause-prefix : goal.returns-in_err-put_span-clause-prefix

@@ -1,5 +1,4 @@
-use Rattle.std.proofs.Common.{◌≡◌, ◌<◌, length, Contains, sym, subst}
-use Rattle.std.specs.List.{slice_index_or}
+use Rattle.std.proofs.Common.{subst}
 use Rattle.forest.specs.declared.nodes.Node.{Node}
 use Rattle.forest_print.specs.Lines.{name_of, node_text}
 use Rattle.forest_print.specs.Prefixes.{AppendsPrefix}

@@ -1,6 +1,5 @@
-use Rattle.std.proofs.Common.{◌≡◌, ℕ, List, ◌++◌, codes, decimal, ap, sym, ◌∙◌, append_assoc}
+use Rattle.std.proofs.Common.{◌≡◌, ℕ, List, ◌++◌, codes, decimal, ap, ◌∙◌, append_assoc}
 use Rattle.forest_print.specs.Lines.{cut_text, span_line}
-use Rattle.forest_print.specs.Prefixes.{AppendsPrefix}
 use Rattle.forest_print.proofs.PrefixSteps.{stops_after, on_err, err_then, ok_then}
 use Rattle.forest_print.proofs.SplitParts.{place_apart}
 use Rattle.forest_print.proofs.forest_lines.put_span.Goals as goal

@@ -1,4 +1,4 @@
-use Rattle.std.proofs.Common.{◌≡◌, ℕ, ◌+◌, ◌≤◌, List, [], ◌∷◌, ◌++◌, length, take, slice_index_or, ap, ◌∙◌, arith}
+use Rattle.std.proofs.Common.{◌≡◌, ℕ, ◌+◌, List, [], ◌∷◌, ◌++◌, take, slice_index_or, ap, ◌∙◌, arith}
 use Rattle.forest_print.proofs.Rooms.{three_rooms}
 use Rattle.forest_print.proofs.pieces.write_three.Goals as goal
 

@@ -1,12 +1,11 @@
-use Rattle.std.proofs.Common.{◌≡◌, ℕ, List, ◌++◌, ◌∷◌, [], sym, ap, ◌∙◌, codes, decimal, refl, subst, append_assoc, append-nil}
-use Rattle.std.specs.List.{flat_map}
+use Rattle.std.proofs.Common.{subst}
 use Rattle.forest_print.specs.Prefixes.{AppendsPrefix}
-use Rattle.std.proofs.Common.{get_or, Contains}
+use Rattle.std.proofs.Common.{get_or}
 use Rattle.std.proofs.lemmas.List.Elements.{Contains-get_or}
 use Rattle.edit_log.specs.Symbols.{symbol_at}
 use Rattle.forest.specs.declared.symbols.Token.{Token}
 use Rattle.forest_print.specs.Lines.{token_line}
-use Rattle.forest_print.proofs.PrefixSteps.{stops_first, stops_in, stops_last, stops_same, stops_at, on_err}
+use Rattle.forest_print.proofs.PrefixSteps.{stops_at, on_err}
 use Rattle.forest_print.proofs.token_lines.print_tokens.Goals as goal
 
 abbrev no_token : Token

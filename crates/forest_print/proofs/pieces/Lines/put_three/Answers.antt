@@ -1,4 +1,4 @@
-use Rattle.std.proofs.Common.{◌≡◌, ℕ, ◌+◌, ◌-◌, ◌≤◌, List, [], ◌∷◌, ◌++◌, length, take, ap, sym, subst, ◌∙◌, arith}
+use Rattle.std.proofs.Common.{◌≡◌, ℕ, ◌+◌, ◌-◌, ◌≤◌, List, [], ◌∷◌, ◌++◌, length, take, ap, ◌∙◌, arith}
 use borrow.Rule.Slice.PartMut.{post_of}
 use Rattle.std.proofs.lemmas.List.{with_items_is, length-take, length-drop}
 use Rattle.forest_print.proofs.Rooms.{front_counts, same_length}
@@ -10,7 +10,7 @@ returns-clause-whole c =
     let new : List ℕ = c.write_three-count.new.bytes in
     let end : ℕ = c.self.inside.end in
     let count : ℕ = c.write_three-count.result in
-    let more : ℕ = end + 541 - end in
+    let more : ℕ = end + 542 - end in
     let text : List ℕ = c.args.first.now ++ c.args.second.now ++ c.args.third.now ++ 10 ∷ [] in
     let same : c.deref_mut.result.now ≡ ready = c.deref_mut.ensures.value in
     let kept : take end ready ≡ c.args.self.now = c.make_room.ensures.kept ∙ c.self.view_is in
