@@ -7,7 +7,6 @@ use Rattle.forest.specs.Orders.{split_cmp}
 use Rattle.packed_spans.specs.declared.span.TheConstants.{TOKEN_PART}
 use Rattle.packed_spans.specs.declared.table.SpanRow.{SpanRow}
 use Rattle.packed_spans.specs.declared.table.SplitRow.{SplitRow}
-use Rattle.packed_spans.specs.declared.table.TheConstants.{INLINE_PARTS}
 use Rattle.packed_spans.specs.Tables.{parts_of, IsRow}
 
 abbrev pub ends_in : List SpanRow → List ℕ
@@ -31,12 +30,19 @@ last_of spans at (part ∷ parts) = last_of spans (end_at spans at part) parts
 abbrev pub told : List SpanRow → List ℕ → ℕ → SplitRow → Split
 told spans parts from row = record { rule = row.rule; cuts = from ∷ ends_of spans from (parts_of parts row) }
 
--- both parts lie in the row of a split by this rule, and its second cut is at the floor or above, and right below the next floor
-pub record IsAbove (spans : List SpanRow) (row : SplitRow) (rule : RuleId) (from floor next : ℕ) : Type 0 where
-  pub two : row.length ≡ INLINE_PARTS
+-- the first part of the row ends at this place, where its span begins at that one
+pub record EndsFirst (spans : List SpanRow) (parts : List ℕ) (row : SplitRow) (from second : ℕ) : Type 0 where
+  pub part : ℕ
+  pub at : slice_get (parts_of parts row) 0 ≡ Some part
+  pub end : second ≡ end_at spans from part
+
+-- the split is by this rule, and its second cut is at the floor or above, and right below the next floor
+pub record IsAbove (spans : List SpanRow) (parts : List ℕ) (row : SplitRow) (rule : RuleId) (from floor next : ℕ) : Type 0 where
   pub by : row.rule ≡ rule
-  pub high : floor ≤ end_at spans from row.first
-  pub next_is : next ≡ end_at spans from row.first + 1
+  pub second : ℕ
+  pub ends : EndsFirst spans parts row from second
+  pub high : floor ≤ second
+  pub next_is : next ≡ second + 1
 
 -- exactly what the rows of the span tell, but for those below the link
 pub record AreTold (spans : List SpanRow) (splits : List SplitRow) (parts : List ℕ) (span from link : ℕ) (found : List Split) : Type 0 where

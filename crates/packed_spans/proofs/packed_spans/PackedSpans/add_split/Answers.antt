@@ -30,7 +30,8 @@ invariant_of-self-2 c =
     let within : c.args.span < length c.self.inside.table.spans.items =
     omega (arith, c.requires.span, ap length spans, length-map c.self.inside.table.spans.items span_of) in
     let was : slice_get c.self.inside.table.spans.items c.args.span ≡ Some c.index.result.now = read_at _ _ _ within c.index.ensures in
-    let again : slice_get c.self.inside.table.spans.items c.args.span ≡ Some c.index_mut-owner.result.now = read_at _ _ _ within c.index_mut-owner.ensures.value in
+    let again : slice_get c.self.inside.table.spans.items c.args.span ≡ Some c.index_mut-owner.result.now =
+    read_at _ _ _ within c.index_mut-owner.ensures.value in
     let same : c.index_mut-owner.result.now ≡ c.index.result.now = one_at c.self.inside.table.spans.items c.args.span _ _ again was in
     let link : c.len-count.result + 1 ≡ length c.self.inside.table.splits.items + 1 = omega (arith, c.len-count.ensures) in
     let are = subst (λ ss. ArePartsOf ss c.args.parts.now) (sym spans) c.requires.parts in
@@ -47,7 +48,8 @@ returns-clause-spans c =
     let spans : map span_of c.self.inside.table.spans.items ≡ c.args.self.now.spans = ap (λ (q : Packed). q.spans) c.self.view_is in
     let within : c.args.span < length c.self.inside.table.spans.items =
     omega (arith, c.requires.span, ap length spans, length-map c.self.inside.table.spans.items span_of) in
-    let again : slice_get c.self.inside.table.spans.items c.args.span ≡ Some c.index_mut-owner.result.now = read_at _ _ _ within c.index_mut-owner.ensures.value in
+    let again : slice_get c.self.inside.table.spans.items c.args.span ≡ Some c.index_mut-owner.result.now =
+    read_at _ _ _ within c.index_mut-owner.ensures.value in
     map_kept span_of _ _ c.index_mut-owner.result.now _ again refl ∙ spans
 
 pub returns-clause-splits : goal.returns-clause-splits
