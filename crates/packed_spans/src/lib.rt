@@ -4,6 +4,7 @@
 //! [`PackedSpans::forest`] then takes what a root reaches.
 #![tactic(auto)]
 
+mod headers;
 mod marks;
 mod nodes;
 mod packed_spans;
