@@ -8,6 +8,7 @@ mod headers;
 mod marks;
 mod nodes;
 mod packed_spans;
+mod places;
 mod span;
 mod splits;
 mod table;
