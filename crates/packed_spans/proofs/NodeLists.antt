@@ -1,13 +1,10 @@
 -- The nodes of the marked spans, each at its header's place.
-use Rattle.std.proofs.Common.{◌≡◌, ℕ, ◌+◌, ◌<◌, ◌≤◌, inl, inr, Bool, List, []}
+use Rattle.std.proofs.Common.{◌≡◌, ℕ, ◌+◌, ◌<◌, inl, inr, Bool, List, []}
 use Rattle.std.proofs.Common.{◌∷◌, ◌++◌, length, length-append, get_or, refl, sym, ◌∙◌, ap, subst, arith, Contains, slice_get, Some}
 use Rattle.std.proofs.lemmas.Bool.{cases_eq}
 use Rattle.std.proofs.lemmas.Map.Keys.{IsDistinct-from_sorted, Less-from_sorted}
 use Rattle.std.proofs.lemmas.Option.{slice_get_within, slice_get-get_or, get_or_from_slice_get}
 use Rattle.std.specs.List.Sorted.{IsStrictlySortedBy}
-use Rattle.std.specs.Ordering.{nat_cmp, ordering_then}
-use Rattle.std.specs.declared.cmp.Ordering.{Ordering}
-use Rattle.std.specs.declared.cmp.Ordering.TheVariants.{Less}
 use Rattle.forest.specs.declared.symbols.SymbolId.{SymbolId}
 use Rattle.forest.specs.declared.nodes.Node.{Node}
 use Rattle.forest.specs.Orders.{node_cmp}
@@ -82,9 +79,11 @@ module _ (spans : List SpanRow) (splits : List SplitRow) (parts : List ℕ) (hea
         × (node.symbol.0 ≡ header.span.symbol.0)
     same_span header node p =
         let row : p.is.row ≡ p.of.row = one_at spans p.number p.is.row p.of.row p.is.at p.of.at in
-        let span : p.is.row.span ≡ header.span = ap (λ (r : SpanRow). r.span) row ∙ sym p.of.span in
-        (p.is.from ∙ ap (λ (s : Span). s.from) span, p.is.to ∙ ap (λ (s : Span). s.to) span,
-            ap (λ (x : SymbolId). x.0) p.is.symbol ∙ ap (λ (s : Span). s.symbol.0) span)
+        let span : p.is.row.span ≡ header.span = ap (λ (r : SpanRow). r.span) row ∙ sym p.of.span in (
+          p.is.from ∙ ap (λ (s : Span). s.from) span,
+          p.is.to ∙ ap (λ (s : Span). s.to) span,
+          ap (λ (x : SymbolId). x.0) p.is.symbol ∙ ap (λ (s : Span). s.symbol.0) span,
+        )
 
     same_order : (g h : Header) (a b : Node) → IsPair g a → IsPair h b → node_cmp a b ≡ header_cmp g h
     same_order g h a b p q =
