@@ -8,5 +8,6 @@ pub mod Sweeping
 pub mod Parts
 pub mod Cuts
 pub mod Storing
+pub mod HeaderLists
 pub mod NodeLists
 pub mod Making

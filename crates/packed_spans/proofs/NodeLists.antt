@@ -1,100 +1,116 @@
--- The nodes of the marked spans, one after the other and in order.
-use Rattle.std.proofs.Common.{◌≡◌, ℕ, ◌+◌, ◌<◌, ◌≤◌, inl, inr, Bool, true, false, List, []}
-use Rattle.std.proofs.Common.{◌∷◌, ◌++◌, map, length, get_or, refl, sym, ◌∙◌, ap, subst, arith, slice_get, Some}
-use Rattle.std.proofs.lemmas.Bool.{cases_eq, cases_Bool}
-use Rattle.std.proofs.lemmas.Cmp.{eq_by_cmp_equiv}
-use Rattle.std.proofs.lemmas.List.Elements.{Contains-append_left, Contains-push, Contains-push_cases, Contains-get_or}
-use Rattle.std.proofs.lemmas.List.Folds.{list_any_none}
-use Rattle.std.proofs.lemmas.List.Sorted.{Contains-permutation, IsPermutation-sym}
-use Rattle.std.proofs.lemmas.Map.Keys.{IsDistinct-from_apart, IsDistinct-push, IsDistinct-IsPermutation}
-use Rattle.std.proofs.lemmas.Map.Lookups.{exact_unsigned}
-use Rattle.std.proofs.lemmas.Option.{slice_get_within}
-use Rattle.std.specs.List.Sorted.{IsPermutation}
-use Rattle.std.specs.Ordering.{eq_by_cmp, is_eq}
-use Rattle.std.specs.declared.cmp.Ordering.{Ordering}
-use Rattle.std.specs.declared.cmp.Ordering.TheVariants.{Less, Equal, Greater}
+-- The nodes of the marked spans, each at its header's place.
+use Rattle.std.proofs.Common.{◌≡◌, ℕ, ◌+◌, ◌<◌, inl, inr, Bool, List, []}
+use Rattle.std.proofs.Common.{◌∷◌, ◌++◌, length, length-append, get_or, refl, sym, ◌∙◌, ap, subst, arith, Contains, slice_get, Some}
+use Rattle.std.proofs.lemmas.Bool.{cases_eq}
+use Rattle.std.proofs.lemmas.Map.Keys.{IsDistinct-from_sorted, Less-from_sorted}
+use Rattle.std.proofs.lemmas.Option.{slice_get_within, slice_get-get_or, get_or_from_slice_get}
+use Rattle.std.specs.List.Sorted.{IsStrictlySortedBy}
 use Rattle.forest.specs.declared.symbols.SymbolId.{SymbolId}
 use Rattle.forest.specs.declared.nodes.Node.{Node}
 use Rattle.forest.specs.Orders.{node_cmp}
-use Rattle.forest.proofs.Orderings.{node_cmp_total, then_equal}
 use Rattle.packed_spans.specs.declared.span.Span.{Span}
+use Rattle.packed_spans.specs.declared.headers.Header.{Header}
 use Rattle.packed_spans.specs.declared.table.SpanRow.{SpanRow}
 use Rattle.packed_spans.specs.declared.table.SplitRow.{SplitRow}
-use Rattle.packed_spans.specs.Complete.{AreDifferent}
-use Rattle.packed_spans.specs.Tables.{span_of}
 use Rattle.packed_spans.specs.Marks.{IsMarked}
-use Rattle.packed_spans.specs.Nodes.{IsNodeFor, AreNodesOf}
-use Rattle.packed_spans.proofs.Lists.{map_at}
+use Rattle.packed_spans.specs.Headers.{header_cmp, IsHeaderFor, AreHeadersOf}
+use Rattle.packed_spans.specs.Nodes.{IsNodeFor, AreNodesFor, AreNodesOf}
+use Rattle.packed_spans.proofs.Lists.{one_at, contains_at, at_contained, at_left, at_end}
+use Rattle.packed_spans.proofs.Orders.{no_header, nodes_ascend}
 
-ties : (o : Ordering) → is_eq o ≡ true → o ≡ Equal
-ties Less e = absurd cc
-ties Equal e = refl
-ties Greater e = absurd cc
+-- the header of a marked span has its number
+pub header_known : (spans : List SpanRow) (marked : List Bool) (headers : List Header) → AreHeadersOf spans marked 0 headers → (header : Header)
+    → Contains headers header → header.number < length spans
+header_known spans marked headers a header c =
+    let (n, low, there, is) = a.sound header c in
+    let within : n < length spans = slice_get_within spans n is.row is.at in
+    omega (arith, is.number)
 
-module _ (spans : List SpanRow) (splits : List SplitRow) (parts : List ℕ) (marked : List Bool) where
-  -- nodes that tie are those of one span
-  one_span : AreDifferent (map span_of spans) → (m n : ℕ) (a b : Node) → IsNodeFor spans splits parts m a → IsNodeFor spans splits parts n b
-      → eq_by_cmp node_cmp a b ≡ true → m ≡ n
-  one_span different m n a b p q tied =
-      let parts_tie = then_equal _ _ (ties (node_cmp a b) tied) in
-      let rest_tie = then_equal _ _ parts_tie.1 in
-      let from : a.from ≡ b.from = exact_unsigned a.from b.from parts_tie.0 in
-      let to : a.to ≡ b.to = exact_unsigned a.to b.to rest_tie.0 in
-      let number : a.symbol.0 ≡ b.symbol.0 = exact_unsigned a.symbol.0 b.symbol.0 rest_tie.1 in
-      let symbol : a.symbol ≡ b.symbol = ap (λ k. let s : SymbolId = record { 0 = k } in s) number in
-      let from_is : p.row.span.from ≡ q.row.span.from = sym p.from ∙ from ∙ q.from in
-      let to_is : p.row.span.to ≡ q.row.span.to = sym p.to ∙ to ∙ q.to in
-      let symbol_is : p.row.span.symbol ≡ q.row.span.symbol = sym p.symbol ∙ symbol ∙ q.symbol in
-      let same : p.row.span ≡ q.row.span = ap (λ x. let s : Span = record { symbol = x; from = p.row.span.from; to = p.row.span.to } in s) symbol_is ∙ ap
-      (λ i. let s : Span = record { symbol = q.row.span.symbol; from = i; to = p.row.span.to } in s) from_is ∙ ap
-      (λ j. let s : Span = record { symbol = q.row.span.symbol; from = q.row.span.from; to = j } in s) to_is in
-      different m n q.row.span (map_at span_of spans m p.row p.at ∙ ap Some same) (map_at span_of spans n q.row q.at)
+module _ (spans : List SpanRow) (splits : List SplitRow) (parts : List ℕ) (headers : List Header) where
+  pub no_nodes : AreNodesFor spans splits parts headers 0 []
+  no_nodes = record { size = refl; each = λ k header low at. absurd (omega arith) }
 
-  pub no_nodes : (limit : ℕ) → length marked ≤ limit → AreNodesOf spans splits parts marked limit []
-  no_nodes limit past = record {
-    sound = λ node c. absurd (omega (arith, c.1));
-    whole = λ n low m. let within = slice_get_within marked n true m in absurd (omega arith);
-    apart = IsDistinct-from_apart (eq_by_cmp node_cmp) [] (λ i j d l within. absurd (omega arith));
-  }
-
-  -- a span that is not marked has no node
-  pub node_passed : (number : ℕ) (nodes : List Node) → slice_get marked number ≡ Some false → AreNodesOf spans splits parts marked (number + 1) nodes
-      → AreNodesOf spans splits parts marked number nodes
-  node_passed number nodes none a = record {
-    sound = λ node c. let (n, low, there, is) = a.sound node c in (n, omega arith, there, is);
-    whole = λ n low m. elim (cases_eq n number) [
-      | inl e ↦ let both : Some true ≡ Some false = sym m ∙ ap (slice_get marked) e ∙ none in let no_truth : true ≡ false = cc in absurd cc
-      | inr ne ↦ a.whole n (omega arith) m
+  -- one more node
+  pub nodes_more : (count : ℕ) (nodes : List Node) (header : Header) (node : Node) → slice_get headers count ≡ Some header
+      → IsNodeFor spans splits parts header.number node → AreNodesFor spans splits parts headers count nodes
+      → AreNodesFor spans splits parts headers (count + 1) (nodes ++ node ∷ [])
+  nodes_more count nodes header node here is a = record {
+    size = omega (arith, a.size, length-append nodes (node ∷ []));
+    each = λ k h low at. elim (cases_eq k count) [
+      | inl e ↦
+          let same : h ≡ header = one_at headers k h header at (subst (λ n. slice_get headers n ≡ Some header) (sym e) here) in
+          let place : slice_get (nodes ++ node ∷ []) k ≡ Some node =
+          subst (λ n. slice_get (nodes ++ node ∷ []) n ≡ Some node) (a.size ∙ sym e) (at_end nodes node) in
+          (node, place, subst (λ (q : Header). IsNodeFor spans splits parts q.number node) (sym same) is)
+      | inr ne ↦
+          let (other, place, for) = a.each k h (omega arith) at in
+          (other, at_left nodes (node ∷ []) k other place, for)
     ];
-    apart = a.apart;
   }
 
-  pub node_added : AreDifferent (map span_of spans) → (number : ℕ) (nodes : List Node) (node : Node) → IsMarked marked number
-      → IsNodeFor spans splits parts number node → AreNodesOf spans splits parts marked (number + 1) nodes
-      → AreNodesOf spans splits parts marked number (nodes ++ node ∷ [])
-  node_added different number nodes node m is a =
-      let none : (k : ℕ) (d : Node) → k < length nodes → eq_by_cmp node_cmp node (get_or nodes k d) ≡ false = λ k d l.
-      let (n, low, marks, other) = a.sound (get_or nodes k d) (Contains-get_or nodes k d l) in
-      elim (cases_Bool (eq_by_cmp node_cmp node (get_or nodes k d))) [
-        | inl tied ↦ let same = one_span different number n node (get_or nodes k d) is other tied in absurd (omega arith)
-        | inr apart ↦ apart
-      ] in
-      record {
-        sound = λ b c. elim (Contains-push_cases nodes node b c) [
-          | inl d ↦ let (n, low, there, is_for) = a.sound b d in (n, omega arith, there, is_for)
-          | inr e ↦ (number, omega arith, m, subst (IsNodeFor spans splits parts number) e is)
-        ];
-        whole = λ n low k. elim (cases_eq n number) [
-          | inl e ↦ (node, Contains-push nodes node, subst (λ q. IsNodeFor spans splits parts q node) (sym e) is)
-          | inr ne ↦ let (b, c, other) = a.whole n (omega arith) k in (b, Contains-append_left nodes (node ∷ []) b c, other)
-        ];
-        apart = IsDistinct-push (eq_by_cmp_equiv node_cmp_total) nodes node a.apart (list_any_none (eq_by_cmp node_cmp node) nodes none);
-      }
+  module _ (marked : List Bool) (nodes : List Node) (h : AreHeadersOf spans marked 0 headers) (order : IsStrictlySortedBy header_cmp headers)
+      (a : AreNodesFor spans splits parts headers (length headers) nodes) where
+    -- a node with its header, which is that of a marked span
+    record IsPair (header : Header) (node : Node) : Type 0 where
+      pub number : ℕ
+      pub marks : IsMarked marked number
+      pub of : IsHeaderFor spans number header
+      pub is : IsNodeFor spans splits parts number node
 
-  pub nodes_moved : (nodes moved : List Node) (limit : ℕ) → IsPermutation nodes moved → AreNodesOf spans splits parts marked limit nodes
-      → AreNodesOf spans splits parts marked limit moved
-  nodes_moved nodes moved limit p a = record {
-    sound = λ node c. a.sound node (Contains-permutation moved nodes node (IsPermutation-sym nodes moved p) c);
-    whole = λ n low m. let (node, c, is) = a.whole n low m in (node, Contains-permutation nodes moved node p c, is);
-    apart = IsDistinct-IsPermutation (eq_by_cmp node_cmp) (eq_by_cmp_equiv node_cmp_total).symm nodes moved p a.apart;
-  }
+    pair_at : (k : ℕ) (header : Header) (node : Node) → slice_get headers k ≡ Some header → slice_get nodes k ≡ Some node → IsPair header node
+    pair_at k header node header_at node_at =
+        let (n, low, there, of) = h.sound header (contains_at headers k header header_at) in
+        let (other, place, for) = a.each k header (slice_get_within headers k header header_at) header_at in
+        let same : other ≡ node = one_at nodes k other node place node_at in
+        record {
+          number = n;
+          marks = there;
+          of = of;
+          is = subst (λ q. IsNodeFor spans splits parts n q) same (subst (λ q. IsNodeFor spans splits parts q other) of.number for);
+        }
+
+    pair_of : (k : ℕ) (node : Node) → slice_get nodes k ≡ Some node → (header : Header) × (slice_get headers k ≡ Some header) × IsPair header node
+    pair_of k node node_at =
+        let within : k < length headers = let low = slice_get_within nodes k node node_at in omega (arith, a.size) in
+        let header_at : slice_get headers k ≡ Some (get_or headers k no_header) = slice_get-get_or headers k no_header within in
+        (get_or headers k no_header, header_at, pair_at k (get_or headers k no_header) node header_at node_at)
+
+    same_span : (header : Header) (node : Node) → IsPair header node → (node.from ≡ header.span.from) × (node.to ≡ header.span.to)
+        × (node.symbol.0 ≡ header.span.symbol.0)
+    same_span header node p =
+        let row : p.is.row ≡ p.of.row = one_at spans p.number p.is.row p.of.row p.is.at p.of.at in
+        let span : p.is.row.span ≡ header.span = ap (λ (r : SpanRow). r.span) row ∙ sym p.of.span in (
+          p.is.from ∙ ap (λ (s : Span). s.from) span,
+          p.is.to ∙ ap (λ (s : Span). s.to) span,
+          ap (λ (x : SymbolId). x.0) p.is.symbol ∙ ap (λ (s : Span). s.symbol.0) span,
+        )
+
+    same_order : (g h : Header) (a b : Node) → IsPair g a → IsPair h b → node_cmp a b ≡ header_cmp g h
+    same_order g h a b p q =
+        let (from, to, symbol) = same_span g a p in
+        let (from_b, to_b, symbol_b) = same_span h b q in
+        rw (from, to, symbol, from_b, to_b, symbol_b) refl
+
+    pub nodes_sorted : IsStrictlySortedBy node_cmp nodes
+    nodes_sorted = nodes_ascend nodes (length nodes) (omega arith) (λ k d l.
+        let node_at : slice_get nodes k ≡ Some (get_or nodes k d) = slice_get-get_or nodes k d (omega arith) in
+        let next_at : slice_get nodes (k + 1) ≡ Some (get_or nodes (k + 1) d) = slice_get-get_or nodes (k + 1) d l in
+        let (g, g_at, p) = pair_of k (get_or nodes k d) node_at in
+        let (h, h_at, q) = pair_of (k + 1) (get_or nodes (k + 1) d) next_at in
+        let within : k + 1 < length headers = omega (arith, a.size) in
+        let less = Less-from_sorted header_cmp headers k (k + 1) no_header order (omega arith) within in
+        let is_g : get_or headers k no_header ≡ g = get_or_from_slice_get headers k g no_header g_at in
+        let is_h : get_or headers (k + 1) no_header ≡ h = get_or_from_slice_get headers (k + 1) h no_header h_at in
+        same_order g h (get_or nodes k d) (get_or nodes (k + 1) d) p q ∙ (rw (is_g, is_h) at less))
+
+    pub nodes_whole : AreNodesOf spans splits parts marked 0 nodes
+    nodes_whole = record {
+      sound = λ node c.
+          let (header, header_at, p) = pair_of c.0 node (at_contained nodes node c) in
+          (p.number, omega arith, p.marks, p.is);
+      whole = λ n low m.
+          let (header, c, of) = h.whole n low m in
+          let (node, node_at, is) = a.each c.0 header c.1 (at_contained headers header c) in
+          (node, contains_at nodes c.0 node node_at, subst (λ q. IsNodeFor spans splits parts q node) of.number is);
+      apart = IsDistinct-from_sorted node_cmp nodes nodes_sorted;
+    }

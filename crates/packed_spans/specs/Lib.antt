@@ -3,4 +3,5 @@ pub mod Complete
 pub mod Tables
 pub mod Told
 pub mod Marks
+pub mod Headers
 pub mod Nodes

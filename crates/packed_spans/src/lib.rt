@@ -4,9 +4,11 @@
 //! [`PackedSpans::forest`] then takes what a root reaches.
 #![tactic(auto)]
 
+mod headers;
 mod marks;
 mod nodes;
 mod packed_spans;
+mod places;
 mod span;
 mod splits;
 mod table;

@@ -1,38 +1,19 @@
 //! The nodes of a forest.
 
-ghost use Rattle.std.specs.Prelude.{◌≡◌, ◌<◌, ◌+◌, IfOk, OnOk, IsTrue, length, map};
+ghost use Rattle.std.specs.Prelude.{◌≡◌, ◌<◌, IfOk, Contains, length, map};
 ghost use Rattle.std.specs.List.Sorted.{IsStrictlySortedBy};
 ghost use Rattle.forest.specs.Orders.{node_cmp};
+ghost use Rattle.packed_spans.specs.declared.headers.Header.{Header};
 ghost use Rattle.packed_spans.specs.Complete.{AreDifferent};
 ghost use Rattle.packed_spans.specs.Tables.{IsTable, span_of};
-ghost use Rattle.packed_spans.specs.Nodes.{IsNodeFor, AreNodesOf};
+ghost use Rattle.packed_spans.specs.Nodes.{IsNodeFor, AreNodesFor, AreNodesOf};
 
+use crate::headers::{Header, headers_of};
 use crate::marks::Marks;
 use crate::splits::splits_of;
 use crate::table::Table;
 use forest::{NoMemory, Node};
 use std::alloc::Global;
-use std::cmp::Ordering;
-
-/// How the nodes stand to each other.
-fn compare(a: &Node, b: &Node) -> Ordering
-    ensures { result ≡ node_cmp a.now b.now }
-{
-    let ends = a.from.cmp(&b.from).then(a.to.cmp(&b.to));
-    ends.then(a.symbol.cmp(&b.symbol))
-}
-
-/// Whether each node is before the next.
-fn are_ascending(nodes: &[Node]) -> bool
-    ensures { IsTrue result → IsStrictlySortedBy node_cmp nodes.now }
-{
-    for at in 1..nodes.len() {
-        if compare(&nodes[at - 1], &nodes[at]) != Ordering::Less {
-            return false;
-        }
-    }
-    true
-}
 
 /// The node of a span.
 fn node_of(alloc: Global, table: &Table, number: u32) -> Result<Node, NoMemory>
@@ -50,40 +31,15 @@ fn node_of(alloc: Global, table: &Table, number: u32) -> Result<Node, NoMemory>
     })
 }
 
-/// Adds the node of the span, if it is marked.
-fn add_node(
-    alloc: Global,
-    table: &Table,
-    marks: &Marks,
-    number: u32,
-    nodes: &mut Vec<Node>,
-) -> Result<(), NoMemory>
+/// The nodes with these headers.
+fn nodes_for(alloc: Global, table: &Table, headers: &[Header]) -> Result<Vec<Node>, NoMemory>
     requires table { IsTable table.now.spans.items table.now.splits.items table.now.parts.items }
-    requires different { AreDifferent (map span_of table.now.spans.items) }
-    requires size { length marks.now.marked.items ≡ length table.now.spans.items }
-    requires number { number < length table.now.spans.items }
-    ensures { OnOk result (AreNodesOf table.now.spans.items table.now.splits.items table.now.parts.items marks.now.marked.items (number + 1) nodes.old.items
-        → AreNodesOf table.now.spans.items table.now.splits.items table.now.parts.items marks.now.marked.items number nodes.new.items) }
+    requires known { (header : Header) → Contains headers.now header → header.number < length table.now.spans.items }
+    ensures { IfOk result (λ nodes. AreNodesFor table.now.spans.items table.now.splits.items table.now.parts.items headers.now (length headers.now) nodes.items) }
 {
-    if !marks.marked[number as usize] {
-        return Ok(());
-    }
-    nodes.push(node_of(alloc, table, number)?)?;
-    Ok(())
-}
-
-/// The nodes of the marked spans, the newest span first.
-fn marked_nodes(alloc: Global, table: &Table, marks: &Marks) -> Result<Vec<Node>, NoMemory>
-    requires table { IsTable table.now.spans.items table.now.splits.items table.now.parts.items }
-    requires different { AreDifferent (map span_of table.now.spans.items) }
-    requires size { length marks.now.marked.items ≡ length table.now.spans.items }
-    ensures { IfOk result (λ nodes. AreNodesOf table.now.spans.items table.now.splits.items table.now.parts.items marks.now.marked.items 0 nodes.items) }
-{
-    let mut nodes = Vec::new(alloc);
-    let mut number = table.spans.len() as u32;
-    while number > 0 {
-        number -= 1;
-        add_node(alloc, table, marks, number, &mut nodes)?;
+    let mut nodes = Vec::with_capacity(alloc, headers.len())?;
+    for at in 0..headers.len() {
+        nodes.push(node_of(alloc, table, headers[at].number)?)?;
     }
     Ok(nodes)
 }
@@ -96,10 +52,7 @@ pub(crate) fn nodes_of(alloc: Global, table: &Table, marks: &Marks) -> Result<Ve
     ensures order { IfOk result (λ nodes. IsStrictlySortedBy node_cmp nodes.items) }
     ensures nodes { IfOk result (λ nodes. AreNodesOf table.now.spans.items table.now.splits.items table.now.parts.items marks.now.marked.items 0 nodes.items) }
 {
-    let mut nodes = marked_nodes(alloc, table, marks)?;
-    if are_ascending(nodes.as_slice()) {
-        return Ok(nodes);
-    }
-    nodes.sort_by(|a, b| compare(a, b))?;
+    let headers = headers_of(alloc, table, marks)?;
+    let nodes = nodes_for(alloc, table, headers.as_slice())?;
     Ok(nodes)
 }
