@@ -65,6 +65,7 @@ impl Parser {
     }
 
     /// Makes the reductions of all trails that go on from the node for one link down.
+    #[inline(never)]
     fn walk_last<G: Graph, L: Ledger>(
         &mut self,
         graph: &mut G,

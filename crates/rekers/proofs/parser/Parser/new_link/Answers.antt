@@ -7,6 +7,7 @@ use Rattle.rekers.specs.declared.parser.Parser.{Parser}
 use Rattle.rekers.specs.declared.level.Level.{Level}
 use Rattle.rekers.specs.Answers.{kinds_of}
 use Rattle.rekers.specs.Found.{found}
+use Rattle.rekers.specs.Sound.{IsFirst}
 use Rattle.rekers.specs.Steps.{IsLinkBy, IsUpper, IsStep, IsUnlinked}
 use Rattle.rekers.proofs.Growth.{one_at, kernel_at, node_grows, grows_on}
 use Rattle.rekers.proofs.LinkSteps.{step_alone, step_on, label_owned, linkable_on, linkable_first, nonterminal_on, unlinked_on, label_of_first}
@@ -20,10 +21,10 @@ owning_link-requires-clause-linkable g c =
 pub owning_link-requires-clause-first : goal.owning_link-requires-clause-first
 owning_link-requires-clause-first g c = c.first_opener-first.ensures.none_before
 
-pub returns-then-first-lower-clause-link : goal.returns-then-first-lower-clause-link
-returns-then-first-lower-clause-link g c =
-    subst (λ n. IsLinkBy (found c.owning_link.new.self) c.in_ok-owner.owner n c.args.symbol c.args.self.now.level.at) c.if-first-lower.true
-    c.in_ok-owner.ensures.link
+pub new_owner-requires-clause-first : goal.new_owner-requires-clause-first
+new_owner-requires-clause-first g c =
+    subst (λ n. IsFirst (g.G.Graph.means c.args.graph.now).grammar.rules (found c.args.self.now) n c.args.symbol) c.if-first-lower.true
+    c.first_opener-first.ensures.none_before
 
 pub edge-label-requires : goal.edge-label-requires
 edge-label-requires g c = slice_get_within c.owning_link.new.self.stacks.links c.in_ok-owner.owner _ c.in_ok-owner.ensures.link.is.there
