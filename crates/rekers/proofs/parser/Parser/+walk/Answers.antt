@@ -1,3 +1,4 @@
+-- A walk, a link down at a time: no link is left, one is, or more are.
 use Rattle.std.proofs.Common.{subst, rules, Some, None, arith}
 use Rattle.rekers.specs.Answers.{kinds_of}
 use Rattle.rekers.specs.Found.{found}

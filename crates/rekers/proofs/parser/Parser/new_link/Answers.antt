@@ -1,3 +1,4 @@
+-- A link is added, under the span of the link from the first node of its place that moves on the symbol.
 use Rattle.std.proofs.Common.{◌≡◌, ◌≢◌, [], ◌∷◌, length, sym, ◌∙◌, ap, subst, arith, length-append}
 use Rattle.std.proofs.lemmas.Option.{slice_get_within}
 use Rattle.edit_log.specs.History.{Grammar}

@@ -1,3 +1,4 @@
+-- A link that makes its span is added.
 use Rattle.std.proofs.Common.{ℕ, ◌++◌, [], ◌∷◌, length, refl, sym, ◌∙◌, ap, subst, arith, length-append}
 use Rattle.gss.specs.PlaceGraphs.{edge_of, LeadsToBy}
 use Rattle.rekers.specs.declared.parser.Parser.{Parser}

@@ -1,3 +1,4 @@
+-- The link that makes a span is there, or is added.
 use Rattle.rekers.specs.Answers.{kinds_of}
 use Rattle.rekers.proofs.LinkSteps.{step_none, link_found}
 use Rattle.rekers.proofs.parser.Parser.owning_link.Goals as goal
