@@ -110,7 +110,8 @@ impl Parser {
         requires reduces { IsToReduce (G.means _graph.now).grammar.rules (found self.old) reduction lower self.old.trail.items top self.old.level.at }
         ensures sound { OnOk result (IsSound (G.means _graph.now).grammar.rules (kinds_of _tokens.now) self.new) }
         ensures grows { OnOk result (Grows (found self.old) (found self.new)) }
-        ensures reduced { OnOk result (Reduces (G.means _graph.now).grammar.rules (found self.old) (found self.new) reduction lower self.old.trail.items top self.old.level.at) }
+        ensures reduced { OnOk result (Reduces (G.means _graph.now).grammar.rules (found self.old)
+            (found self.new) reduction lower self.old.trail.items top self.old.level.at) }
         ensures same { OnOk result (self.new ≡ record self.old { spans = self.new.spans; parts = self.new.parts }) }
         ensures spans { OnOk result (self.new.spans.spans ≡ self.old.spans.spans) }
     {
@@ -138,7 +139,8 @@ impl Parser {
         requires reduces { IsToReduce (G.means graph.old).grammar.rules (found self.old) reduction lower self.old.trail.items top self.old.level.at }
         requires unlinked { IsUnlinked (found self.old) self.old.level.first_link lower reduction.left }
         ensures step { UnlessNoMemory result (IsStep (kinds_of tokens.now) self.old self.new (G.means graph.old) (G.means graph.new) steps.old steps.new) }
-        ensures reduced { OnOk result (Reduces (G.means graph.old).grammar.rules (found self.old) (found self.new) reduction lower self.old.trail.items top self.old.level.at) }
+        ensures reduced { OnOk result (Reduces (G.means graph.old).grammar.rules (found self.old)
+            (found self.new) reduction lower self.old.trail.items top self.old.level.at) }
         ensures within { OnOk result (IsWithinLimit self.new) }
         ensures above { IfErr result (IsAboveLimit self.new) }
         ensures trail { OnOk result (self.new.trail ≡ self.old.trail) }
@@ -167,7 +169,8 @@ impl Parser {
         requires within { IsWithinLimit self.old }
         requires reduces { IsToReduce (G.means graph.old).grammar.rules (found self.old) reduction lower self.old.trail.items top self.old.level.at }
         ensures step { UnlessNoMemory result (IsStep (kinds_of tokens.now) self.old self.new (G.means graph.old) (G.means graph.new) steps.old steps.new) }
-        ensures reduced { OnOk result (Reduces (G.means graph.old).grammar.rules (found self.old) (found self.new) reduction lower self.old.trail.items top self.old.level.at) }
+        ensures reduced { OnOk result (Reduces (G.means graph.old).grammar.rules (found self.old)
+            (found self.new) reduction lower self.old.trail.items top self.old.level.at) }
         ensures within { OnOk result (IsWithinLimit self.new) }
         ensures above { IfErr result (IsAboveLimit self.new) }
         ensures trail { OnOk result (self.new.trail ≡ self.old.trail) }
