@@ -86,6 +86,7 @@ impl Parser {
     }
 
     /// Adds a span, and the link between the nodes that makes it.
+    #[inline(always)]
     fn own<G: Graph>(
         &mut self,
         _graph: &G,
