@@ -62,7 +62,8 @@ module _ (rules : List Rule) (tokens : List SymbolId) (f : Found) (end : IsDone 
 
     root_is_new : (n : ℕ) (span : Span) → slice_get f.spans n ≡ Some span → span ≡ root → ⊥
     unfolding root
-    root_is_new n span e same = no_rule (subst (λ x. IsNonterminal rules x) (ap (λ (s : Span). s.symbol) same) (made rules tokens f end.graph n span e).nonterminal)
+    root_is_new n span e same = no_rule
+        (subst (λ x. IsNonterminal rules x) (ap (λ (s : Span). s.symbol) same) (made rules tokens f end.graph n span e).nonterminal)
 
     root_derived : Derives rules tokens START 0 (length tokens)
     root_derived = subst (λ j. Derives rules tokens START 0 j) (sym one) (token first)

@@ -1,5 +1,6 @@
 -- A walk's loop over the links down from a node.
-use Rattle.std.proofs.Common.{◌≡◌, ℕ, zero, suc, ◌+◌, ◌-◌, ◌<◌, ◌≤◌, ◌↔◌, ◌⊎◌, inl, inr, List, [], ◌∷◌, length, drop, Option, None, Some, IfSome, IfNone, Result, Err, IsTrue, Bool, Contains}
+use Rattle.std.proofs.Common.{◌≡◌, ℕ, zero, suc, ◌+◌, ◌-◌, ◌<◌, ◌≤◌, ◌↔◌, ◌⊎◌, inl, inr, List}
+use Rattle.std.proofs.Common.{[], ◌∷◌, length, drop, Option, None, Some, IfSome, IfNone, Result, Err, IsTrue, Bool, Contains}
 use Rattle.std.proofs.Common.{refl, sym, ◌∙◌, ap, subst, arith, slice_get}
 use Rattle.std.specs.declared.alloc.Global.{Global}
 use Rattle.std.specs.declared.vec.Vec.{Vec}
@@ -28,7 +29,8 @@ use Rattle.rekers.specs.Steps.{IsStep, IsWithinLimit, IsWalking, IsWalked, IsFre
 use Rattle.rekers.proofs.Growth.{one_at, node_grows, partial_grows}
 use Rattle.rekers.proofs.Trails.{one_down}
 use Rattle.rekers.proofs.Stepping.{step_none, step_on, stands_none, stands_on}
-use Rattle.rekers.proofs.WalkedTo.{IsNext, IsWalkedTo, LeadsFromBehind, walked_none, walked_more, walked_all, walked_whole, walked_beside, walked_below, fresh_next}
+use Rattle.rekers.proofs.WalkedTo.{IsNext, IsWalkedTo, LeadsFromBehind, walked_none, walked_more}
+use Rattle.rekers.proofs.WalkedTo.{walked_all, walked_whole, walked_beside, walked_below, fresh_next}
 
 -- how many links may come yet
 abbrev pub links_left : Option ℕ → ℕ → ℕ
@@ -65,7 +67,8 @@ next_after links node link next (edge, there, upper) = by next
         let is : other ≡ edge = one_at links link other edge at there in
         (omega (arith, above), subst (λ n. LeadsFrom links n l) (ap (λ (e : Edge). e.upper) is ∙ upper) leads)
 
-    by : (next : Option ℕ) → IfSome next (IsLeast (LeadsFromSame links link)) → IfNone next (HasNone (LeadsFromSame links link)) → IsNext links node (link + 1) next
+    by : (next : Option ℕ) → IfSome next (IsLeast (LeadsFromSame links link)) → IfNone next (HasNone (LeadsFromSame links link))
+        → IsNext links node (link + 1) next
     by None some none = λ l leads. none l (same l leads)
     by (Some first) some none = record { is = back first some.is; least = λ l less leads. some.least l less (same l leads) }
 
@@ -165,7 +168,8 @@ module _ {Base : Type 0} (tokens : List SymbolId) (old p : Parser) (graph first 
               (fresh_next rules tokens now.numbered (found old) (found p) sound.graph now.graph down.step.grows walk old.level.at node end down.bound link
               walking.fresh down.walked down.next_is.is.0);
         } in
-        let leveled = subst (λ (lv : Level). IsWalking rules (found p) lv.first_link lv.at walk edge.lower (left - 1) meets trail.items) (sym down.step.level) here in
+        let leveled = subst (λ (lv : Level). IsWalking rules (found p) lv.first_link lv.at walk edge.lower (left - 1) meets trail.items) (sym down.step.level)
+            here in
         subst (λ (gr : Grammar). IsWalking gr.rules (found p) p.level.first_link p.level.at walk edge.lower (left - 1) meets trail.items)
         (sym down.stands.grammar) leveled
 
@@ -205,7 +209,8 @@ module _ {Base : Type 0} (tokens : List SymbolId) (old p : Parser) (graph first 
             end = ap (λ n. drop n q.trail.items) is_suc ∙ sym (drop_one (left - 1) q.trail.items) ∙ ap (λ ns. drop 1 ns) (kept ∙ end_is);
             size = size ∙ same_size ∙ down.size;
             bound = link + 1;
-            walked = walked_more rules tokens now.numbered (found old) (found p) (found q) now.graph later.graph step.grows walk old.level.at node end down.bound
+            walked = walked_more rules tokens now.numbered (found old) (found p) (found q) now.graph later.graph step.grows walk old.level.at node end
+                down.bound
                 down.walked link inside down.next_is through_below (node_grows (found old) (found p) down.step.grows walking.partial.top_is) by_end;
             next_is = next_after q.stacks.links node link next (edge, step.grows.links link edge there, upper) is_some is_none;
           }
@@ -242,7 +247,8 @@ whole_reduces rules f first_link at walk node left met trail zero_left is_met wa
   labels = here.labels;
   reducible = here.partial;
   untold = λ split c number told. here.fresh split c
-      (record { trail = trail; told = told; number = number; through = whole_through rules f first_link at walk node met trail is_met here; ends = ([], refl) });
+      (record { trail = trail; told = told; number = number; through = whole_through rules f first_link at walk node met trail is_met here; ends = ([], refl)
+          });
 }
   where
     here : IsWalking rules f first_link at walk node 0 met trail

@@ -1,5 +1,6 @@
 -- The links and splits that were found are some of those of the rules and the text, each once, and at the end they are all.
-use Rattle.std.proofs.Common.{◌≡◌, ℕ, suc, ◌+◌, ◌<◌, ◌≤◌, inl, inr, List, [], ◌∷◌, length, map, get_or, refl, sym, ◌∙◌, ap, subst, arith, Contains, slice_get, Some}
+use Rattle.std.proofs.Common.{◌≡◌, ℕ, suc, ◌+◌, ◌<◌, ◌≤◌, inl, inr, List, [], ◌∷◌}
+use Rattle.std.proofs.Common.{length, map, get_or, refl, sym, ◌∙◌, ap, subst, arith, Contains, slice_get, Some}
 use Rattle.std.proofs.lemmas.Option.{slice_get_read, get_or_from_slice_get}
 use Rattle.std.proofs.lemmas.List.{length-map, get_or_past}
 use Rattle.forest.specs.declared.symbols.SymbolId.{SymbolId}
@@ -284,7 +285,8 @@ module _ (rules : List Rule) (tokens : List SymbolId) (f : Found) (end : IsDone 
         | inr s ↦ s.1
       ] in
       let p = packed rules tokens f end l.label (span_of v.rule.left v.from v.to) at v.rule v.live refl v.ends v.along in
-      let spans : p.tells.span ≡ span_of v.rule.left v.from v.to = one_at f.spans l.label _ _ (subst (λ n. slice_get f.spans n ≡ Some p.tells.span) p.of p.tells.at) at in
+      let spans : p.tells.span ≡ span_of v.rule.left v.from v.to = one_at f.spans l.label _ _
+          (subst (λ n. slice_get f.spans n ≡ Some p.tells.span) p.of p.tells.at) at in
       let from : p.tells.span.from ≡ v.from = ap (λ (s : Span). s.from) spans in
       let is : split_in f p.split ≡ split =
       tells_read rules tokens f few p.split v.rule v.ends p.tells

@@ -141,7 +141,8 @@ module _ (rules : List Rule) (tokens : List SymbolId) (f : Found) (graph : IsSou
   known split c = let (trail, top, told) = graph.told split c in known_by told
 
 -- at the end each split of a span was found
-pub packed : (rules : List Rule) (tokens : List SymbolId) (f : Found) → IsDone rules tokens f → (number : ℕ) (span : Span) → slice_get f.spans number ≡ Some span
+pub packed : (rules : List Rule) (tokens : List SymbolId) (f : Found) → IsDone rules tokens f → (number : ℕ) (span : Span)
+    → slice_get f.spans number ≡ Some span
     → (rule : Rule) → Contains rules rule → rule.left ≡ span.symbol → (cuts : List ℕ) → DerivesAlong rules tokens rule.right span.from cuts span.to
     → IsPacked rules tokens f number rule cuts
 packed rules tokens f end number span e rule c left cuts along =

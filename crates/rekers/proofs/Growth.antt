@@ -30,7 +30,8 @@ pub keeps_equal : {X : Type 0} (xs ys : List X) → ys ≡ xs → Keeps xs ys
 keeps_equal xs ys e = subst (λ zs. Keeps xs zs) (sym e) (keeps_same xs)
 
 -- what stands below the old length stood there before
-pub keeps_back : {X : Type 0} (xs ys : List X) → Keeps xs ys → (place : ℕ) (x : X) → place < length xs → slice_get ys place ≡ Some x → slice_get xs place ≡ Some x
+pub keeps_back : {X : Type 0} (xs ys : List X) → Keeps xs ys → (place : ℕ) (x : X) → place < length xs → slice_get ys place ≡ Some x
+    → slice_get xs place ≡ Some x
 keeps_back xs ys k place x l e =
     let (y, there) = at_below xs place l in
     let same : y ≡ x = same_Some y x (sym (k place y there) ∙ e) in
@@ -91,7 +92,8 @@ pub trail_back : {links more : List Edge} {node top : ℕ} {trail labels : List 
     → IsTrail more node trail xs labels top → ((link : ℕ) → Contains trail link → link < length links) → IsTrail links node trail xs labels top
 trail_back k here below = here
 trail_back {links} {more} k (over {link = link} {trail = trail} e t) below =
-    over (keeps_back links more k link _ (below link (contains_here link trail)) e) (trail_back k t (λ other c. below other (contains_there link trail other c)))
+    over (keeps_back links more k link _ (below link (contains_here link trail)) e)
+        (trail_back k t (λ other c. below other (contains_there link trail other c)))
 
 pub trail_links : {links : List Edge} {node top : ℕ} {trail labels : List ℕ} {xs : List SymbolId} → IsTrail links node trail xs labels top
     → (link : ℕ) → Contains trail link → link < length links

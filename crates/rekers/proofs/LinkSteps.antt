@@ -89,7 +89,8 @@ module _ (rules : List Rule) (tokens : List SymbolId) (p : Parser) (sound : IsSo
       record { label = edge.label; is = is; owned = label_owned nonterminal is }
 
   -- the first node that moves on a left side is not before the one that is noted
-  pub opener_first : (node i from : ℕ) (kernel : List Item) (x : SymbolId) → IsNode (found p) node kernel i → HasMove rules (Contains kernel) x → IsNonterminal rules x
+  pub opener_first : (node i from : ℕ) (kernel : List Item) (x : SymbolId) → IsNode (found p) node kernel i → HasMove rules (Contains kernel) x
+      → IsNonterminal rules x
       → slice_get p.openers.items i ≡ Some from → from ≤ node
   opener_first node i from kernel x n moves nonterminal noted = elim (cases_lt node from) [
     | inl below ↦ absurd ((sound.openers.each i from noted).none_before node kernel n below (x, moves, nonterminal))
@@ -97,7 +98,8 @@ module _ (rules : List Rule) (tokens : List SymbolId) (p : Parser) (sound : IsSo
   ]
 
   -- a node between the noted one and one of the place is at the place too
-  pub between_openers : (node other i from : ℕ) (kernel : List Item) → IsNode (found p) node kernel i → slice_get p.openers.items i ≡ Some from → from ≤ other → other ≤ node
+  pub between_openers : (node other i from : ℕ) (kernel : List Item) → IsNode (found p) node kernel i → slice_get p.openers.items i ≡ Some from → from ≤ other
+      → other ≤ node
       → (place : Place) → slice_get p.stacks.nodes other ≡ Some place → place.at ≡ i
   between_openers node other i from kernel n noted above below place e =
       omega (arith, (sound.openers.each i from noted).behind other place e above, sound.graph.rising other node place _ e n.there below)
@@ -116,7 +118,8 @@ others_unlinked links edge first_link lower other x low differs none link (here,
   | inr last ↦ differs (sym below ∙ ap (λ (q : Edge). q.lower) last.1 ∙ low)
 ]
 
-pub linkable_grows : (rules : List Rule) (tokens : List SymbolId) (f g : Found) → Grows f g → {lower at : ℕ} {x : SymbolId} → IsLinkable rules tokens f lower x at
+pub linkable_grows : (rules : List Rule) (tokens : List SymbolId) (f g : Found) → Grows f g → {lower at : ℕ} {x : SymbolId}
+    → IsLinkable rules tokens f lower x at
     → IsLinkable rules tokens g lower x at
 linkable_grows rules tokens f g grows is = record {
   kernel = is.kernel;
@@ -153,7 +156,8 @@ pub unlinked_on : (p q : Parser) (lower : ℕ) (x : SymbolId) → q.stacks.links
 unlinked_on p q lower x links level none = λ link (here, edge, there, low, symbol). none link
     (subst (λ (l : Level). l.first_link ≤ link) level here, edge, subst (λ ls. slice_get ls link ≡ Some edge) links there, low, symbol)
 
-pub link_by_on : (p q : Parser) (link lower : ℕ) (x : SymbolId) → q.level ≡ p.level → IsLinkBy (found q) link lower x q.level.at → IsLinkBy (found q) link lower x p.level.at
+pub link_by_on : (p q : Parser) (link lower : ℕ) (x : SymbolId) → q.level ≡ p.level → IsLinkBy (found q) link lower x q.level.at
+    → IsLinkBy (found q) link lower x p.level.at
 link_by_on p q link lower x level is = subst (λ (l : Level). IsLinkBy (found q) link lower x l.at) level is
 
 -- the link of the first node is linkable as the node itself is
@@ -168,7 +172,8 @@ linkable_first rules tokens f {at = at} {x = x} is own = record {
 }
 
 -- the label of the first node's link serves the other nodes of its place
-pub label_of_first : (rules : List Rule) (tokens : List SymbolId) (p : Parser) → IsSound rules tokens p → {link lower at label from : ℕ} {x : SymbolId} {own : List Item}
+pub label_of_first : (rules : List Rule) (tokens : List SymbolId) (p : Parser) → IsSound rules tokens p
+    → {link lower at label from : ℕ} {x : SymbolId} {own : List Item}
     → IsLinkTo (found p) link lower x at label → IsNode (found p) lower own from → IsPartAt rules tokens p.spans.spans x from label at
 label_of_first rules tokens p sound {link} {lower} {at} {label} {from} {x} is node =
     let b = between rules tokens (found p) sound.graph link is.there in

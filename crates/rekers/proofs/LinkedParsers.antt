@@ -23,9 +23,11 @@ use Rattle.rekers.proofs.PlacedNodes.{graph_is}
 use Rattle.rekers.proofs.NewLinks.{with_link, link_grows_by, link_joins, link_level, link_openers, new_owner}
 
 -- what is packed is told by its spans and splits
-packed_is : (packed : Packed) (spans : List Span) (p : Packed) → packed.spans ≡ spans → packed.splits ≡ p.splits → record { spans = spans; splits = p.splits } ≡ packed
+packed_is : (packed : Packed) (spans : List Span) (p : Packed) → packed.spans ≡ spans → packed.splits ≡ p.splits
+    → record { spans = spans; splits = p.splits } ≡ packed
 packed_is packed spans p e g =
-    sym (ap (λ ss. let it : Packed = record { spans = ss; splits = packed.splits } in it) e ∙ ap (λ ts. let it : Packed = record { spans = spans; splits = ts } in it) g)
+    sym (ap (λ ss. let it : Packed = record { spans = ss; splits = packed.splits } in it) e
+        ∙ ap (λ ts. let it : Packed = record { spans = spans; splits = ts } in it) g)
 
 module _ (rules : List Rule) (tokens : List SymbolId) (p : Parser) (sound : IsSound rules tokens p) (lower upper : ℕ) (x : SymbolId)
     (linkable : IsLinkable rules tokens (found p) lower x p.level.at) (is_upper : IsUpper rules (found p) p.level.at lower x upper)
@@ -38,7 +40,8 @@ module _ (rules : List Rule) (tokens : List SymbolId) (p : Parser) (sound : IsSo
     | inr last ↦ subst (λ (q : Edge). q.lower < p.level.first_node) (sym last.1) (says on).1
   ]
 
-  pub attach_sound : (graph : PlaceGraph) (label : ℕ) (flag : Bool) → graph.nodes ≡ p.stacks.nodes → graph.links ≡ p.stacks.links ++ edge_of upper x lower label ∷ []
+  pub attach_sound : (graph : PlaceGraph) (label : ℕ) (flag : Bool) → graph.nodes ≡ p.stacks.nodes
+      → graph.links ≡ p.stacks.links ++ edge_of upper x lower label ∷ []
       → (IsTrue flag → IsTrue p.is_flat × (lower < p.level.first_node)) → IsPartAt rules tokens p.spans.spans x linkable.from label p.level.at
       → IsSound rules tokens (record p { stacks = graph; is_flat = flag })
   attach_sound graph label flag nodes links says part =
@@ -50,11 +53,14 @@ module _ (rules : List Rule) (tokens : List SymbolId) (p : Parser) (sound : IsSo
         numbered = sound.numbered;
         terminals = sound.terminals;
         expanded = sound.expanded;
-        graph = link_joins rules tokens (found p) sound.graph p.level.at p.level.first_node p.level.first_link sound.level lower upper label x linkable is_upper unlinked
+        graph = link_joins rules tokens (found p) sound.graph p.level.at p.level.first_node p.level.first_link sound.level lower upper label x linkable is_upper
+            unlinked
             p.spans.spans p.owners.items keep keeps part sound.graph.owned (λ number owner e. inl e);
-        level = link_level rules tokens (found p) sound.graph p.level.at p.level.first_node p.level.first_link sound.level lower upper label x linkable is_upper unlinked
+        level = link_level rules tokens (found p) sound.graph p.level.at p.level.first_node p.level.first_link sound.level lower upper label x linkable is_upper
+            unlinked
             p.spans.spans p.owners.items keep keeps;
-        openers = link_openers rules tokens (found p) sound.graph p.level.at p.level.first_node p.level.first_link sound.level lower upper label x linkable is_upper
+        openers = link_openers rules tokens (found p) sound.graph p.level.at p.level.first_node p.level.first_link sound.level lower upper label x linkable
+            is_upper
             unlinked p.spans.spans p.owners.items keep keeps p.openers.items sound.openers;
         flat = flat_on label p.spans.spans p.owners.items flag says;
         spans_below = sound.spans_below;
@@ -87,7 +93,8 @@ module _ (rules : List Rule) (tokens : List SymbolId) (p : Parser) (sound : IsSo
         length-append p.spans.spans (own_span ∷ []),
         sound.graph.owned,
       ) in
-      let owner_is = new_owner rules tokens (found p) sound.graph p.level.at p.level.first_node p.level.first_link sound.level lower upper label x linkable is_upper unlinked
+      let owner_is = new_owner rules tokens (found p) sound.graph p.level.at p.level.first_node p.level.first_link sound.level lower upper label x linkable
+          is_upper unlinked
       spans' owners.items keep keeps nonterminal first in
       let joined : IsSound rules tokens (record p {
         stacks = record { nodes = p.stacks.nodes; links = p.stacks.links ++ edge ∷ [] };
@@ -99,21 +106,26 @@ module _ (rules : List Rule) (tokens : List SymbolId) (p : Parser) (sound : IsSo
         numbered = sound.numbered;
         terminals = sound.terminals;
         expanded = sound.expanded;
-        graph = link_joins rules tokens (found p) sound.graph p.level.at p.level.first_node p.level.first_link sound.level lower upper label x linkable is_upper unlinked
+        graph = link_joins rules tokens (found p) sound.graph p.level.at p.level.first_node p.level.first_link sound.level lower upper label x linkable is_upper
+            unlinked
             spans' owners.items keep keeps part owned
             (λ number owner e. elim (old_or_last p.owners.items (length p.stacks.links) number owner (subst (λ os. slice_get os number ≡ Some owner) owns e)) [
               | inl before ↦ inl before
               | inr last ↦ inr (subst (λ o. IsOwner rules (with_link (found p) edge spans' owners.items) number o) (sym last.1)
-                  (subst (λ n. IsOwner rules (with_link (found p) edge spans' owners.items) n (length p.stacks.links)) (sym (last.0 ∙ sound.graph.owned)) owner_is))
+                  (subst (λ n. IsOwner rules (with_link (found p) edge spans' owners.items) n (length p.stacks.links)) (sym (last.0 ∙ sound.graph.owned))
+                      owner_is))
             ]);
-        level = link_level rules tokens (found p) sound.graph p.level.at p.level.first_node p.level.first_link sound.level lower upper label x linkable is_upper unlinked
+        level = link_level rules tokens (found p) sound.graph p.level.at p.level.first_node p.level.first_link sound.level lower upper label x linkable is_upper
+            unlinked
             spans' owners.items keep keeps;
-        openers = link_openers rules tokens (found p) sound.graph p.level.at p.level.first_node p.level.first_link sound.level lower upper label x linkable is_upper
+        openers = link_openers rules tokens (found p) sound.graph p.level.at p.level.first_node p.level.first_link sound.level lower upper label x linkable
+            is_upper
             unlinked spans' owners.items keep keeps p.openers.items sound.openers;
         flat = flat_on label spans' owners.items flag says;
         spans_below = omega (arith, few, length-append p.spans.spans (own_span ∷ []));
       } in
-      let grown = link_grows_by rules tokens (found p) sound.graph p.level.at p.level.first_node p.level.first_link sound.level lower upper label x linkable is_upper unlinked
+      let grown = link_grows_by rules tokens (found p) sound.graph p.level.at p.level.first_node p.level.first_link sound.level lower upper label x linkable
+          is_upper unlinked
       spans' owners.items keep keeps in
       let graphs = graph_is graph p.stacks.nodes (p.stacks.links ++ edge ∷ []) nodes links in
       let packs = packed_is packed spans' p.spans spans splits in (
@@ -136,7 +148,8 @@ module _ (rules : List Rule) (tokens : List SymbolId) (p : Parser) (sound : IsSo
   -- the link is there
   pub linked_to : (graph : PlaceGraph) (kernels : List (List Item)) (label link : ℕ) (spans : List Span) (splits : List PackedSplit) (owners : List ℕ)
       → graph.nodes ≡ p.stacks.nodes → graph.links ≡ p.stacks.links ++ edge_of upper x lower label ∷ [] → link ≡ length p.stacks.links
-      → IsLinkTo (record { kernels = kernels; nodes = graph.nodes; links = graph.links; spans = spans; splits = splits; owners = owners }) link lower x p.level.at label
+      → IsLinkTo (record { kernels = kernels; nodes = graph.nodes; links = graph.links; spans = spans; splits = splits; owners = owners }) link lower x
+          p.level.at label
   linked_to graph kernels label link spans splits owners nodes links last = record {
     upper = upper;
     state = is_upper.state;

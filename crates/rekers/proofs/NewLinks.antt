@@ -24,7 +24,8 @@ with_link f edge spans owners =
     record { kernels = f.kernels; nodes = f.nodes; links = f.links ++ edge ∷ []; spans = spans; splits = f.splits; owners = owners }
 
 -- a node that the level's move leads to is of the level
-pub upper_here : (f : Found) (at first_node first_link : ℕ) → IsLevel f at first_node first_link → (node : ℕ) (place : Place) → slice_get f.nodes node ≡ Some place
+pub upper_here : (f : Found) (at first_node first_link : ℕ) → IsLevel f at first_node first_link → (node : ℕ) (place : Place)
+    → slice_get f.nodes node ≡ Some place
     → place.at ≡ at → first_node ≤ node
 upper_here f at first_node first_link level node place e here = elim (cases_lt node first_node) [
   | inl below ↦ absurd (omega (arith, level.nodes_before node place e below, here))
@@ -67,7 +68,8 @@ module _ (rules : List Rule) (tokens : List SymbolId) (f : Found) (sound : IsSou
   move = subst (λ k. IsMoveOf rules k x is_upper.behind.upper) (one_kernel is_upper.behind.node linkable.node).0 is_upper.behind.move
 
   -- the new link is sound
-  new_link : IsPartAt rules tokens spans x linkable.from label at → IsSoundLink rules tokens (with_link f (edge_of upper x lower label) spans owners) (edge_of upper x lower label)
+  new_link : IsPartAt rules tokens spans x linkable.from label at → IsSoundLink rules tokens (with_link f (edge_of upper x lower label) spans owners)
+      (edge_of upper x lower label)
   new_link part = record {
     ends = record {
       lower = linkable.kernel;
@@ -106,13 +108,15 @@ module _ (rules : List Rule) (tokens : List SymbolId) (f : Found) (sound : IsSou
         | inr last ↦
             let above_at : above.at ≡ at = ap (λ (p : Place). p.at) (one_at f.nodes upper above _
             (subst (λ (q : Edge). slice_get f.nodes q.upper ≡ Some above) last.1 there') is_upper.there) in
-            absurd (other_link a one up before (low ∙ ap (λ (q : Edge). q.lower) last.1) (same ∙ ap (λ (q : Edge). q.symbol) last.1) there (level_same ∙ above_at))
+            absurd (other_link a one up before (low ∙ ap (λ (q : Edge). q.lower) last.1) (same ∙ ap (λ (q : Edge). q.symbol) last.1) there
+                (level_same ∙ above_at))
       ]
       | inr last ↦
           let up_at : up.at ≡ at = ap (λ (p : Place). p.at) (one_at f.nodes upper up _
           (subst (λ (q : Edge). slice_get f.nodes q.upper ≡ Some up) last.1 there) is_upper.there) in
           elim (old_or_last f.links edge b other h) [
-            | inl before ↦ absurd (other_link b other above before (sym low ∙ ap (λ (q : Edge). q.lower) last.1) (sym same ∙ ap (λ (q : Edge). q.symbol) last.1) there'
+            | inl before ↦ absurd (other_link b other above before (sym low ∙ ap (λ (q : Edge). q.lower) last.1) (sym same ∙ ap (λ (q : Edge). q.symbol) last.1)
+                there'
                 (sym level_same ∙ up_at))
             | inr also ↦ last.0 ∙ sym also.0
           ]
@@ -127,7 +131,8 @@ module _ (rules : List Rule) (tokens : List SymbolId) (f : Found) (sound : IsSou
   }
 
   -- the link makes the span that is its label
-  pub new_owner : IsNonterminal rules x → IsFirst rules f lower x → IsOwner rules (with_link f (edge_of upper x lower label) spans owners) label (length f.links)
+  pub new_owner : IsNonterminal rules x → IsFirst rules f lower x
+      → IsOwner rules (with_link f (edge_of upper x lower label) spans owners) label (length f.links)
   new_owner nonterminal first = record {
     edge = edge;
     there = at_end f.links edge;

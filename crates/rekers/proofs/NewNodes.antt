@@ -40,7 +40,8 @@ old_or_last xs x place y e = elim (cases_lt place (length xs)) [
 abbrev pub with_nodes : Found → List (List Item) → List Place → Found
 with_nodes f kernels nodes = record { kernels = kernels; nodes = nodes; links = f.links; spans = f.spans; splits = f.splits; owners = f.owners }
 
-pub nodes_grow : (f : Found) (kernels : List (List Item)) (nodes : List Place) → Keeps f.kernels kernels → Keeps f.nodes nodes → Grows f (with_nodes f kernels nodes)
+pub nodes_grow : (f : Found) (kernels : List (List Item)) (nodes : List Place) → Keeps f.kernels kernels → Keeps f.nodes nodes
+    → Grows f (with_nodes f kernels nodes)
 nodes_grow f kernels nodes k n = record {
   kernels = k;
   nodes = n;
@@ -81,7 +82,8 @@ module _ (rules : List Rule) (tokens : List SymbolId) (f g : Found) (sound : IsS
   -- the first node that moves on the symbol stays the first, since new ones have greater numbers
   pub first_stays : {node : ℕ} {x : SymbolId} → node < length f.nodes → IsFirst rules f node x → IsFirst rules g node x
   first_stays {node} {x} below first = λ other i kernel own there at less moves.
-      first other i kernel own (node_back rules tokens f g sound grows (omega (arith, below, less)) there) (node_back rules tokens f g sound grows below at) less moves
+      first other i kernel own (node_back rules tokens f g sound grows (omega (arith, below, less)) there) (node_back rules tokens f g sound grows below at)
+          less moves
 
   pub owner_stays : {span owner : ℕ} → IsOwner rules f span owner → IsOwner rules g span owner
   owner_stays {span} {owner} is = record {
@@ -95,7 +97,8 @@ module _ (rules : List Rule) (tokens : List SymbolId) (f g : Found) (sound : IsS
 -- ---- more states
 
 -- the states have more kernels, each once
-module _ (rules : List Rule) (tokens : List SymbolId) (f : Found) (sound : IsSoundGraph rules tokens f) (kernels : List (List Item)) (keeps : Keeps f.kernels kernels)
+module _ (rules : List Rule) (tokens : List SymbolId) (f : Found) (sound : IsSoundGraph rules tokens f) (kernels : List (List Item))
+    (keeps : Keeps f.kernels kernels)
     (one : (a b : ℕ) (kernel : List Item) → slice_get kernels a ≡ Some kernel → slice_get kernels b ≡ Some kernel → a ≡ b) where
   with_states : Found
   with_states = with_nodes f kernels f.nodes
@@ -144,7 +147,8 @@ module _ (rules : List Rule) (tokens : List SymbolId) (f : Found) (sound : IsSou
   unfolding with_node
   node_grows_by = nodes_grow f f.kernels (f.nodes ++ place_of state at ∷ []) (keeps_same f.kernels) (keeps_append f.nodes (place_of state at ∷ []))
 
-  old_upper : (link : ℕ) (edge : Edge) (place : Place) → slice_get f.links link ≡ Some edge → slice_get (f.nodes ++ place_of state at ∷ []) edge.upper ≡ Some place
+  old_upper : (link : ℕ) (edge : Edge) (place : Place) → slice_get f.links link ≡ Some edge
+      → slice_get (f.nodes ++ place_of state at ∷ []) edge.upper ≡ Some place
       → slice_get f.nodes edge.upper ≡ Some place
   old_upper link edge place e there =
       keeps_back f.nodes (f.nodes ++ place_of state at ∷ []) (keeps_append f.nodes (place_of state at ∷ [])) edge.upper place
@@ -212,7 +216,8 @@ module _ (rules : List Rule) (tokens : List SymbolId) (f : Found) (sound : IsSou
   -- what is noted of openers holds on, where the new node opens or was passed over
   pub openers_join : (openers openers' : List ℕ) → AreOpeners rules f openers at → length openers' ≡ length openers
       → ((i node : ℕ) → slice_get openers' i ≡ Some node
-      → (slice_get openers i ≡ Some node) ⊎ ((i ≡ at) × (node ≡ length f.nodes + 1) × (slice_get openers at ≡ Some (length f.nodes)) × (Opens rules kernel → ⊥)))
+      → (slice_get openers i ≡ Some node)
+          ⊎ ((i ≡ at) × (node ≡ length f.nodes + 1) × (slice_get openers at ≡ Some (length f.nodes)) × (Opens rules kernel → ⊥)))
       → AreOpeners rules (with_nodes f f.kernels (f.nodes ++ place_of state at ∷ [])) openers' at
   unfolding with_node
   openers_join openers openers' are size noted = record { size = size ∙ are.size; each = each }

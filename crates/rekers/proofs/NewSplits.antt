@@ -1,5 +1,6 @@
 -- One more split keeps what is found sound, and its reduction is made.
-use Rattle.std.proofs.Common.{◌≡◌, ℕ, ◌+◌, ◌<◌, ◌≤◌, inl, inr, List, [], ◌∷◌, ◌++◌, length, refl, sym, ◌∙◌, ap, subst, arith, Contains, slice_get, slice_index_or, get_or, take, map, Some}
+use Rattle.std.proofs.Common.{◌≡◌, ℕ, ◌+◌, ◌<◌, ◌≤◌, inl, inr, List, [], ◌∷◌, ◌++◌, length}
+use Rattle.std.proofs.Common.{refl, sym, ◌∙◌, ap, subst, arith, Contains, slice_get, slice_index_or, get_or, take, map, Some}
 use Rattle.std.specs.declared.alloc.Global.{Global}
 use Rattle.std.specs.declared.vec.Vec.{Vec}
 use Rattle.std.proofs.lemmas.List.Elements.{Contains-push, Contains-push_cases, Contains-append_left}
@@ -29,6 +30,13 @@ use Rattle.rekers.proofs.Trails.{one_told}
 
 pub edge_at : (links : List Edge) (link : ℕ) (edge d : Edge) → slice_get links link ≡ Some edge → slice_index_or links link d ≡ edge
 edge_at links link edge d e = get_or_from_slice_get links link edge d e
+
+-- the label of one link
+pub only_label : (links : List Edge) (trail : List ℕ) (edge : Edge) → 1 ≤ length trail → length trail < 2
+    → slice_get links (slice_index_or trail 0 0) ≡ Some edge → edge.label ∷ [] ≡ labels_of links trail
+only_label links [] edge least most is = absurd (omega (arith, least))
+only_label links (a ∷ []) edge least most is = sym (ap (λ (e : Edge). e.label ∷ []) (edge_at links a edge (edge_of 0 START 0 0) is))
+only_label links (a ∷ b ∷ more) edge least most is = absurd (omega (arith, most))
 
 -- the labels of two links
 pub pair_labels : (links : List Edge) (trail : List ℕ) (first second : Edge) → 2 ≤ length trail → length trail < 3

@@ -27,7 +27,8 @@ never_true e = cc
 pub graph_is : (graph : PlaceGraph) (nodes : List Place) (links : List Edge) → graph.nodes ≡ nodes → graph.links ≡ links
     → record { nodes = nodes; links = links } ≡ graph
 graph_is graph nodes links e g =
-    sym (ap (λ ns. let it : PlaceGraph = record { nodes = ns; links = graph.links } in it) e ∙ ap (λ ls. let it : PlaceGraph = record { nodes = nodes; links = ls } in it) g)
+    sym (ap (λ ns. let it : PlaceGraph = record { nodes = ns; links = graph.links } in it) e
+        ∙ ap (λ ls. let it : PlaceGraph = record { nodes = nodes; links = ls } in it) g)
 
 -- all nodes are at the level's place or before it
 pub highest : (f : Found) (at first_node first_link : ℕ) → IsLevel f at first_node first_link → (node : ℕ) (place : Place) → slice_get f.nodes node ≡ Some place
@@ -66,7 +67,8 @@ module _ (rules : List Rule) (tokens : List SymbolId) (p : Parser) (sound : IsSo
     abbrev pub Notes : List ℕ → Type 0
     Notes openers = (i node : ℕ) → slice_get openers i ≡ Some node
         → (slice_get p.openers.items i ≡ Some node)
-        ⊎ ((i ≡ p.level.at) × (node ≡ length p.stacks.nodes + 1) × (slice_get p.openers.items p.level.at ≡ Some (length p.stacks.nodes)) × (Opens rules kernel → ⊥))
+        ⊎ ((i ≡ p.level.at) × (node ≡ length p.stacks.nodes + 1) × (slice_get p.openers.items p.level.at ≡ Some (length p.stacks.nodes))
+            × (Opens rules kernel → ⊥))
 
     -- with one node more
     pub node_sound : (graph : PlaceGraph) (openers : Vec ℕ Global) → (HasNode p.stacks.nodes state p.level.at → ⊥)
@@ -74,14 +76,17 @@ module _ (rules : List Rule) (tokens : List SymbolId) (p : Parser) (sound : IsSo
         → Notes openers.items → IsSound rules tokens (record p { stacks = graph; openers = openers })
     node_sound graph openers new nodes links size notes =
         let all = highest (found p) p.level.at p.level.first_node p.level.first_link sound.level in
-        let joined : IsSound rules tokens (record p { stacks = record { nodes = p.stacks.nodes ++ place_of state p.level.at ∷ []; links = p.stacks.links }; openers = openers }) =
+        let joined : IsSound rules tokens
+            (record p { stacks = record { nodes = p.stacks.nodes ++ place_of state p.level.at ∷ []; links = p.stacks.links }; openers = openers }) =
         record {
           numbered = sound.numbered;
           terminals = sound.terminals;
           expanded = sound.expanded;
           graph = node_joins rules tokens (found p) sound.graph state p.level.at kernel named reached all new;
-          level = level_joins rules tokens (found p) sound.graph state p.level.at kernel named reached all new p.level.first_node p.level.first_link sound.level;
-          openers = openers_join rules tokens (found p) sound.graph state p.level.at kernel named reached all new p.openers.items openers.items sound.openers size notes;
+          level = level_joins rules tokens (found p) sound.graph state p.level.at kernel named reached all new p.level.first_node p.level.first_link
+              sound.level;
+          openers = openers_join rules tokens (found p) sound.graph state p.level.at kernel named reached all new p.openers.items openers.items sound.openers
+              size notes;
           flat = sound.flat;
           spans_below = sound.spans_below;
         } in

@@ -1,5 +1,6 @@
 -- Reductions: what their calls ask for, and the steps that they are.
-use Rattle.std.proofs.Common.{◌≡◌, ℕ, ◌+◌, ◌<◌, ◌≤◌, ◌⊎◌, inl, inr, List, [], ◌∷◌, ◌++◌, length, sym, ◌∙◌, ap, subst, arith, slice_get, get_or, Some, Result, Ok, Err}
+use Rattle.std.proofs.Common.{◌≡◌, ℕ, ◌+◌, ◌<◌, ◌≤◌, ◌⊎◌, inl, inr, List, [], ◌∷◌, ◌++◌}
+use Rattle.std.proofs.Common.{length, sym, ◌∙◌, ap, subst, arith, slice_get, get_or, Some, Result, Ok, Err}
 use Rattle.std.specs.declared.alloc.Global.{Global}
 use Rattle.std.specs.declared.vec.Vec.{Vec}
 use Rattle.std.proofs.lemmas.Option.{slice_get_within, get_or_from_slice_get}
@@ -28,7 +29,8 @@ use Rattle.rekers.specs.Reductions.{IsReducible}
 use Rattle.rekers.specs.Sound.{IsSound, IsSoundGraph}
 use Rattle.rekers.specs.Steps.{IsStep, IsLinkable, IsLinkBy, IsToReduce, Reduces, HasFewNodes, labels_of}
 use Rattle.rekers.proofs.Growth.{one_at}
-use Rattle.rekers.proofs.NewSplits.{labels_are, split_sound, split_grows, split_found, split_of, is_told, reduces_none, reduces_one, still_to_reduce, reduces_on}
+use Rattle.rekers.proofs.NewSplits.{labels_are, split_sound, split_grows, split_found, split_of}
+use Rattle.rekers.proofs.NewSplits.{is_told, reduces_none, reduces_one, still_to_reduce, reduces_on}
 use Rattle.rekers.proofs.LinkSteps.{step_alone, step_on, link_found}
 use Rattle.rekers.proofs.Trails.{part_cases, derived, reduces_to}
 

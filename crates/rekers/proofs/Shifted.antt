@@ -97,7 +97,8 @@ module _ (tokens : List SymbolId) (p q r : Parser) (first : q ≡ record p { sta
   splits_same = ap (λ (ss : Packed). ss.splits) (spans_same ∙ ap (λ (x : Parser). x.spans) first)
 
   pub shift_step : {Base : Type 0} (graph graph' : Meaning Base) (before after : ℕ) → Grows (found p) (found q) → (ArePlaced (found p) → ArePlaced (found q))
-      → AsksNew p.states.kernels q.states.kernels graph graph' before after → IsSound graph'.grammar.rules tokens r → IsStep tokens p r graph graph' before after
+      → AsksNew p.states.kernels q.states.kernels graph graph' before after → IsSound graph'.grammar.rules tokens r
+          → IsStep tokens p r graph graph' before after
   shift_step graph graph' before after grows placed asks sound = record {
     sound = sound;
     grows = grows_on (found p) (found q) (found r) grows link_adds;

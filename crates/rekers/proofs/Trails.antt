@@ -118,7 +118,8 @@ module _ (rules : List Rule) (tokens : List SymbolId) (f : Found) (graph : IsSou
         above = b.above;
         to = b.to;
         upper_is = b.upper_is;
-        link = subst (λ k. IsLink rules tokens (link_of s k x b.above b.to)) place (subst (λ t. IsLink rules tokens (link_of t b.from x b.above b.to)) kernel b.link);
+        link = subst (λ k. IsLink rules tokens (link_of s k x b.above b.to)) place
+            (subst (λ t. IsLink rules tokens (link_of t b.from x b.above b.to)) kernel b.link);
         part = subst (λ k. IsPartAt rules tokens f.spans x k label b.to) place b.part;
       }
 
@@ -136,7 +137,8 @@ module _ (rules : List Rule) (tokens : List SymbolId) (f : Found) (graph : IsSou
   pub one_trail : {node top other : ℕ} {trail trail' labels : List ℕ} {xs : List SymbolId} → IsTrail f.links node trail xs labels top
       → IsTrail f.links node trail' xs labels other → (trail ≡ trail') × (top ≡ other)
   one_trail here t = let (e, g) = ends_here t refl in (sym e, g)
-  one_trail {other = other} (over {lower = lower} {middle = middle} {link = link} {x = x} {label = label} {trail = rest} {xs = xs} {labels = labels} edge on) t =
+  one_trail {other = other} (over {lower = lower} {middle = middle} {link = link} {x = x} {label = label} {trail = rest} {xs = xs} {labels = labels} edge on) t
+      =
       let b = begins t refl refl in
       let (same, above) = one_edge link b.link middle b.middle x lower label edge b.edge in
       let (tails, tops) = one_trail on (subst (λ n. IsTrail f.links n b.rest xs labels other) (sym above) b.on) in
@@ -216,7 +218,8 @@ module _ (rules : List Rule) (tokens : List SymbolId) (f : Found) (graph : IsSou
 
   -- reductions of one number from one node with the same labels go along one trail
   pub one_reducible : IsNumbered rules → {a b : Reduction} {lower : ℕ} {trail trail' labels : List ℕ} {top above at to : ℕ}
-      → IsReducible rules f a lower trail labels top at → IsReducible rules f b lower trail' labels above to → a.rule ≡ b.rule → (trail ≡ trail') × (top ≡ above)
+      → IsReducible rules f a lower trail labels top at → IsReducible rules f b lower trail' labels above to → a.rule ≡ b.rule → (trail ≡ trail')
+          × (top ≡ above)
   one_reducible numbers {lower = lower} {trail' = trail'} {labels = labels} {above = above} p q e =
       let same : q.rule ≡ p.rule = sym (one_rule numbers p q e) in
       one_trail p.along (subst (λ (r : Rule). IsTrail f.links lower trail' (drop 0 r.right) labels above) same q.along)
@@ -229,7 +232,8 @@ module _ (rules : List Rule) (tokens : List SymbolId) (f : Found) (graph : IsSou
       let edges = one_at f.links b.owner _ _
       (subst (λ l. slice_get f.links l ≡ Some (edge_of a.owner_is.upper a.reduction.left a.lower split.span)) owner a.owner_is.there) b.owner_is.there in
       let lower : b.lower ≡ a.lower = ap (λ (e : Edge). e.lower) (sym edges) in
-      one_reducible numbers a.reducible (subst (λ n. IsReducible rules f b.reduction n trail' split.parts above b.at) lower b.reducible) (a.number ∙ sym b.number)
+      one_reducible numbers a.reducible (subst (λ n. IsReducible rules f b.reduction n trail' split.parts above b.at) lower b.reducible)
+          (a.number ∙ sym b.number)
 
   -- up a link the places do not fall
   pub link_rises : (link : ℕ) {upper : ℕ} {x : SymbolId} {lower label : ℕ} → slice_get f.links link ≡ Some (edge_of upper x lower label)
@@ -243,7 +247,8 @@ module _ (rules : List Rule) (tokens : List SymbolId) (f : Found) (graph : IsSou
       → (link : ℕ) → Contains trail link → (edge : Edge) → slice_get f.links link ≡ Some edge → (upper last : Place)
       → slice_get f.nodes edge.upper ≡ Some upper → slice_get f.nodes top ≡ Some last → upper.at ≤ last.at
   trail_rises here link (k, l, e) edge at upper last up there = absurd (omega arith)
-  trail_rises (over {lower = lower} {middle = middle} {upper = top} {link = first} {x = x} {label = label} {trail = rest} here_is on) link c edge at upper last up there =
+  trail_rises (over {lower = lower} {middle = middle} {upper = top} {link = first} {x = x} {label = label} {trail = rest} here_is on) link c edge at upper last
+      up there =
       elim (contains_cases first rest link c) [
         | inl same ↦
             let edges = one_at f.links link _ _ (subst (λ l. slice_get f.links l ≡ Some (edge_of middle x lower label)) same here_is) at in

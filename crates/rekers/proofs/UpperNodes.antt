@@ -31,13 +31,15 @@ others_old old new upper number (inr (none, more)) named one state kernel e =
     ]
 
 -- the state behind a move of a node that is reached is reached
-pub behind_reached : (rules : List Rule) (tokens : List SymbolId) (p : Parser) → IsSound rules tokens p → (lower : ℕ) (x : SymbolId) (at : ℕ) (f : Found) (behind : ℕ)
+pub behind_reached : (rules : List Rule) (tokens : List SymbolId) (p : Parser) → IsSound rules tokens p
+    → (lower : ℕ) (x : SymbolId) (at : ℕ) (f : Found) (behind : ℕ)
     (linkable : IsLinkable rules tokens (found p) lower x at) (is : IsBehind rules f lower x behind) → IsNode f lower linkable.kernel linkable.from
     → (kernel : List Item) → slice_get f.kernels behind ≡ Some kernel → IsStateAt rules tokens kernel at
 behind_reached rules tokens p sound lower x at f behind linkable is node kernel e =
     let own : is.kernel ≡ linkable.kernel = (one_kernel is.node node).0 in
     let move = subst (λ k. IsMoveOf rules k x is.upper) own is.move in
-    let reached = next_state rules (one_right rules sound.numbered) tokens (node_state rules tokens (found p) sound.graph linkable.node) linkable.derives move in
+    let reached = next_state rules (one_right rules sound.numbered) tokens (node_state rules tokens (found p) sound.graph linkable.node) linkable.derives move
+        in
     subst (λ k. IsStateAt rules tokens k at) (one_at f.kernels behind is.upper kernel is.is_kernel e) reached
 
 -- the nodes have one node more, or stay
@@ -89,7 +91,8 @@ module _ (p q r : Parser) (first : q ≡ record p { states = q.states }) (then :
 
   -- the new state has its node
   pub upper_placed : (node : ℕ) → slice_get r.stacks.nodes node ≡ Some (place_of state at)
-      → ((number : ℕ) (kernel : List Item) → slice_get q.states.kernels number ≡ Some kernel → (number ≡ state) ⊎ (slice_get p.states.kernels number ≡ Some kernel))
+      → ((number : ℕ) (kernel : List Item) → slice_get q.states.kernels number ≡ Some kernel → (number ≡ state)
+          ⊎ (slice_get p.states.kernels number ≡ Some kernel))
       → ArePlaced (found p) → ArePlaced (found r)
   upper_placed node there others placed number kernel e =
       let was = subst (λ ss. slice_get ss.kernels number ≡ Some kernel) states_same e in

@@ -47,7 +47,8 @@ pub record IsDone (rules : List Rule) (tokens : List SymbolId) (f : Found) : Typ
   pub shifted : AreShifted rules tokens f (length tokens)
 
 -- a trail with labels that stand along the cuts
-pub record IsTrailAlong (rules : List Rule) (tokens : List SymbolId) (f : Found) (node : ℕ) (xs : List SymbolId) (i : ℕ) (cuts : List ℕ) (top j : ℕ) : Type 0 where
+pub record IsTrailAlong (rules : List Rule) (tokens : List SymbolId) (f : Found) (node : ℕ) (xs : List SymbolId) (i : ℕ) (cuts : List ℕ) (top j : ℕ) : Type 0
+    where
   pub trail : List ℕ
   pub labels : List ℕ
   pub along : IsTrail f.links node trail xs labels top

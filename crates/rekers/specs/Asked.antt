@@ -7,7 +7,8 @@ use Rattle.rekers.specs.States.{IsReached}
 
 -- the graph was asked for exactly the states that the text reaches
 abbrev pub AsksStates : {Base : Type 0} → List SymbolId → Meaning Base → Meaning Base → Type 0
-AsksStates kinds old new = (kernel : List Item) → Contains new.kernels.keys kernel ↔ (Contains old.kernels.keys kernel ⊎ IsReached old.grammar.rules kinds kernel)
+AsksStates kinds old new = (kernel : List Item) → Contains new.kernels.keys kernel
+    ↔ (Contains old.kernels.keys kernel ⊎ IsReached old.grammar.rules kinds kernel)
 
 -- the graph was asked for some of the states that the text reaches
 pub record AsksSomeStates {Base : Type 0} (kinds : List SymbolId) (old new : Meaning Base) : Type 0 where

@@ -42,7 +42,8 @@ pub record IsSoundLink (rules : List Rule) (tokens : List SymbolId) (f : Found) 
 
 -- no node before this one at its place moves on the symbol
 abbrev pub IsFirst : List Rule → Found → ℕ → SymbolId → Type 0
-IsFirst rules f node x = (other i : ℕ) (kernel own : List Item) → IsNode f other kernel i → IsNode f node own i → other < node → HasMove rules (Contains kernel) x → ⊥
+IsFirst rules f node x = (other i : ℕ) (kernel own : List Item) → IsNode f other kernel i → IsNode f node own i → other < node
+    → HasMove rules (Contains kernel) x → ⊥
 
 -- the link made the span: it leads up from the first node there that moves on the symbol of the span, and has the span as its label
 pub record IsOwner (rules : List Rule) (f : Found) (span owner : ℕ) : Type 0 where

@@ -48,7 +48,8 @@ impl Parser {
         requires place { self.old.level.at < TOKEN_LIMIT }
         ensures done { OnOk result (AreLevelsDone (G.means graph.old).grammar.rules (kinds_of tokens.now) self.new (self.old.level.at + 1)) }
         ensures stopped { IfErr result (IsStopped (G.means graph.old).grammar.rules (kinds_of tokens.now) self.new) }
-        ensures asks { UnlessNoMemory result (AsksNew self.old.states.kernels self.new.states.kernels (G.means graph.old) (G.means graph.new) steps.old steps.new) }
+        ensures asks { UnlessNoMemory result (AsksNew self.old.states.kernels self.new.states.kernels
+            (G.means graph.old) (G.means graph.new) steps.old steps.new) }
         ensures kernels { UnlessNoMemory result (Keeps self.old.states.kernels self.new.states.kernels) }
         ensures stands { Stands (G.means graph.old) (G.means graph.new) }
         ensures never_back { steps.old ≤ steps.new }

@@ -86,6 +86,7 @@ impl Parser {
     }
 
     /// Adds a span, and the link between the nodes that makes it.
+    #[inline(always)]
     fn own<G: Graph>(
         &mut self,
         _graph: &G,
@@ -107,13 +108,47 @@ impl Parser {
         ensures links { OnOk result (self.new.stacks.links ≡ self.old.stacks.links ++ edge_of upper symbol lower (length self.old.spans.spans) ∷ []) }
         ensures nodes { OnOk result (self.new.stacks.nodes ≡ self.old.stacks.nodes) }
         ensures splits { OnOk result (self.new.spans.splits ≡ self.old.spans.splits) }
-        ensures same { OnOk result (self.new ≡ record self.old { stacks = self.new.stacks; spans = self.new.spans; owners = self.new.owners; is_flat = self.new.is_flat }) }
+        ensures same { OnOk result (self.new ≡ record self.old { stacks = self.new.stacks;
+            spans = self.new.spans; owners = self.new.owners; is_flat = self.new.is_flat }) }
     {
         let from = self.stacks.place(lower).at;
         let span = self.spans.add_span(symbol, from, self.level.at)?;
         let link = self.stacks.add_link(upper, symbol, lower, span)?;
         self.owners.push(link)?;
         self.is_flat = stays_flat(self.is_flat, lower, self.level.first_node);
+        Ok(link)
+    }
+
+    /// Adds the link by the left side down to the node, which is the first one with a move on it. It makes the span.
+    #[inline(always)]
+    fn new_owner<G: Graph, L: Ledger>(
+        &mut self,
+        graph: &mut G,
+        tokens: &[Token],
+        lower: u32,
+        symbol: SymbolId,
+        steps: &mut Steps<L>,
+    ) -> Result<u32, NoMemory>
+        requires sound { IsSound (G.means graph.old).grammar.rules (kinds_of tokens.now) self.old }
+        requires linkable { IsLinkable (G.means graph.old).grammar.rules (kinds_of tokens.now) (found self.old) lower symbol self.old.level.at }
+        requires nonterminal { IsNonterminal (G.means graph.old).grammar.rules symbol }
+        requires first { IsFirst (G.means graph.old).grammar.rules (found self.old) lower symbol }
+        requires few { HasFewNodes self.old }
+        requires room { length self.old.stacks.links < 2 ^ 20 }
+        requires unlinked { IsUnlinked (found self.old) self.old.level.first_link lower symbol }
+        ensures link { IfOk result (λ link. IsLinkBy (found self.new) link lower symbol self.old.level.at) }
+        ensures step { OnOk result (IsStep (kinds_of tokens.now) self.old self.new (G.means graph.old) (G.means graph.new) steps.old steps.new) }
+        ensures others { OnOk result ((other : ℕ) → other ≢ lower → IsUnlinked (found self.old) self.old.level.first_link other symbol
+            → IsUnlinked (found self.new) self.old.level.first_link other symbol) }
+        ensures few { OnOk result (HasFewNodes self.new) }
+        ensures count { OnOk result (length self.new.stacks.links ≤ length self.old.stacks.links + 1) }
+        ensures splits { OnOk result (self.new.spans.splits ≡ self.old.spans.splits) }
+        ensures trail { OnOk result ((self.new.trail ≡ self.old.trail) × (self.new.parts ≡ self.old.parts)) }
+        ensures stands { Stands (G.means graph.old) (G.means graph.new) }
+        ensures never_back { steps.old ≤ steps.new }
+    {
+        let upper = self.upper(graph, tokens, lower, symbol, steps)?;
+        let link = self.own(graph, tokens, upper, symbol, lower)?;
         Ok(link)
     }
 
@@ -146,9 +181,7 @@ impl Parser {
         if let Some(link) = self.stacks.link_above(lower, symbol, self.level.first_link) {
             return Ok(link);
         }
-        let upper = self.upper(graph, tokens, lower, symbol, steps)?;
-        let link = self.own(graph, tokens, upper, symbol, lower)?;
-        Ok(link)
+        self.new_owner(graph, tokens, lower, symbol, steps)
     }
 
     /// Adds the link by the left side from the level down to the node.
@@ -176,10 +209,10 @@ impl Parser {
         ensures never_back { steps.old ≤ steps.new }
     {
         let first = self.first_opener(graph, tokens, lower, symbol);
-        let owner = self.owning_link(graph, tokens, first, symbol, steps)?;
         if first == lower {
-            return Ok(owner);
+            return self.new_owner(graph, tokens, lower, symbol, steps);
         }
+        let owner = self.owning_link(graph, tokens, first, symbol, steps)?;
         let label = self.stacks.edge(owner).label;
         let upper = self.upper(graph, tokens, lower, symbol, steps)?;
         let link = self.attach(graph, tokens, upper, symbol, lower, label)?;

@@ -186,7 +186,8 @@ impl Parser {
         requires within { IsWithinLimit self.old }
         requires worked { IsWorked (G.means graph.old).grammar.rules (found self.old) self.old.level.first_link self.old.level.first_node }
         ensures step { UnlessNoMemory result (IsStep (kinds_of tokens.now) self.old self.new (G.means graph.old) (G.means graph.new) steps.old steps.new) }
-        ensures worked { OnOk result (IsWorked (G.means graph.old).grammar.rules (found self.new) (length self.new.stacks.links) (length self.new.stacks.nodes)) }
+        ensures worked { OnOk result (IsWorked (G.means graph.old).grammar.rules (found self.new)
+            (length self.new.stacks.links) (length self.new.stacks.nodes)) }
         ensures within { OnOk result (IsWithinLimit self.new) }
         ensures above { IfErr result (IsAboveLimit self.new) }
         ensures stands { Stands (G.means graph.old) (G.means graph.new) }

@@ -31,6 +31,17 @@ fn fill(stacks: &StackGraph, trail: &[u32], parts: &mut Vec<u32>) -> Result<(), 
     Ok(())
 }
 
+/// The label of the link, if it is one.
+fn only_of(stacks: &StackGraph, trail: &[u32]) -> Option<[u32; 1]>
+    requires { (link : ℕ) → Contains trail.now link → link < length stacks.now.links }
+    ensures { IfSome result (λ labels. labels ≡ labels_of stacks.now.links trail.now) }
+{
+    let [link] = trail else {
+        return None;
+    };
+    Some([stacks.edge(*link).label])
+}
+
 /// The labels of the links, if they are two.
 fn pair_of(stacks: &StackGraph, trail: &[u32]) -> Option<[u32; 2]>
     requires { (link : ℕ) → Contains trail.now link → link < length stacks.now.links }
@@ -59,9 +70,9 @@ impl Parser {
         Ok(())
     }
 
-    /// Adds the split of the trail to the span, by way of the buffer.
+    /// Adds the split of the trail to the span. More than one part go by way of the buffer.
     #[inline(never)]
-    fn add_long_trail(&mut self, span: u32, rule: RuleId) -> Result<(), NoMemory>
+    fn add_other_trail(&mut self, span: u32, rule: RuleId) -> Result<(), NoMemory>
         requires span { span < length self.old.spans.spans }
         requires links { (link : ℕ) → Contains self.old.trail.items link → link < length self.old.stacks.links }
         requires parts { ArePartsOf self.old.spans.spans (labels_of self.old.stacks.links self.old.trail.items) }
@@ -70,6 +81,10 @@ impl Parser {
             ≡ self.old.spans.splits ++ record { span = span; rule = rule; parts = labels_of self.old.stacks.links self.old.trail.items } ∷ []) }
         ensures same { OnOk result (self.new ≡ record self.old { spans = self.new.spans; parts = self.new.parts }) }
     {
+        if let Some(parts) = only_of(&self.stacks, &self.trail) {
+            self.spans.add_split(span, rule, &parts)?;
+            return Ok(());
+        }
         fill(&self.stacks, &self.trail, &mut self.parts)?;
         self.spans.add_split(span, rule, &self.parts)?;
         Ok(())
@@ -90,7 +105,7 @@ impl Parser {
             self.spans.add_split(span, rule, &parts)?;
             return Ok(());
         }
-        self.add_long_trail(span, rule)?;
+        self.add_other_trail(span, rule)?;
         Ok(())
     }
 
@@ -110,7 +125,8 @@ impl Parser {
         requires reduces { IsToReduce (G.means _graph.now).grammar.rules (found self.old) reduction lower self.old.trail.items top self.old.level.at }
         ensures sound { OnOk result (IsSound (G.means _graph.now).grammar.rules (kinds_of _tokens.now) self.new) }
         ensures grows { OnOk result (Grows (found self.old) (found self.new)) }
-        ensures reduced { OnOk result (Reduces (G.means _graph.now).grammar.rules (found self.old) (found self.new) reduction lower self.old.trail.items top self.old.level.at) }
+        ensures reduced { OnOk result (Reduces (G.means _graph.now).grammar.rules (found self.old)
+            (found self.new) reduction lower self.old.trail.items top self.old.level.at) }
         ensures same { OnOk result (self.new ≡ record self.old { spans = self.new.spans; parts = self.new.parts }) }
         ensures spans { OnOk result (self.new.spans.spans ≡ self.old.spans.spans) }
     {
@@ -138,7 +154,8 @@ impl Parser {
         requires reduces { IsToReduce (G.means graph.old).grammar.rules (found self.old) reduction lower self.old.trail.items top self.old.level.at }
         requires unlinked { IsUnlinked (found self.old) self.old.level.first_link lower reduction.left }
         ensures step { UnlessNoMemory result (IsStep (kinds_of tokens.now) self.old self.new (G.means graph.old) (G.means graph.new) steps.old steps.new) }
-        ensures reduced { OnOk result (Reduces (G.means graph.old).grammar.rules (found self.old) (found self.new) reduction lower self.old.trail.items top self.old.level.at) }
+        ensures reduced { OnOk result (Reduces (G.means graph.old).grammar.rules (found self.old)
+            (found self.new) reduction lower self.old.trail.items top self.old.level.at) }
         ensures within { OnOk result (IsWithinLimit self.new) }
         ensures above { IfErr result (IsAboveLimit self.new) }
         ensures trail { OnOk result (self.new.trail ≡ self.old.trail) }
@@ -167,7 +184,8 @@ impl Parser {
         requires within { IsWithinLimit self.old }
         requires reduces { IsToReduce (G.means graph.old).grammar.rules (found self.old) reduction lower self.old.trail.items top self.old.level.at }
         ensures step { UnlessNoMemory result (IsStep (kinds_of tokens.now) self.old self.new (G.means graph.old) (G.means graph.new) steps.old steps.new) }
-        ensures reduced { OnOk result (Reduces (G.means graph.old).grammar.rules (found self.old) (found self.new) reduction lower self.old.trail.items top self.old.level.at) }
+        ensures reduced { OnOk result (Reduces (G.means graph.old).grammar.rules (found self.old)
+            (found self.new) reduction lower self.old.trail.items top self.old.level.at) }
         ensures within { OnOk result (IsWithinLimit self.new) }
         ensures above { IfErr result (IsAboveLimit self.new) }
         ensures trail { OnOk result (self.new.trail ≡ self.old.trail) }

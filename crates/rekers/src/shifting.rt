@@ -137,7 +137,8 @@ impl Parser {
         requires kind { IsBefore (kinds_of tokens.now) kind self.old.level.at }
         requires links { self.old.level.first_link ≡ length self.old.stacks.links }
         ensures step { UnlessNoMemory result (IsStep (kinds_of tokens.now) self.old self.new (G.means graph.old) (G.means graph.new) steps.old steps.new) }
-        ensures shifted { OnOk result (AreShiftedFrom (G.means graph.old).grammar.rules (found self.new) first self.old.level.first_node kind self.old.level.at) }
+        ensures shifted { OnOk result (AreShiftedFrom (G.means graph.old).grammar.rules (found self.new)
+            first self.old.level.first_node kind self.old.level.at) }
         ensures splits { UnlessNoMemory result (self.new.spans.splits ≡ self.old.spans.splits) }
         ensures within { OnOk result (IsWithinLimit self.new) }
         ensures above { IfErr result (IsAboveLimit self.new) }
@@ -167,7 +168,8 @@ impl Parser {
         ensures sound { UnlessNoMemory result (IsSound (G.means graph.new).grammar.rules (kinds_of tokens.now) self.new) }
         ensures placed { UnlessNoMemory result (ArePlaced (found self.old) → ArePlaced (found self.new)) }
         ensures grows { UnlessNoMemory result (Grows (found self.old) (found self.new)) }
-        ensures asks { UnlessNoMemory result (AsksNew self.old.states.kernels self.new.states.kernels (G.means graph.old) (G.means graph.new) steps.old steps.new) }
+        ensures asks { UnlessNoMemory result (AsksNew self.old.states.kernels self.new.states.kernels
+            (G.means graph.old) (G.means graph.new) steps.old steps.new) }
         ensures at { OnOk result (self.new.level.at ≡ self.old.level.at + 1) }
         ensures worked { OnOk result (IsWorked (G.means graph.old).grammar.rules (found self.new) self.new.level.first_link self.new.level.first_node) }
         ensures shifted { OnOk result (AreShifted (G.means graph.old).grammar.rules (kinds_of tokens.now) (found self.new) self.new.level.at) }

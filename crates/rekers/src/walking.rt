@@ -49,9 +49,11 @@ impl Parser {
     ) -> Result<(), ParseError>
         requires sound { IsSound (G.means graph.old).grammar.rules (kinds_of tokens.now) self.old }
         requires within { IsWithinLimit self.old }
-        requires walking { IsWalking (G.means graph.old).grammar.rules (found self.old) self.old.level.first_link self.old.level.at walk node 0 met self.old.trail.items }
+        requires walking { IsWalking (G.means graph.old).grammar.rules (found self.old)
+            self.old.level.first_link self.old.level.at walk node 0 met self.old.trail.items }
         ensures step { UnlessNoMemory result (IsStep (kinds_of tokens.now) self.old self.new (G.means graph.old) (G.means graph.new) steps.old steps.new) }
-        ensures walked { OnOk result (IsWalked (G.means graph.old).grammar.rules (found self.old) (found self.new) walk self.old.level.at self.old.trail.items) }
+        ensures walked { OnOk result (IsWalked (G.means graph.old).grammar.rules (found self.old)
+            (found self.new) walk self.old.level.at self.old.trail.items) }
         ensures within { OnOk result (IsWithinLimit self.new) }
         ensures above { IfErr result (IsAboveLimit self.new) }
         ensures trail { OnOk result (self.new.trail ≡ self.old.trail) }
@@ -65,6 +67,7 @@ impl Parser {
     }
 
     /// Makes the reductions of all trails that go on from the node for one link down.
+    #[inline(never)]
     fn walk_last<G: Graph, L: Ledger>(
         &mut self,
         graph: &mut G,
@@ -76,12 +79,15 @@ impl Parser {
     ) -> Result<(), ParseError>
         requires sound { IsSound (G.means graph.old).grammar.rules (kinds_of tokens.now) self.old }
         requires within { IsWithinLimit self.old }
-        requires walking { IsWalking (G.means graph.old).grammar.rules (found self.old) self.old.level.first_link self.old.level.at walk node 1 met self.old.trail.items }
+        requires walking { IsWalking (G.means graph.old).grammar.rules (found self.old)
+            self.old.level.first_link self.old.level.at walk node 1 met self.old.trail.items }
         ensures step { UnlessNoMemory result (IsStep (kinds_of tokens.now) self.old self.new (G.means graph.old) (G.means graph.new) steps.old steps.new) }
-        ensures walked { OnOk result (IsWalked (G.means graph.old).grammar.rules (found self.old) (found self.new) walk self.old.level.at (drop 1 self.old.trail.items)) }
+        ensures walked { OnOk result (IsWalked (G.means graph.old).grammar.rules (found self.old)
+            (found self.new) walk self.old.level.at (drop 1 self.old.trail.items)) }
         ensures within { OnOk result (IsWithinLimit self.new) }
         ensures above { IfErr result (IsAboveLimit self.new) }
-        ensures trail { OnOk result ((drop 1 self.new.trail.items ≡ drop 1 self.old.trail.items) × (length self.new.trail.items ≡ length self.old.trail.items)) }
+        ensures trail { OnOk result ((drop 1 self.new.trail.items ≡ drop 1 self.old.trail.items)
+            × (length self.new.trail.items ≡ length self.old.trail.items)) }
         ensures stands { Stands (G.means graph.old) (G.means graph.new) }
         ensures never_back { steps.old ≤ steps.new }
     {
@@ -116,12 +122,15 @@ impl Parser {
     ) -> Result<(), ParseError>
         requires sound { IsSound (G.means graph.old).grammar.rules (kinds_of tokens.now) self.old }
         requires within { IsWithinLimit self.old }
-        requires walking { IsWalking (G.means graph.old).grammar.rules (found self.old) self.old.level.first_link self.old.level.at walk node left met self.old.trail.items }
+        requires walking { IsWalking (G.means graph.old).grammar.rules (found self.old)
+            self.old.level.first_link self.old.level.at walk node left met self.old.trail.items }
         ensures step { UnlessNoMemory result (IsStep (kinds_of tokens.now) self.old self.new (G.means graph.old) (G.means graph.new) steps.old steps.new) }
-        ensures walked { OnOk result (IsWalked (G.means graph.old).grammar.rules (found self.old) (found self.new) walk self.old.level.at (drop left self.old.trail.items)) }
+        ensures walked { OnOk result (IsWalked (G.means graph.old).grammar.rules (found self.old)
+            (found self.new) walk self.old.level.at (drop left self.old.trail.items)) }
         ensures within { OnOk result (IsWithinLimit self.new) }
         ensures above { IfErr result (IsAboveLimit self.new) }
-        ensures trail { OnOk result ((drop left self.new.trail.items ≡ drop left self.old.trail.items) × (length self.new.trail.items ≡ length self.old.trail.items)) }
+        ensures trail { OnOk result ((drop left self.new.trail.items ≡ drop left self.old.trail.items)
+            × (length self.new.trail.items ≡ length self.old.trail.items)) }
         ensures stands { Stands (G.means graph.old) (G.means graph.new) }
         ensures never_back { steps.old ≤ steps.new }
     {

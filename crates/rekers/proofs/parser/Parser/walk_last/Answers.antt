@@ -6,11 +6,13 @@ use Rattle.std.specs.declared.alloc.Global.{Global}
 use Rattle.std.specs.declared.vec.Vec.{Vec}
 use Rattle.std.proofs.lemmas.Result.{err_from_is_err_and}
 use Rattle.rekers.proofs.Stepping.{step_none}
-use Rattle.rekers.proofs.DownLinks.{IsDown, down_none, down_all, down_past, down_more, walks_on, inside, step_back, sound_trail, within_trail, unless_on, walked_out}
+use Rattle.rekers.proofs.DownLinks.{IsDown, down_none, down_all, down_past, down_more, walks_on}
+use Rattle.rekers.proofs.DownLinks.{inside, step_back, sound_trail, within_trail, unless_on, walked_out}
 use Rattle.rekers.proofs.parser.Parser.walk_last.Goals as goal
 
 pub returns-then-node-self-clause-step : goal.returns-then-node-self-clause-step
-returns-then-node-self-clause-step g c = step_none (kinds_of c.args.tokens.now) c.args.self.now (g.G.Graph.means c.args.graph.now) c.args.steps.now c.requires.sound
+returns-then-node-self-clause-step g c = step_none (kinds_of c.args.tokens.now) c.args.self.now (g.G.Graph.means c.args.graph.now) c.args.steps.now
+    c.requires.sound
 
 pub returns-then-node-self-clause-walked : goal.returns-then-node-self-clause-walked
 returns-then-node-self-clause-walked g c = walked_out (g.G.Graph.means c.args.graph.now).grammar.rules (kinds_of c.args.tokens.now) c.args.self.now
@@ -61,7 +63,8 @@ returns-in_err-finish-clause-step g c =
     c.args.steps.now c.links.steps c.args.walk c.args.node 1 (Some c.in-Some.link) = rw c.in-Some.is at c.links.invariant in
     let some : 0 < 1 = omega arith in
     unless_on c.in_err-finish.field-0.0 c.from_residual.result
-    (err_from_is_err_and c.from_residual.result c.from_residual.ensures.1) (λ step. step_back (kinds_of c.args.tokens.now) c.args.self.now c.links.self (g.G.Graph.means c.args.graph.now) (g.G.Graph.means c.links.graph)
+    (err_from_is_err_and c.from_residual.result c.from_residual.ensures.1)
+        (λ step. step_back (kinds_of c.args.tokens.now) c.args.self.now c.links.self (g.G.Graph.means c.args.graph.now) (g.G.Graph.means c.links.graph)
     c.args.steps.now c.links.steps c.args.walk c.args.node 1 c.args.met c.requires.sound c.requires.walking
     c.in-Some.link down some c.put.new.trail c.put.ensures.puts c.finish.new.self (g.G.Graph.means c.finish.new.graph) c.finish.new.steps step)
     c.in_err-finish.ensures.step
@@ -74,7 +77,8 @@ links-preserved g c =
     down_more (kinds_of c.args.tokens.now) c.args.self.now c.links.self (g.G.Graph.means c.args.graph.now) (g.G.Graph.means c.links.graph)
     c.args.steps.now c.links.steps c.args.walk c.args.node 1 c.args.met c.requires.sound c.requires.walking
     c.in-Some.link down some c.put.new.trail c.put.ensures.puts c.finish.new.self (g.G.Graph.means c.finish.new.graph) c.finish.new.steps
-    c.in_ok-finish.ensures.step c.in_ok-finish.ensures.walked c.in_ok-finish.ensures.within (ap (λ (v : Vec ℕ Global). v.items) c.in_ok-finish.ensures.trail) (ap (λ (v : Vec ℕ Global). length v.items) c.in_ok-finish.ensures.trail)
+    c.in_ok-finish.ensures.step c.in_ok-finish.ensures.walked c.in_ok-finish.ensures.within (ap (λ (v : Vec ℕ Global). v.items) c.in_ok-finish.ensures.trail)
+        (ap (λ (v : Vec ℕ Global). length v.items) c.in_ok-finish.ensures.trail)
     c.put.ensures.size c.in_ok-finish.ensures.stands c.in_ok-finish.ensures.never_back c.next_link-next.result c.next_link-next.ensures.next
     c.next_link-next.ensures.none
 
