@@ -93,6 +93,24 @@ fn told_edit_alone(
     }
 }
 
+/// How many of so many edits of a new bench were made, and how many were refused since its log is full.
+pub(crate) fn told_counts(alloc: Global, log: u64, edits: u64) -> Result<String, AllocError> {
+    let mut wanted = Wanted::read("versions 2, places 8, rows 8, width 8, pins 100");
+    wanted.log = log;
+    let mut bench = Bench::make(alloc, wanted.sizes())?;
+    let mut made = 0u64;
+    let mut refused = 0u64;
+    for edit in 0..edits {
+        match bench.edit_alone(&entry_from(edit), &mut KeepEven) {
+            Ok(_) => made = made.saturating_add(1),
+            Err(_) => refused = refused.saturating_add(1),
+        }
+    }
+    let rows = told_rows(alloc, &mut bench)?;
+    let version = bench.version();
+    format!(in alloc; " made {made} refused {refused} at version {version}:{rows}")
+}
+
 /// What the bench has once it is gathered, and after each of so many edits that
 /// keep the even keys.
 pub(crate) fn told_alone(alloc: Global, edits: u64) -> Result<String, AllocError> {

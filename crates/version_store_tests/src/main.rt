@@ -2,8 +2,9 @@
 //! answer.
 //!
 //! A line has the sizes of the table that are not the largest, how many passes there are, and commands, with a
-//! semicolon between two. A line of `threads` or of `soak` has passes and an editor work at the same time, and one of `alone` has a
-//! bench that was gathered make some versions. The output that is wanted was worked out from the definitions.
+//! semicolon between two. A line of `threads` or of `soak` has passes and an editor work at the same time, one of
+//! `alone` has a bench that was gathered make some versions, and one of `counts` has a new bench with a log of this
+//! size make so many. The output that is wanted was worked out from the definitions.
 #![tactic(auto)]
 
 mod alone;
@@ -24,6 +25,10 @@ fn told_line<R: Threads + Sync>(rt: &HostRuntime, threads: &R, line: &str) -> io
     }
     if let Some(count) = line.strip_prefix("soak ") {
         return Ok(working::told_soak(threads, rt.alloc(), count)?);
+    }
+    if let Some(counts) = line.strip_prefix("counts ") {
+        let (log, edits) = counts.split_once(' ').unwrap_or((counts, "1"));
+        return Ok(alone::told_counts(rt.alloc(), number(log), number(edits))?);
     }
     if let Some(edits) = line.strip_prefix("alone ") {
         return Ok(alone::told_alone(rt.alloc(), number(edits))?);
