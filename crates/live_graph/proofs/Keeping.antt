@@ -1,7 +1,9 @@
 -- What a graph over a page keeps stays true of it, whichever key is asked for.
 use Rattle.std.proofs.Common.{◌≡◌, ◌⊎◌, inl, inr, ℕ, ◌<◌, List, [], ◌∷◌, ◌++◌, Result, Ok, Err, OnOk, OnErr, length, Contains, refl, sym, ap, ◌∙◌, subst, arith}
 use Rattle.std.proofs.lemmas.List.Elements.{Contains-push_cases}
+use Rattle.forest.specs.Distinct.{IsDistinct}
 use Rattle.edit_log.specs.History.{Grammar}
+use Rattle.edit_log.proofs.PlainLists.{distinct_push}
 use Rattle.item_sets.specs.declared.item.Item.{Item}
 use Rattle.item_sets.specs.declared.expansion.Expansion.{Expansion}
 use Rattle.isg_states.specs.declared.scan_key.ScanKey.{ScanKey}
@@ -13,12 +15,12 @@ use Rattle.graph_content.specs.Contents.{IsLogOfGrammar}
 use Rattle.live_graph.specs.declared.origin.Origin.{Origin}
 use Rattle.live_graph.specs.declared.origin.Origin.TheVariants.{Found, Made, Raced, Alone}
 use Rattle.live_graph.specs.declared.answer.Answer.{Answer}
-use Rattle.live_graph.specs.Sharing.{Shared}
+use Rattle.live_graph.specs.Sharing.{keys_in}
 use Rattle.live_graph.specs.Ending.{Ends}
 use Rattle.live_graph.specs.Showing.{Comes, IsLater, HasNoRow, HasNoPlace, WasFound, WasMade, WasThere, Came}
 use Rattle.live_graph.specs.Answers.{HasCome, Grows, origins, HoldsAnswers, HoldsOrigins, ExpandsKernel, ExpandsScan, kernel_key, scan_key, IsKept}
 use Rattle.live_graph.proofs.Steps.{came_before, came_behind, shown, comes_join, comes_none}
-use Rattle.live_graph.proofs.KeptAnswers.{origins_push}
+use Rattle.live_graph.proofs.KeptAnswers.{origins_push, keys_push}
 
 -- ---- a page with more steps is the same page
 
@@ -49,7 +51,7 @@ came_on basis page added steps grammar key origin is came =
 pub record HasGrown {K E : Type 0} (grammar : Grammar) (as_key : K → Key) (page next : PageMeaning) (old new : List (K × Answer E)) : Type 0 where
   pub more : List Step
   pub comes : Comes page next more
-  pub kept : (new ≡ old) ⊎ ((key : K) × (answer : Answer E) × (new ≡ old ++ (key, answer) ∷ []) × Came page more grammar (as_key key) answer.origin)
+  pub kept : (new ≡ old) ⊎ ((key : K) × (answer : Answer E) × (Contains (keys_in (origins old)) key → ⊥) × (new ≡ old ++ (key, answer) ∷ []) × Came page more grammar (as_key key) answer.origin)
 
 pub grown : {K E : Type 0} (grammar : Grammar) (as_key : K → Key) (page next : PageMeaning) (key : K) (old new : List (K × Answer E))
     → Grows grammar as_key page next key old new → HasGrown grammar as_key page next old new
@@ -58,10 +60,10 @@ grown grammar as_key page next key old new (inl (same, kept)) = record {
   comes = subst (λ m. Comes page m []) (sym same) (comes_none page);
   kept = inl kept;
 }
-grown grammar as_key page next key old new (inr (answer, kept, come)) = record {
+grown grammar as_key page next key old new (inr (answer, new_key, kept, come)) = record {
   more = come.added;
   comes = come.comes;
-  kept = inr (key, answer, kept, come.came);
+  kept = inr (key, answer, new_key, kept, come.came);
 }
 
 module _ {K : Type 0} (as_key : K → Key) (basis : PageMeaning) (added more : List Step) (grammar : Grammar) where
@@ -85,9 +87,18 @@ origins_grown grammar as_key basis page next added old new is grown holds = elim
   | inl same ↦
       subst (λ kept. HoldsOrigins as_key basis (added ++ grown.more) grammar (origins kept)) (sym same)
       (origins_stay as_key basis added grown.more grammar (origins old) holds)
-  | inr (key, answer, longer, came) ↦
+  | inr (key, answer, new_key, longer, came) ↦
       origins_grow as_key basis added grown.more grammar old new key answer longer holds
       (came_on basis page added grown.more grammar (as_key key) answer.origin is came)
+]
+
+once_grown : {K E : Type 0} (grammar : Grammar) (as_key : K → Key) (page next : PageMeaning) (old new : List (K × Answer E))
+    → HasGrown grammar as_key page next old new → IsDistinct (keys_in (origins old)) → IsDistinct (keys_in (origins new))
+once_grown grammar as_key page next old new grown once = elim grown.kept [
+  | inl same ↦ subst (λ kept. IsDistinct (keys_in (origins kept))) (sym same) once
+  | inr (key, answer, new_key, longer, came) ↦
+      subst (λ kept. IsDistinct (keys_in kept)) (sym (ap origins longer ∙ origins_push old key answer))
+      (subst IsDistinct (sym (keys_push (origins old) key answer.origin)) (distinct_push (keys_in (origins old)) key once new_key))
 ]
 
 -- ---- what is kept of both kinds
@@ -104,6 +115,8 @@ module _ (grammar : Grammar) (basis page next : PageMeaning) (scans : List (Scan
     kernel_expansions = holds;
     scan_origins = origins_stay scan_key basis kept.added grown.more grammar (origins scans) kept.scan_origins;
     kernel_origins = origins_grown grammar kernel_key basis page next kept.added kernels new kept.comes.is grown kept.kernel_origins;
+    scans_once = kept.scans_once;
+    kernels_once = once_grown grammar kernel_key page next kernels new grown kept.kernels_once;
     few_scans = kept.few_scans;
     few_kernels = few;
   }
@@ -118,6 +131,8 @@ module _ (grammar : Grammar) (basis page next : PageMeaning) (scans : List (Scan
     kernel_expansions = kept.kernel_expansions;
     scan_origins = origins_grown grammar scan_key basis page next kept.added scans new kept.comes.is grown kept.scan_origins;
     kernel_origins = origins_stay kernel_key basis kept.added grown.more grammar (origins kernels) kept.kernel_origins;
+    scans_once = once_grown grammar scan_key page next scans new grown kept.scans_once;
+    kernels_once = kept.kernels_once;
     few_scans = few;
     few_kernels = kept.few_kernels;
   }
@@ -150,6 +165,8 @@ kept_at_first grammar basis page scans kernels log same no_scan no_kernel =
       kernel_expansions = λ key answer there. absurd (nothing_in there);
       scan_origins = λ key origin there. absurd (nothing_in there);
       kernel_origins = λ key origin there. absurd (nothing_in there);
+      scans_once = tt;
+      kernels_once = tt;
       few_scans = omega arith;
       few_kernels = omega arith;
     }
@@ -158,6 +175,8 @@ pub kept_ends : (grammar : Grammar) (basis page : PageMeaning) (scans : List (Sc
     (kernels : List (List Item × Answer Expansion)) → IsKept grammar basis page scans kernels
     → Ends (record { grammar = grammar; basis = basis; page = page; scans = origins scans; kernels = origins kernels })
 kept_ends grammar basis page scans kernels kept = record {
+  kernels_once = kept.kernels_once;
+  scans_once = kept.scans_once;
   added = kept.added;
   comes = kept.comes;
   kernels_came = kept.kernel_origins;

@@ -13,7 +13,7 @@ use Rattle.live_graph.specs.declared.origin.Origin.{Origin}
 use Rattle.live_graph.specs.declared.origin.Origin.TheVariants.{Found, Made, Raced, Alone}
 use Rattle.live_graph.specs.declared.answer.Answer.{Answer}
 use Rattle.live_graph.specs.Asking.{Joins, Works, Asks}
-use Rattle.live_graph.specs.Sharing.{own_with, own_keys, asked_with}
+use Rattle.live_graph.specs.Sharing.{own_with, own_keys, keys_in, asked_with}
 use Rattle.live_graph.specs.Answers.{Pays, origins, HoldsAnswers, StandsAnswer}
 use Rattle.live_graph.proofs.KeptEntries.{StandsAt, stands_at, IsPut, is_put}
 
@@ -28,8 +28,8 @@ pub origins_push : {K E : Type 0} (kept : List (K × Answer E)) (key : K) (answe
 origins_push [] key answer = refl
 origins_push (one ∷ kept) key answer = ap (λ all. (one.0, one.1.origin) ∷ all) (origins_push kept key answer)
 
-keys_push : {K : Type 0} (kept : List (K × Origin)) (key : K) (origin : Origin)
-    → map (λ one. one.0) (kept ++ (key, origin) ∷ []) ≡ map (λ one. one.0) kept ++ key ∷ []
+pub keys_push : {K : Type 0} (kept : List (K × Origin)) (key : K) (origin : Origin)
+    → keys_in (kept ++ (key, origin) ∷ []) ≡ keys_in kept ++ key ∷ []
 keys_push kept key origin = map-append (λ one. one.0) kept ((key, origin) ∷ [])
 
 with_push : {K : Type 0} (origin : Origin) (first key : K) (own : List K) → own_with origin first (own ++ key ∷ []) ≡ own_with origin first own ++ key ∷ []
@@ -89,10 +89,12 @@ module _ {K E : Type 0} (eq : K → K → Bool) (laws : IsEquivalence eq) (same 
       }
 
   module _ (old new : List (K × Answer E)) (key : K) (answer : Answer E) (place : ℕ) (is : IsAnswered old new key answer place) where
+    pub not_asked : Contains (keys_in (origins old)) key → ⊥
+    not_asked asked = is.new_key (subst (λ keys. Contains keys key) (sym (same_keys old)) asked)
+
     pub asks : (Costs : K → ℕ → Type 0) (before after : ℕ) → Pays Costs key answer.origin before after
         → Asks Costs (asked_with (origins old)) key (asked_with (origins new)) before after
     asks Costs before after pays =
-        let not_asked : Contains (map (λ one. one.0) (origins old)) key → ⊥ = λ asked. is.new_key (subst (λ keys. Contains keys key) (sym (same_keys old)) asked) in
         subst (λ kept. Asks Costs (asked_with (origins old)) key (asked_with kept) before after) (sym (ap origins is.entries ∙ origins_push old key answer))
         (asks_one Costs (origins old) key before after not_asked answer.origin pays)
 

@@ -13,7 +13,7 @@ use Rattle.pin_rule.proofs.Lists.{each_append}
 use Rattle.slot_store.specs.Meaning.{Meaning as PageMeaning, extended}
 use Rattle.slot_store.specs.Logs.{IsEntryOf, IsLogLoad}
 use Rattle.slot_store.specs.Answers.{ReadsLog}
-use Rattle.graph_content.specs.Contents.{IsLogOf, IsLogOfGrammar}
+use Rattle.graph_content.specs.Contents.{IsLogOf, IsLogOfGrammar, IsLawfulLog}
 use Rattle.graph_content.proofs.LogLaws.{accepted_next, grammar_push}
 use Rattle.live_graph.specs.CatchingUp.{IsBehind, IsBehindAt}
 
@@ -135,3 +135,8 @@ reads_none m = ([], ap (λ all. record m { steps = all }) (sym (append-nil m.ste
 
 pub reads_same_log : (old new : PageMeaning) → ReadsLog old new → new.log ≡ old.log
 reads_same_log old new (added, is, loads) = ap (λ (m : PageMeaning). m.log) is
+
+-- ---- from nothing
+
+pub from_nothing : (log : List Entry) (grammar : Grammar) → grammar ≡ empty_grammar → IsLawfulLog log → IsBehind log grammar
+from_nothing log grammar made (history, is) = record { history = []; rest = history; is = is; made = made }

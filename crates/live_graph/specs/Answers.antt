@@ -1,5 +1,6 @@
 -- What a page and a user of it answer about one key: parts of the work of a graph over the page.
 use Rattle.std.specs.Prelude.{◌≡◌, ◌⊎◌, ℕ, ◌+◌, ◌-◌, ◌<◌, List, [], ◌∷◌, ◌++◌, Contains, length, map, slice_get, Some, None, Option, Result, IfOk}
+use Rattle.forest.specs.Distinct.{IsDistinct}
 use Rattle.edit_log.specs.History.{Grammar}
 use Rattle.item_sets.specs.declared.item.Item.{Item}
 use Rattle.item_sets.specs.declared.expansion.Expansion.{Expansion}
@@ -18,6 +19,7 @@ use Rattle.graph_content.specs.Contents.{FitsLog, IsLogOfGrammar}
 use Rattle.live_graph.specs.declared.origin.Origin.{Origin}
 use Rattle.live_graph.specs.declared.origin.Origin.TheVariants.{Found, Made, Raced, Alone}
 use Rattle.live_graph.specs.declared.answer.Answer.{Answer}
+use Rattle.live_graph.specs.Sharing.{keys_in}
 use Rattle.live_graph.specs.Showing.{Comes, Came}
 
 -- the words code this expansion
@@ -88,7 +90,8 @@ HoldsAnswers Expands kept = (key : _) (answer : _) → Contains kept (key, answe
 -- the key was kept before, and nothing was done; or it was not, its expansion came, and it stands behind the others
 abbrev pub Grows : {K E : Type 0} → Grammar → (K → Key) → (old new : PageMeaning) → K → (before after : List (K × Answer E)) → Type 0
 Grows grammar as_key old new key before after = ((new ≡ old) × (after ≡ before))
-    ⊎ ((answer : _) × (after ≡ before ++ (key, answer) ∷ []) × HasCome grammar old new (as_key key) answer.origin)
+    ⊎ ((answer : _) × (Contains (keys_in (origins before)) key → ⊥) × (after ≡ before ++ (key, answer) ∷ []) × HasCome grammar old new (as_key key)
+    answer.origin)
 
 -- each key is kept with how its expansion came, as the steps show
 abbrev pub HoldsOrigins : {K : Type 0} → (K → Key) → PageMeaning → List Step → Grammar → List (K × Origin) → Type 0
@@ -122,5 +125,7 @@ pub record IsKept (grammar : Grammar) (basis page : PageMeaning) (scans : List (
   pub kernel_expansions : HoldsAnswers (ExpandsKernel grammar) kernels
   pub scan_origins : HoldsOrigins scan_key basis added grammar (origins scans)
   pub kernel_origins : HoldsOrigins kernel_key basis added grammar (origins kernels)
+  pub scans_once : IsDistinct (keys_in (origins scans))
+  pub kernels_once : IsDistinct (keys_in (origins kernels))
   pub few_scans : length scans < 4294967296
   pub few_kernels : length kernels < 4294967296

@@ -27,9 +27,12 @@ abbrev pub own_keys : {Key : Type 0} → List (Key × Origin) → List Key
 own_keys [] = []
 own_keys (one ∷ others) = own_with one.1 one.0 (own_keys others)
 
+abbrev pub keys_in : {Key : Type 0} → List (Key × Origin) → List Key
+keys_in kept = map (λ one. one.0) kept
+
 -- the keys that were asked for, and those that the graph expanded itself
 abbrev pub asked_with : {Key : Type 0} → List (Key × Origin) → Asked Key
-asked_with kept = record { keys = map (λ one. one.0) kept; own = own_keys kept }
+asked_with kept = record { keys = keys_in kept; own = own_keys kept }
 
 -- what such a graph means: it stands on what its page meant at first
 abbrev pub means_shared : Shared → Meaning PageMeaning

@@ -4,7 +4,7 @@ use Rattle.isg_states.specs.Sameness.{key_eq, key_eq-decides}
 use Rattle.isg_states.specs.Expansion.{IsScanCost}
 use Rattle.live_graph.specs.Answers.{ExpandsScan}
 use Rattle.live_graph.proofs.KeptEntries.{stands_at}
-use Rattle.live_graph.proofs.KeptAnswers.{IsAnswered, is_answered, asks_again, asks, holds}
+use Rattle.live_graph.proofs.KeptAnswers.{IsAnswered, is_answered, asks_again, not_asked, asks, holds}
 use Rattle.live_graph.proofs.shared_kept.place_of_scan.Goals as goal
 use Rattle.live_graph.proofs.shared_kept.place_of_scan.Goals.{In_ok-place}
 
@@ -48,7 +48,9 @@ returns-clause-grows g c =
     let put = is_answered key_eq (decided key_eq key_eq-decides) key_eq-decides c.args.kept.now.entries c.reserve.new.self.entries
     c.insert_full.new.self.entries c.args.state.now c.in_ok-own.own c.in_ok-answer.answer c.in_ok-place.place c.reserve.ensures.entries
     c.in_ok-own.ensures.cases (sym c.in_default.ensures.index) c.in_ok-place.ensures.entries c.in_ok-place.ensures.index in
-    inr (c.in_ok-answer.answer, put.entries, c.in_ok-answer.ensures.came)
+    let new_key = not_asked key_eq (decided key_eq key_eq-decides) key_eq-decides c.args.kept.now.entries c.insert_full.new.self.entries c.args.state.now
+    c.in_ok-answer.answer c.in_ok-place.place put in
+    inr (c.in_ok-answer.answer, new_key, put.entries, c.in_ok-answer.ensures.came)
 
 pub returns-clause-holds : goal.returns-clause-holds
 returns-clause-holds g c =
