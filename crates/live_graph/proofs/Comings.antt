@@ -15,33 +15,34 @@ use Rattle.live_graph.specs.Answers.{IsMissing, Looks, HasLooked, Offers, HasOff
 use Rattle.live_graph.proofs.Steps.{whole_part, comes_join}
 use Rattle.live_graph.proofs.RowsOfKeys.{codes}
 
-module _ {E : Type 0} (Codes : List ℕ → E → Type 0) (grammar : Grammar) (m n : PageMeaning) (key : Key) (words : List ℕ) (words_are : words ≡ key_words key) where
-  -- the payload that was found, of which the expansion was read
-  pub record IsRead (expansion : E) : Type 0 where
-    pub payload : List ℕ
-    pub read : Codes payload expansion
-    pub fitting : FitsLog m.log (row_of (key_words key) payload)
+module _ {E : Type 0} (Codes : List ℕ → E → Type 0) (grammar : Grammar) (m n : PageMeaning) (key : Key) (words : List ℕ) (words_are : words ≡ key_words key)
+  where
+    -- the payload that was found, of which the expansion was read
+    pub record IsRead (expansion : E) : Type 0 where
+      pub payload : List ℕ
+      pub read : Codes payload expansion
+      pub fitting : FitsLog m.log (row_of (key_words key) payload)
 
-  pub was_read : (expansion : E) → HasLooked Codes m n words (Some expansion) → IsRead expansion
-  was_read expansion looked = record {
-    payload = looked.looks.0;
-    read = looked.looks.1;
-    fitting = subst (λ k. FitsLog m.log (row_of k looked.looks.0)) words_are looked.looks.2.fitting;
-  }
+    pub was_read : (expansion : E) → HasLooked Codes m n words (Some expansion) → IsRead expansion
+    was_read expansion looked = record {
+      payload = looked.looks.0;
+      read = looked.looks.1;
+      fitting = subst (λ k. FitsLog m.log (row_of k looked.looks.0)) words_are looked.looks.2.fitting;
+    }
 
-  pub found_came : (expansion : E) → IsLogOfGrammar m.log grammar → IsKey grammar key → HasLooked Codes m n words (Some expansion)
-      → HasCome grammar m n key Found
-  found_came expansion is names looked_at =
-      let looked : HasLooked Codes m n (key_words key) (Some expansion) = subst (λ k. HasLooked Codes m n k (Some expansion)) words_are looked_at in
-      let payload = looked.looks.0 in record {
-        added = looked.added;
-        comes = looked.comes;
-        came = (
-          payload,
-          codes m.log grammar is key payload names looked.looks.2.fitting,
-          record { look = looked.added; part = whole_part looked.added; found = looked.looks.2 },
-        );
-      }
+    pub found_came : (expansion : E) → IsLogOfGrammar m.log grammar → IsKey grammar key → HasLooked Codes m n words (Some expansion)
+        → HasCome grammar m n key Found
+    found_came expansion is names looked_at =
+        let looked : HasLooked Codes m n (key_words key) (Some expansion) = subst (λ k. HasLooked Codes m n k (Some expansion)) words_are looked_at in
+        let payload = looked.looks.0 in record {
+          added = looked.added;
+          comes = looked.comes;
+          came = (
+            payload,
+            codes m.log grammar is key payload names looked.looks.2.fitting,
+            record { look = looked.added; part = whole_part looked.added; found = looked.looks.2 },
+          );
+        }
 
 -- a part that ends the steps
 last_part : (front part : List Step) → IsPart part (front ++ part)

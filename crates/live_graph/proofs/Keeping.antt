@@ -51,7 +51,8 @@ came_on basis page added steps grammar key origin is came =
 pub record HasGrown {K E : Type 0} (grammar : Grammar) (as_key : K → Key) (page next : PageMeaning) (old new : List (K × Answer E)) : Type 0 where
   pub more : List Step
   pub comes : Comes page next more
-  pub kept : (new ≡ old) ⊎ ((key : K) × (answer : Answer E) × (Contains (keys_in (origins old)) key → ⊥) × (new ≡ old ++ (key, answer) ∷ []) × Came page more grammar (as_key key) answer.origin)
+  pub kept : (new ≡ old) ⊎ ((key : K) × (answer : Answer E) × (Contains (keys_in (origins old)) key → ⊥) × (new ≡ old ++ (key, answer) ∷ [])
+      × Came page more grammar (as_key key) answer.origin)
 
 pub grown : {K E : Type 0} (grammar : Grammar) (as_key : K → Key) (page next : PageMeaning) (key : K) (old new : List (K × Answer E))
     → Grows grammar as_key page next key old new → HasGrown grammar as_key page next old new
@@ -75,7 +76,7 @@ module _ {K : Type 0} (as_key : K → Key) (basis : PageMeaning) (added more : L
       → HoldsOrigins as_key basis (added ++ more) grammar (origins new)
   origins_grow old new key answer is holds came other origin there =
       elim (Contains-push_cases (origins old) (key, answer.origin) (other, origin)
-          (subst (λ list. Contains list (other, origin)) (ap origins is ∙ origins_push old key answer) there)) [
+      (subst (λ list. Contains list (other, origin)) (ap origins is ∙ origins_push old key answer) there)) [
         | inl before ↦ came_before basis added more grammar (as_key other) origin (holds other origin before)
         | inr last ↦ subst (λ (one : K × Origin). Came basis (added ++ more) grammar (as_key one.0) one.1) last came
       ]

@@ -66,8 +66,7 @@ module _ (log : List Entry) (grammar : Grammar) (is : IsLogOfGrammar log grammar
   pub readable_scan : (key : ScanKey) (payload : List ℕ) → IsKey grammar (scan key) → FitsLog log (row_of (key_words (scan key)) payload)
       → CanReadScan payload
   readable_scan key payload names row =
-      let (expansion, expands, words) = codes (scan key) payload names row in
-      (
+      let (expansion, expands, words) = codes (scan key) payload names row in (
         expansion,
         scans_fit.indices_fit grammar well few_marks key expansion expands,
         scans_fit.are_typed grammar well few_marks key expansion expands,

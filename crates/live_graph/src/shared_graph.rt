@@ -62,7 +62,12 @@ impl<P: Page<GraphRows>> SharedGraph<'_, P> {
     ) -> Result<SharedGraph<'_, P>, (P, NoMemory)>
         requires { IsLogOfGrammar (P.means page).log grammar.now.grammar }
         ensures graph { IfOk result (λ graph. graph ≡ record {
-          grammar = grammar.now.grammar; basis = P.means page; page = P.means page; scans = []; kernels = [] }) }
+          grammar = grammar.now.grammar;
+          basis = P.means page;
+          page = P.means page;
+          scans = [];
+          kernels = [];
+        }) }
         ensures refused { IfErr result (λ refused. refused.0 ≡ page) }
     {
         let basis = Snapshot::of(&page);

@@ -35,7 +35,7 @@ fn node_of(alloc: Global, table: &Table, number: u32) -> Result<Node, NoMemory>
 fn nodes_for(alloc: Global, table: &Table, headers: &[Header]) -> Result<Vec<Node>, NoMemory>
     requires table { IsTable table.now.spans.items table.now.splits.items table.now.parts.items }
     requires known { (header : Header) → Contains headers.now header → header.number < length table.now.spans.items }
-    ensures { IfOk result (λ nodes. AreNodesFor table.now.spans.items table.now.splits.items table.now.parts.items headers.now (length headers.now) nodes.items) }
+    ensures { IfOk result (λ ns. AreNodesFor table.now.spans.items table.now.splits.items table.now.parts.items headers.now (length headers.now) ns.items) }
 {
     let mut nodes = Vec::with_capacity(alloc, headers.len())?;
     for at in 0..headers.len() {

@@ -16,7 +16,8 @@ module _ {X Y : Type 0} (f : X → Option Y) (key : X → ℕ) (number : Y → �
   made_ascends [] numbers sorted = tt
   made_ascends (x ∷ xs) numbers sorted = by (f x) refl (made_ascends xs (λ a b there is. numbers a b (contains_there x xs a there) is) sorted.1)
     where
-      by : (o : Option Y) → f x ≡ o → IsStrictlySortedBy (by_key number) (filter_map f xs) → IsStrictlySortedBy (by_key number) (cons_option o (filter_map f xs))
+      by : (o : Option Y) → f x ≡ o → IsStrictlySortedBy (by_key number) (filter_map f xs)
+          → IsStrictlySortedBy (by_key number) (cons_option o (filter_map f xs))
       by None e rest = rest
       by (Some y) e rest = (
         all_of (λ other. by_key number y other ≡ Less) (filter_map f xs) (λ other c.

@@ -169,7 +169,7 @@ module _ {Base : Type 0} (tokens : List SymbolId) (old p : Parser) (graph first 
               walking.fresh down.walked down.next_is.is.0);
         } in
         let leveled = subst (λ (lv : Level). IsWalking rules (found p) lv.first_link lv.at walk edge.lower (left - 1) meets trail.items) (sym down.step.level)
-            here in
+        here in
         subst (λ (gr : Grammar). IsWalking gr.rules (found p) p.level.first_link p.level.at walk edge.lower (left - 1) meets trail.items)
         (sym down.stands.grammar) leveled
 
@@ -247,8 +247,13 @@ whole_reduces rules f first_link at walk node left met trail zero_left is_met wa
   labels = here.labels;
   reducible = here.partial;
   untold = λ split c number told. here.fresh split c
-      (record { trail = trail; told = told; number = number; through = whole_through rules f first_link at walk node met trail is_met here; ends = ([], refl)
-          });
+      (record {
+        trail = trail;
+        told = told;
+        number = number;
+        through = whole_through rules f first_link at walk node met trail is_met here;
+        ends = ([], refl);
+      });
 }
   where
     here : IsWalking rules f first_link at walk node 0 met trail

@@ -286,7 +286,7 @@ module _ (rules : List Rule) (tokens : List SymbolId) (f : Found) (end : IsDone 
       ] in
       let p = packed rules tokens f end l.label (span_of v.rule.left v.from v.to) at v.rule v.live refl v.ends v.along in
       let spans : p.tells.span ≡ span_of v.rule.left v.from v.to = one_at f.spans l.label _ _
-          (subst (λ n. slice_get f.spans n ≡ Some p.tells.span) p.of p.tells.at) at in
+      (subst (λ n. slice_get f.spans n ≡ Some p.tells.span) p.of p.tells.at) at in
       let from : p.tells.span.from ≡ v.from = ap (λ (s : Span). s.from) spans in
       let is : split_in f p.split ≡ split =
       tells_read rules tokens f few p.split v.rule v.ends p.tells

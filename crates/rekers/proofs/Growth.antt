@@ -93,7 +93,7 @@ pub trail_back : {links more : List Edge} {node top : ℕ} {trail labels : List 
 trail_back k here below = here
 trail_back {links} {more} k (over {link = link} {trail = trail} e t) below =
     over (keeps_back links more k link _ (below link (contains_here link trail)) e)
-        (trail_back k t (λ other c. below other (contains_there link trail other c)))
+    (trail_back k t (λ other c. below other (contains_there link trail other c)))
 
 pub trail_links : {links : List Edge} {node top : ℕ} {trail labels : List ℕ} {xs : List SymbolId} → IsTrail links node trail xs labels top
     → (link : ℕ) → Contains trail link → link < length links

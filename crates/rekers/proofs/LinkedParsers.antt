@@ -27,7 +27,7 @@ packed_is : (packed : Packed) (spans : List Span) (p : Packed) → packed.spans 
     → record { spans = spans; splits = p.splits } ≡ packed
 packed_is packed spans p e g =
     sym (ap (λ ss. let it : Packed = record { spans = ss; splits = packed.splits } in it) e
-        ∙ ap (λ ts. let it : Packed = record { spans = spans; splits = ts } in it) g)
+    ∙ ap (λ ts. let it : Packed = record { spans = spans; splits = ts } in it) g)
 
 module _ (rules : List Rule) (tokens : List SymbolId) (p : Parser) (sound : IsSound rules tokens p) (lower upper : ℕ) (x : SymbolId)
     (linkable : IsLinkable rules tokens (found p) lower x p.level.at) (is_upper : IsUpper rules (found p) p.level.at lower x upper)
@@ -94,7 +94,7 @@ module _ (rules : List Rule) (tokens : List SymbolId) (p : Parser) (sound : IsSo
         sound.graph.owned,
       ) in
       let owner_is = new_owner rules tokens (found p) sound.graph p.level.at p.level.first_node p.level.first_link sound.level lower upper label x linkable
-          is_upper unlinked
+      is_upper unlinked
       spans' owners.items keep keeps nonterminal first in
       let joined : IsSound rules tokens (record p {
         stacks = record { nodes = p.stacks.nodes; links = p.stacks.links ++ edge ∷ [] };
@@ -113,7 +113,7 @@ module _ (rules : List Rule) (tokens : List SymbolId) (p : Parser) (sound : IsSo
               | inl before ↦ inl before
               | inr last ↦ inr (subst (λ o. IsOwner rules (with_link (found p) edge spans' owners.items) number o) (sym last.1)
                   (subst (λ n. IsOwner rules (with_link (found p) edge spans' owners.items) n (length p.stacks.links)) (sym (last.0 ∙ sound.graph.owned))
-                      owner_is))
+                  owner_is))
             ]);
         level = link_level rules tokens (found p) sound.graph p.level.at p.level.first_node p.level.first_link sound.level lower upper label x linkable is_upper
             unlinked
@@ -125,7 +125,7 @@ module _ (rules : List Rule) (tokens : List SymbolId) (p : Parser) (sound : IsSo
         spans_below = omega (arith, few, length-append p.spans.spans (own_span ∷ []));
       } in
       let grown = link_grows_by rules tokens (found p) sound.graph p.level.at p.level.first_node p.level.first_link sound.level lower upper label x linkable
-          is_upper unlinked
+      is_upper unlinked
       spans' owners.items keep keeps in
       let graphs = graph_is graph p.stacks.nodes (p.stacks.links ++ edge ∷ []) nodes links in
       let packs = packed_is packed spans' p.spans spans splits in (
@@ -149,7 +149,7 @@ module _ (rules : List Rule) (tokens : List SymbolId) (p : Parser) (sound : IsSo
   pub linked_to : (graph : PlaceGraph) (kernels : List (List Item)) (label link : ℕ) (spans : List Span) (splits : List PackedSplit) (owners : List ℕ)
       → graph.nodes ≡ p.stacks.nodes → graph.links ≡ p.stacks.links ++ edge_of upper x lower label ∷ [] → link ≡ length p.stacks.links
       → IsLinkTo (record { kernels = kernels; nodes = graph.nodes; links = graph.links; spans = spans; splits = splits; owners = owners }) link lower x
-          p.level.at label
+      p.level.at label
   linked_to graph kernels label link spans splits owners nodes links last = record {
     upper = upper;
     state = is_upper.state;

@@ -109,7 +109,7 @@ module _ (rules : List Rule) (tokens : List SymbolId) (f : Found) (sound : IsSou
             let above_at : above.at ≡ at = ap (λ (p : Place). p.at) (one_at f.nodes upper above _
             (subst (λ (q : Edge). slice_get f.nodes q.upper ≡ Some above) last.1 there') is_upper.there) in
             absurd (other_link a one up before (low ∙ ap (λ (q : Edge). q.lower) last.1) (same ∙ ap (λ (q : Edge). q.symbol) last.1) there
-                (level_same ∙ above_at))
+            (level_same ∙ above_at))
       ]
       | inr last ↦
           let up_at : up.at ≡ at = ap (λ (p : Place). p.at) (one_at f.nodes upper up _

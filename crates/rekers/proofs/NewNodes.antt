@@ -83,7 +83,7 @@ module _ (rules : List Rule) (tokens : List SymbolId) (f g : Found) (sound : IsS
   pub first_stays : {node : ℕ} {x : SymbolId} → node < length f.nodes → IsFirst rules f node x → IsFirst rules g node x
   first_stays {node} {x} below first = λ other i kernel own there at less moves.
       first other i kernel own (node_back rules tokens f g sound grows (omega (arith, below, less)) there) (node_back rules tokens f g sound grows below at)
-          less moves
+      less moves
 
   pub owner_stays : {span owner : ℕ} → IsOwner rules f span owner → IsOwner rules g span owner
   owner_stays {span} {owner} is = record {
@@ -217,7 +217,7 @@ module _ (rules : List Rule) (tokens : List SymbolId) (f : Found) (sound : IsSou
   pub openers_join : (openers openers' : List ℕ) → AreOpeners rules f openers at → length openers' ≡ length openers
       → ((i node : ℕ) → slice_get openers' i ≡ Some node
       → (slice_get openers i ≡ Some node)
-          ⊎ ((i ≡ at) × (node ≡ length f.nodes + 1) × (slice_get openers at ≡ Some (length f.nodes)) × (Opens rules kernel → ⊥)))
+      ⊎ ((i ≡ at) × (node ≡ length f.nodes + 1) × (slice_get openers at ≡ Some (length f.nodes)) × (Opens rules kernel → ⊥)))
       → AreOpeners rules (with_nodes f f.kernels (f.nodes ++ place_of state at ∷ [])) openers' at
   unfolding with_node
   openers_join openers openers' are size noted = record { size = size ∙ are.size; each = each }

@@ -28,7 +28,7 @@ pub graph_is : (graph : PlaceGraph) (nodes : List Place) (links : List Edge) →
     → record { nodes = nodes; links = links } ≡ graph
 graph_is graph nodes links e g =
     sym (ap (λ ns. let it : PlaceGraph = record { nodes = ns; links = graph.links } in it) e
-        ∙ ap (λ ls. let it : PlaceGraph = record { nodes = nodes; links = ls } in it) g)
+    ∙ ap (λ ls. let it : PlaceGraph = record { nodes = nodes; links = ls } in it) g)
 
 -- all nodes are at the level's place or before it
 pub highest : (f : Found) (at first_node first_link : ℕ) → IsLevel f at first_node first_link → (node : ℕ) (place : Place) → slice_get f.nodes node ≡ Some place
@@ -68,7 +68,7 @@ module _ (rules : List Rule) (tokens : List SymbolId) (p : Parser) (sound : IsSo
     Notes openers = (i node : ℕ) → slice_get openers i ≡ Some node
         → (slice_get p.openers.items i ≡ Some node)
         ⊎ ((i ≡ p.level.at) × (node ≡ length p.stacks.nodes + 1) × (slice_get p.openers.items p.level.at ≡ Some (length p.stacks.nodes))
-            × (Opens rules kernel → ⊥))
+        × (Opens rules kernel → ⊥))
 
     -- with one node more
     pub node_sound : (graph : PlaceGraph) (openers : Vec ℕ Global) → (HasNode p.stacks.nodes state p.level.at → ⊥)
@@ -77,7 +77,7 @@ module _ (rules : List Rule) (tokens : List SymbolId) (p : Parser) (sound : IsSo
     node_sound graph openers new nodes links size notes =
         let all = highest (found p) p.level.at p.level.first_node p.level.first_link sound.level in
         let joined : IsSound rules tokens
-            (record p { stacks = record { nodes = p.stacks.nodes ++ place_of state p.level.at ∷ []; links = p.stacks.links }; openers = openers }) =
+        (record p { stacks = record { nodes = p.stacks.nodes ++ place_of state p.level.at ∷ []; links = p.stacks.links }; openers = openers }) =
         record {
           numbered = sound.numbered;
           terminals = sound.terminals;

@@ -98,7 +98,7 @@ module _ (tokens : List SymbolId) (p q r : Parser) (first : q ≡ record p { sta
 
   pub shift_step : {Base : Type 0} (graph graph' : Meaning Base) (before after : ℕ) → Grows (found p) (found q) → (ArePlaced (found p) → ArePlaced (found q))
       → AsksNew p.states.kernels q.states.kernels graph graph' before after → IsSound graph'.grammar.rules tokens r
-          → IsStep tokens p r graph graph' before after
+      → IsStep tokens p r graph graph' before after
   shift_step graph graph' before after grows placed asks sound = record {
     sound = sound;
     grows = grows_on (found p) (found q) (found r) grows link_adds;

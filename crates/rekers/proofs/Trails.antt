@@ -219,7 +219,7 @@ module _ (rules : List Rule) (tokens : List SymbolId) (f : Found) (graph : IsSou
   -- reductions of one number from one node with the same labels go along one trail
   pub one_reducible : IsNumbered rules → {a b : Reduction} {lower : ℕ} {trail trail' labels : List ℕ} {top above at to : ℕ}
       → IsReducible rules f a lower trail labels top at → IsReducible rules f b lower trail' labels above to → a.rule ≡ b.rule → (trail ≡ trail')
-          × (top ≡ above)
+      × (top ≡ above)
   one_reducible numbers {lower = lower} {trail' = trail'} {labels = labels} {above = above} p q e =
       let same : q.rule ≡ p.rule = sym (one_rule numbers p q e) in
       one_trail p.along (subst (λ (r : Rule). IsTrail f.links lower trail' (drop 0 r.right) labels above) same q.along)
@@ -233,7 +233,7 @@ module _ (rules : List Rule) (tokens : List SymbolId) (f : Found) (graph : IsSou
       (subst (λ l. slice_get f.links l ≡ Some (edge_of a.owner_is.upper a.reduction.left a.lower split.span)) owner a.owner_is.there) b.owner_is.there in
       let lower : b.lower ≡ a.lower = ap (λ (e : Edge). e.lower) (sym edges) in
       one_reducible numbers a.reducible (subst (λ n. IsReducible rules f b.reduction n trail' split.parts above b.at) lower b.reducible)
-          (a.number ∙ sym b.number)
+      (a.number ∙ sym b.number)
 
   -- up a link the places do not fall
   pub link_rises : (link : ℕ) {upper : ℕ} {x : SymbolId} {lower label : ℕ} → slice_get f.links link ≡ Some (edge_of upper x lower label)

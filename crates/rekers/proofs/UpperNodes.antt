@@ -39,7 +39,7 @@ behind_reached rules tokens p sound lower x at f behind linkable is node kernel 
     let own : is.kernel ≡ linkable.kernel = (one_kernel is.node node).0 in
     let move = subst (λ k. IsMoveOf rules k x is.upper) own is.move in
     let reached = next_state rules (one_right rules sound.numbered) tokens (node_state rules tokens (found p) sound.graph linkable.node) linkable.derives move
-        in
+    in
     subst (λ k. IsStateAt rules tokens k at) (one_at f.kernels behind is.upper kernel is.is_kernel e) reached
 
 -- the nodes have one node more, or stay
@@ -92,7 +92,7 @@ module _ (p q r : Parser) (first : q ≡ record p { states = q.states }) (then :
   -- the new state has its node
   pub upper_placed : (node : ℕ) → slice_get r.stacks.nodes node ≡ Some (place_of state at)
       → ((number : ℕ) (kernel : List Item) → slice_get q.states.kernels number ≡ Some kernel → (number ≡ state)
-          ⊎ (slice_get p.states.kernels number ≡ Some kernel))
+      ⊎ (slice_get p.states.kernels number ≡ Some kernel))
       → ArePlaced (found p) → ArePlaced (found r)
   upper_placed node there others placed number kernel e =
       let was = subst (λ ss. slice_get ss.kernels number ≡ Some kernel) states_same e in

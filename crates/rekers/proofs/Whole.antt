@@ -48,11 +48,11 @@ pub record IsDone (rules : List Rule) (tokens : List SymbolId) (f : Found) : Typ
 
 -- a trail with labels that stand along the cuts
 pub record IsTrailAlong (rules : List Rule) (tokens : List SymbolId) (f : Found) (node : ℕ) (xs : List SymbolId) (i : ℕ) (cuts : List ℕ) (top j : ℕ) : Type 0
-    where
-  pub trail : List ℕ
-  pub labels : List ℕ
-  pub along : IsTrail f.links node trail xs labels top
-  pub stands : StandsAlong rules tokens f.spans xs i labels cuts j
+  where
+    pub trail : List ℕ
+    pub labels : List ℕ
+    pub along : IsTrail f.links node trail xs labels top
+    pub stands : StandsAlong rules tokens f.spans xs i labels cuts j
 
 is_below : (links nodes : ℕ) (trail : List ℕ) (top : ℕ) → top < nodes → ((link : ℕ) → Contains trail link → link < links) → IsBelow links nodes trail top
 is_below links nodes [] top l g = l

@@ -108,8 +108,12 @@ impl Parser {
         ensures links { OnOk result (self.new.stacks.links ≡ self.old.stacks.links ++ edge_of upper symbol lower (length self.old.spans.spans) ∷ []) }
         ensures nodes { OnOk result (self.new.stacks.nodes ≡ self.old.stacks.nodes) }
         ensures splits { OnOk result (self.new.spans.splits ≡ self.old.spans.splits) }
-        ensures same { OnOk result (self.new ≡ record self.old { stacks = self.new.stacks;
-            spans = self.new.spans; owners = self.new.owners; is_flat = self.new.is_flat }) }
+        ensures same { OnOk result (self.new ≡ record self.old {
+          stacks = self.new.stacks;
+          spans = self.new.spans;
+          owners = self.new.owners;
+          is_flat = self.new.is_flat;
+        }) }
     {
         let from = self.stacks.place(lower).at;
         let span = self.spans.add_span(symbol, from, self.level.at)?;

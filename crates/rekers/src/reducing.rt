@@ -192,7 +192,10 @@ impl Parser {
         ensures stands { Stands (G.means graph.old) (G.means graph.new) }
         ensures never_back { steps.old ≤ steps.new }
     {
-        let Some(link) = self.stacks.link_above(lower, reduction.left, self.level.first_link) else {
+        let Some(link) = self
+            .stacks
+            .link_above(lower, reduction.left, self.level.first_link)
+        else {
             return self.reduce_new(graph, tokens, reduction, lower, top, steps);
         };
         let span = self.stacks.edge(link).label;

@@ -46,7 +46,8 @@ module _ (keeps next : List ℕ → Type 0) (z : Sizes) where
 
   module _ (found : List (Option Found)) (places : List ℕ) (h : HasChosen keeps next z found places) where
     -- the places stay, though one more was looked at
-    longer : (x : Option Found) → ((o : ℕ) (f : Found) → IsAt (found ++ x ∷ []) o f → keeps f.words → IsAt found o f) → HasChosen keeps next z (found ++ x ∷ []) places
+    longer : (x : Option Found) → ((o : ℕ) (f : Found) → IsAt (found ++ x ∷ []) o f → keeps f.words → IsAt found o f)
+        → HasChosen keeps next z (found ++ x ∷ []) places
     longer x back = record {
       room = h.room;
       few = (let a = h.few in let n = length-append found (x ∷ []) in omega arith);

@@ -104,7 +104,8 @@ module _ (c : Leaving) (m : CarriedRows) (r : Role) (g : GivingUp) (place : ℕ)
         pub frees_row : (w : View) → w ≡ after_free_row u row → FreesPlace c m r g place n v w
         frees_row w freed = record {
           goes = goes_as v w _ (place_frees c.sizes (oldest r).carried c.page place n) (steps_met false e)
-              (goes_on v u w (loaded_place c.sizes c.page place n ∷ []) (freed_row c.sizes row ∷ []) loads (subst (λ (t : View). Goes u t (freed_row c.sizes row ∷ []))
+              (goes_on v u w (loaded_place c.sizes c.page place n ∷ []) (freed_row c.sizes row ∷ []) loads
+              (subst (λ (t : View). Goes u t (freed_row c.sizes row ∷ []))
               (sym freed) (record {
                 stays = record { sizes = refl; share = refl; pins_left = refl; log_words = refl; pinned = refl; own = refl };
                 log = refl;
@@ -161,5 +162,6 @@ module _ (c : Leaving) (m : CarriedRows) (r : Role) (g : GivingUp) (v : View) (h
           ++ place_frees c.sizes (oldest r).carried c.page i met) many))
           (goes_on v w u (page_frees c.sizes (oldest r).carried c.page 0 ns) _ so_far.goes f.goes);
       known = f.known ∙ so_far.known;
-      role = f.role ∙ ap (λ (i : ℕ). Some (role_at c.sizes r g i)) (let n = length-append ns (met ∷ []) in let k : suc place ≡ length (ns ++ met ∷ []) = omega arith in k);
+      role = f.role ∙ ap (λ (i : ℕ). Some (role_at c.sizes r g i)) (let n = length-append ns (met ∷ []) in
+          let k : suc place ≡ length (ns ++ met ∷ []) = omega arith in k);
     }

@@ -55,22 +55,23 @@ module _ (v : View) (r : Role) (a : Older) (os : List Older) (n : ℕ) (u : View
 
   pub keeps : (t : TableId × ℕ) (released : ℕ) → role_of v ≡ r → (last_of a os).live.base + released ≡ n → released < (last_of a os).taken
       → KeepsOldest (editor_meaning v t) (editor_meaning u t) released
-  keeps t released same base below = let stays = role_stays (λ e. omega arith) in let now : role_of u ≡ role_of v = ap role_or_first stays ∙ sym same in record {
-    oldest = last_of a os;
-    rest = before_last a os;
-    older = ap (λ (y : Role). y.older) same ∙ older ∙ before_and_last a os;
-    below = below;
-    is = λ i. record {
-      sizes = loads.stays.sizes i;
-      log = loads.log i;
-      table = t;
-      share = loads.stays.share i;
-      pins_left = loads.stays.pins_left i;
-      newest = (now i).newest;
-      older = (now i).older;
-      steps = (loads.steps ∙ ap (λ (k : ℕ). v.steps ++ loaded_release v.sizes (last_of a os).live.page k ∷ []) (sym base)) i;
-    };
-  }
+  keeps t released same base below = let stays = role_stays (λ e. omega arith) in let now : role_of u ≡ role_of v = ap role_or_first stays ∙ sym same in
+      record {
+        oldest = last_of a os;
+        rest = before_last a os;
+        older = ap (λ (y : Role). y.older) same ∙ older ∙ before_and_last a os;
+        below = below;
+        is = λ i. record {
+          sizes = loads.stays.sizes i;
+          log = loads.log i;
+          table = t;
+          share = loads.stays.share i;
+          pins_left = loads.stays.pins_left i;
+          newest = (now i).newest;
+          older = (now i).older;
+          steps = (loads.steps ∙ ap (λ (k : ℕ). v.steps ++ loaded_release v.sizes (last_of a os).live.page k ∷ []) (sym base)) i;
+        };
+      }
 
   -- all pins were dropped
   module _ (dropped : n ≡ (last_of a os).live.base + (last_of a os).taken) where

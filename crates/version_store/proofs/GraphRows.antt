@@ -140,14 +140,16 @@ module _ (z : Sizes) (ks ls : List KnownPlace) (found : List (Option Found)) (ma
     pub found_known : (r : List ℕ) → In r (rows_found found) → In r (rows_known ls)
     found_known r i = let x = found_from found r i in let short = at_short found x.0 (Some x.1) x.2 in let l = learns.covers x.0 short in
         let m = (learns.rows x.0 x.1 l.0 x.2 l.1 l.2).0 in
-        subst (λ (y : List ℕ). In y (rows_known ls)) (row_at x.0 x.1 l.0 x.2 l.1 l.2 ∙ sym x.3) (row_to ls l.0 l.1 (λ n. let s : 0 ≡ suc x.1.row = sym n ∙ m in omega arith))
+        subst (λ (y : List ℕ). In y (rows_known ls)) (row_at x.0 x.1 l.0 x.2 l.1 l.2 ∙ sym x.3)
+        (row_to ls l.0 l.1 (λ n. let s : 0 ≡ suc x.1.row = sym n ∙ m in omega arith))
 
   -- all was known before
   module _ (before : IsWholeKnown z ks) where
     old_row : (k : KnownPlace) (f : Found) → In k ks → IsAt found k.place f → (k.met ≡ suc f.row) × (row_known k ≡ f.words)
     old_row k f i e = let l = learns.on k i in let r = learns.rows k.place f l.0 e l.1 l.2.0 in let met : k.met ≡ suc f.row = sym l.2.1 ∙ r.0 in
         let read = before.rows k f.row i met in let whole = wholes k.place f e in
-        let agree : (index : ℕ) → index < 2 + (word_in k.words 0 + word_in k.words 1) → index < length f.words → word_in k.words index ≡ slice_index f.words index
+        let agree : (index : ℕ) → index < 2 + (word_in k.words 0 + word_in k.words 1) → index < length f.words
+        → word_in k.words index ≡ slice_index f.words index
         = λ index inside lt. alike k.place f l.0 index (word_in k.words index) e l.1 r.0 (l.2.2 _ (read index inside)) lt in
         let a = agree 0 (omega arith) (omega arith) in let b = agree 1 (omega arith) (omega arith) in
         (met, row_is k f.words whole (λ index lt. agree index (omega arith) lt))
@@ -262,7 +264,8 @@ module _ (z : Sizes) (keeps next : List ℕ → Type 0) (ks : List KnownPlace) (
         in_places version ws 0 places place (omega arith),
         (let r : 0 + place ≡ place = omega arith in r),
       );
-      inside = λ k i. let q = of_places version ws 0 places k i in let room = chosen.room in let lt = q.1 in let p = ap (λ (x : KnownPlace). x.place) q.2 in omega arith;
+      inside = λ k i. let q = of_places version ws 0 places k i in let room = chosen.room in let lt = q.1 in let p = ap (λ (x : KnownPlace). x.place) q.2 in
+          omega arith;
       rows = λ k row i e. (of_kept k row i e).5;
     };
     kept = λ r i. let k = row_from (places_known version ws 0 places) r i in let s = some_row k.0.met k.2 in let x = of_kept k.0 s.0 k.1 s.1 in

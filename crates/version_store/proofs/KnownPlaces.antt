@@ -1,5 +1,27 @@
 -- Places of the newest page that are known, as loads teach them.
-use Rattle.std.proofs.Common.{◌≡◌, ◌≢◌, ◌⊎◌, ℕ, suc, ◌<◌, List, [], ◌∷◌, ◌++◌, map, inl, inr, length, length-append, slice_index, eqb, eq-eqb, ne_eqb, sym, refl}
+use Rattle.std.proofs.Common.{
+  ◌≡◌,
+  ◌≢◌,
+  ◌⊎◌,
+  ℕ,
+  suc,
+  ◌<◌,
+  List,
+  [],
+  ◌∷◌,
+  ◌++◌,
+  map,
+  inl,
+  inr,
+  length,
+  length-append,
+  slice_index,
+  eqb,
+  eq-eqb,
+  ne_eqb,
+  sym,
+  refl,
+}
 use Rattle.std.proofs.Common.{ap, ◌∙◌, subst, arith}
 use Rattle.std.proofs.lemmas.Bool.{eqb-true, cases_lt}
 use mathlib.Core.Option as maybe
@@ -153,7 +175,8 @@ module _ (ks ls : List KnownPlace) (found : List (Option Found)) (h : Learns ks 
     covers : (o : ℕ) → o < length (found ++ x ∷ []) → (m : KnownPlace) × In m ms × (m.place ≡ o)
     covers o lt = elim (cases_lt o (length found)) [
       | inl below ↦ let l = h.covers o below in let m = g.on l.0 (learned_keeps place n l.0 ls l.1) in (m.0, m.1, m.2.0 ∙ l.2)
-      | inr above ↦ let l = learned_covers place n ls in let m = g.on l.0 l.1 in let k = many in (m.0, m.1, m.2.0 ∙ l.2 ∙ (let r : place ≡ o = omega arith in r))
+      | inr above ↦ let l = learned_covers place n ls in let m = g.on l.0 l.1 in let k = many in
+          (m.0, m.1, m.2.0 ∙ l.2 ∙ (let r : place ≡ o = omega arith in r))
     ]
 
     only : (m : KnownPlace) → In m ms → (m.place < length (found ++ x ∷ [])) ⊎ ((k : KnownPlace) × In k ks × (k.place ≡ m.place))

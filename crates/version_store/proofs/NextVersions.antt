@@ -63,7 +63,8 @@ module _ (c : Current) (v w : View) (entry : List ℕ) (editor : IsEditorOf c v)
 
 -- The rows are chosen
 
-module _ (c : Current) (F : List Entry → List ℕ → Type 0) (keeps : List ℕ → Type 0) (v w : View) (entry : List ℕ) (found : List (Option Found)) (places : List ℕ)
+module _ (c : Current) (F : List Entry → List ℕ → Type 0) (keeps : List ℕ → Type 0) (v w : View) (entry : List ℕ) (found : List (Option Found))
+    (places : List ℕ)
     (next : List Entry) (editor : IsEditorOf c v) (finds : FindsRows c v w found) (chosen : HasChosen keeps (F next) c.sizes found places) where
   pub editor_chosen : IsEditorOf c w
   editor_chosen = rows.editor_then c v w editor found finds
@@ -157,12 +158,13 @@ four s a b d e t t1 t2 t3 p q r w = w ∙ ap (λ (l : List Step). l ++ e) r ∙ 
 -- The whole edit
 
 -- the role once the rows are chosen
-module _ (c : Current) (v v1 v2 : View) (entry : List ℕ) (found : List (Option Found)) (wrote : WritesEntry c v v1 entry) (finds : FindsRows c v1 v2 found) where
-  role_chosen : role_of v2 ≡ with_making (role_of v) (making_entry c.next entry)
-  role_chosen = ap role_or_first (finds.role ∙ wrote.role)
+module _ (c : Current) (v v1 v2 : View) (entry : List ℕ) (found : List (Option Found)) (wrote : WritesEntry c v v1 entry) (finds : FindsRows c v1 v2 found)
+  where
+    role_chosen : role_of v2 ≡ with_making (role_of v) (making_entry c.next entry)
+    role_chosen = ap role_or_first (finds.role ∙ wrote.role)
 
-  pub making_chosen : length entry ≡ 32 → (role_of v2).making ≡ Some record { page = c.next; entry = entry; places = [] }
-  making_chosen long = ap (λ (y : Role). y.making) role_chosen ∙ some_entry c.next entry long
+    pub making_chosen : length entry ≡ 32 → (role_of v2).making ≡ Some record { page = c.next; entry = entry; places = [] }
+    making_chosen long = ap (λ (y : Role). y.making) role_chosen ∙ some_entry c.next entry long
 
 module _ (c : Current) (F : List Entry → List ℕ → Type 0) (keeps : List ℕ → Type 0) (v v1 v2 v3 : View) (entry : List ℕ) (found : List (Option Found))
     (places : List ℕ) (editor : IsEditorOf c v) (long : length entry ≡ 32) (wrote : WritesEntry c v v1 entry) (finds : FindsRows c v1 v2 found)
@@ -209,7 +211,8 @@ module _ (c : Current) (F : List Entry → List ℕ → Type 0) (keeps : List �
       ∙ (λ i. places_known (sym editor_third.at i) (wrote_page.words i) 0 places)
 
   rows_kept : v1.share ≡ whole → IsWholeKnown c.sizes v1.known → KeepsRows keeps c.sizes v.known (places_known c.version v2.words 0 places)
-  rows_kept all before = let wholes : (o : ℕ) (f : Found) → IsAt found o f → IsWholeRow f.words = λ o f e. (finds.known o f e).is_whole in subst (λ (ks : List KnownPlace). KeepsRows keeps c.sizes ks
+  rows_kept all before = let wholes : (o : ℕ) (f : Found) → IsAt found o f → IsWholeRow f.words = λ o f e. (finds.known o f e).is_whole in
+      subst (λ (ks : List KnownPlace). KeepsRows keeps c.sizes ks
       (places_known c.version v2.words 0 places)) wrote.known
       (keeps_rows c.sizes keeps (F (next_of v1)) v1.known found places c.version v2.words chosen wholes (λ o f index e lt. (finds.known o f e).words index lt)
       (λ o f index word e there lt. finds.words_once o f index word e there lt)

@@ -82,7 +82,8 @@ page_after newest xs x page i = elim i [
   | inr e ↦ inr (subst (In page) (sym (mapped_parts page_in xs (x ∷ []))) (in_right page (map page_in xs) (x.live.page ∷ []) (inl e)))
 ]
 
-pages_back : (page : ℕ) (older : List Older) → In page (map page_in (oldest_first older)) → In page (map (λ (l : Live). l.page) (map (λ (o : Older). o.live) older))
+pages_back : (page : ℕ) (older : List Older) → In page (map page_in (oldest_first older))
+    → In page (map (λ (l : Live). l.page) (map (λ (o : Older). o.live) older))
 pages_back page [] i = i
 pages_back page (o ∷ os) i = elim (in_parts page (map page_in (oldest_first os)) (o.live.page ∷ [])
     (subst (In page) (mapped_parts page_in (oldest_first os) (older_noted o ∷ [])) i)) [
@@ -90,7 +91,8 @@ pages_back page (o ∷ os) i = elim (in_parts page (map page_in (oldest_first os
       | inr t ↦ elim t [ inl e ↦ inl e | inr n ↦ absurd n ]
     ]
 
-pages_on : (page : ℕ) (older : List Older) → In page (map (λ (l : Live). l.page) (map (λ (o : Older). o.live) older)) → In page (map page_in (oldest_first older))
+pages_on : (page : ℕ) (older : List Older) → In page (map (λ (l : Live). l.page) (map (λ (o : Older). o.live) older))
+    → In page (map page_in (oldest_first older))
 pages_on page [] i = i
 pages_on page (o ∷ os) i = subst (In page) (sym (mapped_parts page_in (oldest_first os) (older_noted o ∷ []))) (elim i [
   | inl e ↦ in_right page (map page_in (oldest_first os)) (o.live.page ∷ []) (inl e)

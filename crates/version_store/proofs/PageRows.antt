@@ -1,5 +1,29 @@
 -- The loop over the places of the page, as far as it reads.
-use Rattle.std.proofs.Common.{◌≡◌, ◌≢◌, ◌⊎◌, ℕ, zero, suc, ◌+◌, ◌<◌, List, [], ◌∷◌, ◌++◌, inl, inr, length, slice_index, eq-eqb, sym, refl, ap, ◌∙◌, subst, arith}
+use Rattle.std.proofs.Common.{
+  ◌≡◌,
+  ◌≢◌,
+  ◌⊎◌,
+  ℕ,
+  zero,
+  suc,
+  ◌+◌,
+  ◌<◌,
+  List,
+  [],
+  ◌∷◌,
+  ◌++◌,
+  inl,
+  inr,
+  length,
+  slice_index,
+  eq-eqb,
+  sym,
+  refl,
+  ap,
+  ◌∙◌,
+  subst,
+  arith,
+}
 use mathlib.Core.Option as maybe
 use mathlib.Core.Bool.{cond}
 use Rattle.std.specs.Prelude.{Option, Some, None}
@@ -39,7 +63,8 @@ next_stays v w log role = λ i. next_log (log i) (making_of (role_or_first (role
 pub at_none : (found : List (Option Found)) (o : ℕ) (f : Found) → IsAt (found ++ None ∷ []) o f → IsAt found o f
 at_none found o f e = elim (at_end found None (Some f) o e) [ inl t ↦ t | inr t ↦ absurd (none_some f t.1) ]
 
-pub at_some : (found : List (Option Found)) (g : Found) (o : ℕ) (f : Found) → IsAt (found ++ Some g ∷ []) o f → (IsAt found o f) ⊎ ((o ≡ length found) × (g ≡ f))
+pub at_some : (found : List (Option Found)) (g : Found) (o : ℕ) (f : Found) → IsAt (found ++ Some g ∷ []) o f → (IsAt found o f)
+    ⊎ ((o ≡ length found) × (g ≡ f))
 at_some found g o f e = elim (at_end found (Some g) (Some f) o e) [ inl t ↦ inl t | inr t ↦ inr (t.0, same_some g f t.1) ]
 
 pub at_new : (found : List (Option Found)) (g : Found) → IsAt (found ++ Some g ∷ []) (length found) g
@@ -71,13 +96,14 @@ knows_same c w place f g k e index of = let n = (same_key (slice_index f.words) 
     (sym (agrees f g e index of.0 of.1)) (knows_key c w place g k index (let lt = of.0 in omega arith, of.1))
 
 -- the rule tells that no key stands twice, and so no row
-module _ (c : Current) (F : List ℕ → Type 0) (w : View) (told : IsTold F w c.version) (o p : ℕ) (f g : Found) (a : IsKnownRow c w o f) (b : IsKnownRow c w p g) where
-  pub row_once : f.row ≡ g.row → o ≡ p
-  row_once e = told.keys_once o p f.row g.row (slice_index f.words) a.at b.at (knows_key c w o f a)
-      (subst (λ (row : ℕ). KnowsKey w c.version row (slice_index f.words)) e (knows_key c w o f a))
+module _ (c : Current) (F : List ℕ → Type 0) (w : View) (told : IsTold F w c.version) (o p : ℕ) (f g : Found) (a : IsKnownRow c w o f) (b : IsKnownRow c w p g)
+  where
+    pub row_once : f.row ≡ g.row → o ≡ p
+    row_once e = told.keys_once o p f.row g.row (slice_index f.words) a.at b.at (knows_key c w o f a)
+        (subst (λ (row : ℕ). KnowsKey w c.version row (slice_index f.words)) e (knows_key c w o f a))
 
-  pub key_once : key_in f.words ≡ key_in g.words → o ≡ p
-  key_once e = told.keys_once o p f.row g.row (slice_index f.words) a.at b.at (knows_key c w o f a) (knows_same c w p f g b e)
+    pub key_once : key_in f.words ≡ key_in g.words → o ≡ p
+    key_once e = told.keys_once o p f.row g.row (slice_index f.words) a.at b.at (knows_key c w o f a) (knows_same c w p f g b e)
 
 -- what is known of the rows that were found, and the rest by the rule
 finds : (c : Current) (v w : View) (found : List (Option Found)) (F : List ℕ → Type 0) → IsEditorOf c w → Goes v w (page_loads c.sizes c.page 0 found)
@@ -121,7 +147,8 @@ module _ (c : Current) (v w : View) (editor : IsEditorOf c v) (found : List (Opt
   speaks : version_at w c.page ≡ Some c.version
   speaks = let e = editor_then in let r = role_of w in
       ap (λ p. version_pinned p (version_of_role w.role c.page) c.page) e.unpinned ∙ ap (λ o. version_of_role o c.page) e.has
-      ∙ ap (λ b. cond b (Some r.newest.version) (version_given_up r.giving_up c.page)) (eq-eqb r.newest.page c.page e.page_is) ∙ ap (λ (n : ℕ). Some n) e.version_is
+      ∙ ap (λ b. cond b (Some r.newest.version) (version_given_up r.giving_up c.page)) (eq-eqb r.newest.page c.page e.page_is)
+      ∙ ap (λ (n : ℕ). Some n) e.version_is
 
   module _ (place n : ℕ) (at : place ≡ length found) (u : View) (is : u ≡ after_load_place w c.page place n) where
     loads : Goes w u (loaded_place c.sizes c.page (length found) n ∷ [])

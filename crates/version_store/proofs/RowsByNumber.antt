@@ -24,7 +24,8 @@ words_at [] once o f a = absurd (maybe.some-ne-none (Some f) (sym a))
 words_at (None ∷ fs) once zero f a = absurd (none_some f (maybe.some-injective None (Some f) a))
 words_at (None ∷ fs) once (suc o) f a = words_at fs (λ i j x y p q e. let k = once (suc i) (suc j) x y p q e in omega arith) o f a
 words_at (Some g ∷ fs) once zero f a = let same = same_some g f (maybe.some-injective (Some g) (Some f) a) in
-    ap (λ b. cond b (slice_index g.words) (words_by fs f.row)) (eq-eqb g.row f.row (ap (λ (x : Found). x.row) same)) ∙ ap (λ (x : Found). slice_index x.words) same
+    ap (λ b. cond b (slice_index g.words) (words_by fs f.row)) (eq-eqb g.row f.row (ap (λ (x : Found). x.row) same))
+    ∙ ap (λ (x : Found). slice_index x.words) same
 words_at (Some g ∷ fs) once (suc o) f a = dite (ℕ_discrete g.row f.row)
     (λ e. let k = once 0 (suc o) g f refl a e in absurd (omega arith))
     (λ n. ap (λ b. cond b (slice_index g.words) (words_by fs f.row)) (ne_eqb g.row f.row n)

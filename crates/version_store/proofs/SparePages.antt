@@ -39,4 +39,5 @@ module _ (r : Role) (l : Lives) (h : IsNotedIn r l) (idle : r.giving_up ≡ None
   older_many = sym (ap length h.older_is) ∙ many_noted r.older
 
   pub few_taken : length (pages_taken r) ≡ length r.older + 1
-  few_taken = ap length taken_is ∙ (let a = mapped_length (λ (k : Live). k.page) (lives r) in let b = mapped_length (λ (o : Older). o.live) r.older in omega arith)
+  few_taken = ap length taken_is ∙ (let a = mapped_length (λ (k : Live). k.page) (lives r) in let b = mapped_length (λ (o : Older). o.live) r.older in
+      omega arith)

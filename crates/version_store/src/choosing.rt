@@ -34,7 +34,8 @@ fn choose_row<C: Content, H: Chooser<C>>(
     requires places { length places.old ≡ current.sizes.places }
     requires few { count_taken places.old < current.sizes.places }
     ensures table { table_of hand.new ≡ table_of hand.old }
-    ensures chosen { ChoosesRow (H.keeps chooser.old) (C.fits (next_of (view_of hand.old))) current (view_of hand.old) (view_of hand.new) row places.old places.new }
+    ensures chosen { ChoosesRow (H.keeps chooser.old) (C.fits (next_of (view_of hand.old))) current (view_of hand.old) (view_of hand.new) row places.old
+        places.new }
     ensures told { Tells C.lawful C.fits (view_of hand.new) }
     ensures buffer { length buffer.new ≡ current.sizes.width }
     ensures same_leads { (first next : List Entry) → H.leads chooser.new first next ↔ H.leads chooser.old first next }

@@ -49,7 +49,8 @@ returns-clause-grows g c =
     let put = is_answered (pointwise item_eq) (lists_equiv item_equiv) kernel_eq-decides c.args.kept.now.entries c.reserve.new.self.entries
     c.insert_full.new.self.entries c.args.kernel.now c.in_ok-own.own c.in_ok-answer.answer c.in_ok-place.place c.reserve.ensures.entries
     c.in_ok-own.ensures.cases (sym c.in_default.ensures.index) c.in_ok-place.ensures.entries c.in_ok-place.ensures.index in
-    let new_key = not_asked (pointwise item_eq) (lists_equiv item_equiv) kernel_eq-decides c.args.kept.now.entries c.insert_full.new.self.entries c.args.kernel.now
+    let new_key = not_asked (pointwise item_eq) (lists_equiv item_equiv) kernel_eq-decides c.args.kept.now.entries c.insert_full.new.self.entries
+    c.args.kernel.now
     c.in_ok-answer.answer c.in_ok-place.place put in
     inr (c.in_ok-answer.answer, new_key, put.entries, c.in_ok-answer.ensures.came)
 

@@ -90,5 +90,8 @@ loop-place-preserved g c =
         (λ h. (i.same_leads a b).0 ((c.choose_row.ensures.same_leads a b).0 h)),
         (λ h. (c.choose_row.ensures.same_leads a b).1 ((i.same_leads a b).1 h)),
       );
-      same_keeps = λ a. ((λ h. (i.same_keeps a).0 ((c.choose_row.ensures.same_keeps a).0 h)), (λ h. (c.choose_row.ensures.same_keeps a).1 ((i.same_keeps a).1 h)));
+      same_keeps = λ a. (
+        (λ h. (i.same_keeps a).0 ((c.choose_row.ensures.same_keeps a).0 h)),
+        (λ h. (c.choose_row.ensures.same_keeps a).1 ((i.same_keeps a).1 h)),
+      );
     }

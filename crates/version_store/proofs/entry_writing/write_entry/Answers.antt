@@ -11,7 +11,8 @@ write_log-requires-clause-keeps g c =
     let entry = c.args.entry.now in let i : ℕ = c.loop-index.index in let r = c.requires in let long : length entry ≡ 32 = c.type_inv.entry.1.1.0.1 in
     let x : ℕ = slice_index entry i in let w = view_of c.loop-index.hand in let few = taken entry long i c.loop-index-test.true in
     subst (λ (n : ℕ). Keeps g.C.Content.lawful g.C.Content.fits w (op.WriteLog c.args.current.version n x)) few
-    (may c.args.current (view_of c.args.hand.now) r.editor w (take i entry) x c.loop-index.invariant.wrote g.C.Content.lawful g.C.Content.fits entry r.log r.room r.lawful
+    (may c.args.current (view_of c.args.hand.now) r.editor w (take i entry) x c.loop-index.invariant.wrote g.C.Content.lawful g.C.Content.fits entry r.log
+    r.room r.lawful
     (all_taken entry long i c.loop-index-test.true x refl) (let lt : i < 32 = c.loop-index-test.true in omega arith))
 
 pub loop-index-preserved : goal.loop-index-preserved

@@ -46,7 +46,8 @@ free_row-requires-clause-row g c = let k = c.args.leaving in let m = c.args.carr
     c.load_place-met.ensures.view (met - 1) is (sym (q.2.carried_are (met - 1) lt) ∙ sym c.has.ensures ∙ c.if-has.false))) lt
 
 pub free_row-requires-clause-keeps : goal.free_row-requires-clause-keeps
-free_row-requires-clause-keeps g c = let k = c.args.leaving in let m = c.args.carried.now in let q = c.requires.giving in let met : ℕ = c.load_place-met.result in
+free_row-requires-clause-keeps g c = let k = c.args.leaving in let m = c.args.carried.now in let q = c.requires.giving in
+    let met : ℕ = c.load_place-met.result in
     let v = view_of c.args.hand.now in let is = row_met met c.if-met-eq0.false in
     let lt = freed.row_in k m q.0 q.1 c.args.place v q.2 c.requires.place met (met - 1) c.load_place-met.ensures.met.1 is in
     keeps_free_row g.C.Content.lawful g.C.Content.fits (view_of c.load_place-met.new.self) (role_at k.sizes q.0 q.1 c.args.place)

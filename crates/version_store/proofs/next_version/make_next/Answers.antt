@@ -34,4 +34,5 @@ returns-clause-made g c =
     let ch = c.choose_rows.ensures.chosen in let long : length c.args.entry.now ≡ 32 = c.write_entry.ensures.long in
     next.makes c.args.current g.C.Content.fits (g.H.Chooser.keeps c.args.chooser.now) (view_of c.args.hand.now) (view_of c.write_entry.new.hand)
     (view_of c.choose_rows.new.hand) (view_of c.write_page.new.hand) c.args.entry.now ch.0 c.choose_rows.new.places c.requires.editor long
-    c.write_entry.ensures.wrote ch.2 ch.3 c.write_page.ensures.wrote ch.1 (view_of c.swap_current.new.self) c.swap_current.result c.swap_current.ensures.view c.swap_current.ensures.met
+    c.write_entry.ensures.wrote ch.2 ch.3 c.write_page.ensures.wrote ch.1 (view_of c.swap_current.new.self) c.swap_current.result c.swap_current.ensures.view
+    c.swap_current.ensures.met

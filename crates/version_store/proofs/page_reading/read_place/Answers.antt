@@ -18,7 +18,8 @@ returns-then-met-eq0-clause-none g c = let k = c.load_place-met in
 pub overflow_cast-row : goal.overflow_cast-row
 overflow_cast-row g c = let k = c.load_place-met in let met : ℕ = k.result in
     let lt = reads.row_in c.args.current (view_of c.args.hand.now) c.requires.editor c.args.place met (view_of k.new.self) k.ensures.view (met - 1)
-    (row_met met c.if-met-eq0.false) g.C.Content.lawful g.C.Content.fits k.ensures.told in let few = c.args.current.sizes.rows_in in record { fits = omega arith }
+    (row_met met c.if-met-eq0.false) g.C.Content.lawful g.C.Content.fits k.ensures.told in let few = c.args.current.sizes.rows_in in
+    record { fits = omega arith }
 
 pub read_row-count-requires-clause-editor : goal.read_row-count-requires-clause-editor
 read_row-count-requires-clause-editor g c = let k = c.load_place-met in

@@ -25,21 +25,24 @@ load_row_at-payload-requires-clause-keeps g c = let k = c.args.current in let v 
 
 pub overflow_add-count : goal.overflow_add-count
 overflow_add-count g c = let k = c.args.current in let v = view_of c.args.hand.now in let u = view_of c.load_row_at-key.new.self in
-    let w = view_of c.load_row_at-payload.new.self in let r = c.requires in let key : ℕ = c.load_row_at-key.result in let payload : ℕ = c.load_row_at-payload.result in
+    let w = view_of c.load_row_at-payload.new.self in let r = c.requires in let key : ℕ = c.load_row_at-key.result in
+    let payload : ℕ = c.load_row_at-payload.result in
     let few = reads.fits_row k v c.args.row r.editor r.named u w key payload c.load_row_at-key.ensures.view c.load_row_at-payload.ensures.view
     g.C.Content.lawful g.C.Content.fits c.load_row_at-payload.ensures.told in
     let most = k.sizes.width_in in record { fits = omega arith }
 
 pub overflow_add-count-2 : goal.overflow_add-count-2
 overflow_add-count-2 g c = let k = c.args.current in let v = view_of c.args.hand.now in let u = view_of c.load_row_at-key.new.self in
-    let w = view_of c.load_row_at-payload.new.self in let r = c.requires in let key : ℕ = c.load_row_at-key.result in let payload : ℕ = c.load_row_at-payload.result in
+    let w = view_of c.load_row_at-payload.new.self in let r = c.requires in let key : ℕ = c.load_row_at-key.result in
+    let payload : ℕ = c.load_row_at-payload.result in
     let few = reads.fits_row k v c.args.row r.editor r.named u w key payload c.load_row_at-key.ensures.view c.load_row_at-payload.ensures.view
     g.C.Content.lawful g.C.Content.fits c.load_row_at-payload.ensures.told in
     let most = k.sizes.width_in in record { fits = omega arith }
 
 pub loop-index-init : goal.loop-index-init
 loop-index-init g c = let k = c.args.current in let v = view_of c.args.hand.now in let u = view_of c.load_row_at-key.new.self in
-    let w = view_of c.load_row_at-payload.new.self in let r = c.requires in let key : ℕ = c.load_row_at-key.result in let payload : ℕ = c.load_row_at-payload.result in
+    let w = view_of c.load_row_at-payload.new.self in let r = c.requires in let key : ℕ = c.load_row_at-key.result in
+    let payload : ℕ = c.load_row_at-payload.result in
     let few = reads.fits_row k v c.args.row r.editor r.named u w key payload c.load_row_at-key.ensures.view c.load_row_at-payload.ensures.view
     g.C.Content.lawful g.C.Content.fits c.load_row_at-payload.ensures.told in
     let buffer = c.args.buffer.now in let room : 2 ≤ length buffer = (let a = r.room in let b = wide k in omega arith) in
@@ -81,4 +84,5 @@ returns-clause-read g c = let i = c.loop-index.invariant in subst (λ (n : ℕ).
     c.args.row (take n c.loop-index.buffer)) (let e = c.loop-index.auto.index-end in let t = c.loop-index-test.false in omega arith) i.read
 
 pub returns-clause-is_whole : goal.returns-clause-is_whole
-returns-clause-is_whole g c = let i = c.loop-index.invariant in reads.whole_row c.loop-index.buffer _ i.sized (let few = i.few in let room = i.room in omega arith)
+returns-clause-is_whole g c = let i = c.loop-index.invariant in
+    reads.whole_row c.loop-index.buffer _ i.sized (let few = i.few in let room = i.room in omega arith)

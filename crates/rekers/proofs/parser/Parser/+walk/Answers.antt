@@ -13,12 +13,12 @@ use Rattle.rekers.proofs.parser.Parser.+walk.Goals as goal
 pub finish-requires-clause-walking : goal.finish-requires-clause-walking
 finish-requires-clause-walking g t c = subst (λ n. IsWalking (g.G.Graph.means c.args.graph.now).grammar.rules (found c.args.self.now)
     c.args.self.now.level.first_link c.args.self.now.level.at c.args.walk c.args.node n c.args.met c.args.self.now.trail.items) c.if-left-eq0.true
-        c.requires.walking
+    c.requires.walking
 
 pub walk_last-requires-clause-walking : goal.walk_last-requires-clause-walking
 walk_last-requires-clause-walking g t c = subst (λ n. IsWalking (g.G.Graph.means c.args.graph.now).grammar.rules (found c.args.self.now)
     c.args.self.now.level.first_link c.args.self.now.level.at c.args.walk c.args.node n c.args.met c.args.self.now.trail.items) c.if-left-eq1.true
-        c.requires.walking
+    c.requires.walking
 
 pub returns-then-node-self-clause-step : goal.returns-then-node-self-clause-step
 returns-then-node-self-clause-step g t c = step_none (kinds_of c.args.tokens.now) c.args.self.now (g.G.Graph.means c.args.graph.now) c.args.steps.now
@@ -60,7 +60,7 @@ walk-requires g t c κs within =
     c.in-Some.link down some c.put.new.trail c.put.ensures.puts c.edge-lower.result c.is_met-meets.result c.edge-lower.ensures c.put.ensures.size
     (omega (arith, c.if-link-walk.false)) c.is_met-meets.ensures in
     let sound = sound_trail (g.G.Graph.means c.links.graph).grammar.rules (kinds_of c.args.tokens.now) c.links.self c.put.new.trail c.links.invariant.step.sound
-        in
+    in
     (search rules, (within.0, (within.1, (sound, (within_trail c.links.self c.put.new.trail c.links.invariant.within, walking)))))
 
 pub returns-in_err-walk-clause-step : goal.returns-in_err-walk-clause-step
@@ -70,7 +70,7 @@ returns-in_err-walk-clause-step g t c =
     let some = is_left c.args.left c.if-left-eq0.false in
     unless_on c.in_err-walk.field-0.0 c.from_residual.result
     (err_from_is_err_and c.from_residual.result c.from_residual.ensures.1)
-        (λ step. step_back (kinds_of c.args.tokens.now) c.args.self.now c.links.self (g.G.Graph.means c.args.graph.now) (g.G.Graph.means c.links.graph)
+    (λ step. step_back (kinds_of c.args.tokens.now) c.args.self.now c.links.self (g.G.Graph.means c.args.graph.now) (g.G.Graph.means c.links.graph)
     c.args.steps.now c.links.steps c.args.walk c.args.node c.args.left c.args.met c.requires.sound c.requires.walking
     c.in-Some.link down some c.put.new.trail c.put.ensures.puts c.walk.new.self (g.G.Graph.means c.walk.new.graph) c.walk.new.steps step)
     c.in_err-walk.ensures.step

@@ -20,7 +20,7 @@ loop-other-init g c = λ other i kernel own n at less moves.
     let p = c.args.self.now in
     let place = (kernel_at at c.place-at.ensures).1 in
     let noted : slice_get p.openers.items i ≡ Some c.opener-first.result = subst (λ k. slice_get p.openers.items k ≡ Some c.opener-first.result) place
-        c.opener-first.ensures in
+    c.opener-first.ensures in
     (c.requires.sound.openers.each i c.opener-first.result noted).none_before other kernel n less (c.args.symbol, moves, c.requires.nonterminal)
 
 pub place-requires : goal.place-requires
@@ -41,10 +41,10 @@ returns-then-has_move g c =
     subst (λ k. slice_get p.openers.items k ≡ Some c.opener-first.result) (kernel_at node c.place-at.ensures).1 c.opener-first.ensures in
     let (kernel, named, reached) = c.requires.sound.graph.nodes c.loop-other.other c.place.result c.place.ensures in
     let at = between_openers rules (kinds_of c.args._tokens.now) p c.requires.sound c.args.node c.loop-other.other from c.opener-first.result
-        c.requires.linkable.kernel node
+    c.requires.linkable.kernel node
     noted c.loop-other.auto.other (omega (arith, c.loop-other-test.true)) c.place.result c.place.ensures in
     let own : IsNode (found p) c.loop-other.other kernel c.place.result.at = record { state = c.place.result.state; there = c.place.ensures; is_kernel = named }
-        in
+    in
     record {
       from = from;
       own = c.requires.linkable.kernel;
@@ -55,7 +55,7 @@ returns-then-has_move g c =
       none_before = λ other i k o n is less moves.
           let here : from ≡ i = sym at ∙ (one_kernel own is).1 in
           c.loop-other.invariant other i k c.requires.linkable.kernel n (subst (λ j. IsNode (found p) c.args.node c.requires.linkable.kernel j) here node) less
-              moves;
+          moves;
     }
 
 pub loop-other-preserved : goal.loop-other-preserved

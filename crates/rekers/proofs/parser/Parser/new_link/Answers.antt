@@ -18,7 +18,7 @@ use Rattle.rekers.proofs.parser.Parser.new_link.Goals as goal
 pub owning_link-requires-clause-linkable : goal.owning_link-requires-clause-linkable
 owning_link-requires-clause-linkable g c =
     linkable_first (g.G.Graph.means c.args.graph.now).grammar.rules (kinds_of c.args.tokens.now) (found c.args.self.now) c.first_opener-first.ensures
-        c.requires.linkable
+    c.requires.linkable
 
 pub owning_link-requires-clause-first : goal.owning_link-requires-clause-first
 owning_link-requires-clause-first g c = c.first_opener-first.ensures.none_before
@@ -35,7 +35,7 @@ pub upper-requires-clause-linkable : goal.upper-requires-clause-linkable
 upper-requires-clause-linkable g c =
     linkable_on (kinds_of c.args.tokens.now) (g.G.Graph.means c.args.graph.now).grammar (g.G.Graph.means c.owning_link.new.graph).grammar
     c.in_ok-owner.ensures.stands.grammar c.args.self.now c.owning_link.new.self c.in_ok-owner.ensures.step.grows c.in_ok-owner.ensures.step.level
-        c.requires.linkable
+    c.requires.linkable
 
 pub upper-requires-clause-room : goal.upper-requires-clause-room
 upper-requires-clause-room g c = omega (arith, c.in_ok-owner.ensures.few, c.in_ok-owner.ensures.count, c.requires.room)
@@ -44,7 +44,7 @@ pub attach-requires-clause-linkable : goal.attach-requires-clause-linkable
 attach-requires-clause-linkable g c =
     let first = linkable_on (kinds_of c.args.tokens.now) (g.G.Graph.means c.args.graph.now).grammar (g.G.Graph.means c.owning_link.new.graph).grammar
     c.in_ok-owner.ensures.stands.grammar c.args.self.now c.owning_link.new.self c.in_ok-owner.ensures.step.grows c.in_ok-owner.ensures.step.level
-        c.requires.linkable in
+    c.requires.linkable in
     linkable_on (kinds_of c.args.tokens.now) (g.G.Graph.means c.owning_link.new.graph).grammar (g.G.Graph.means c.upper.new.graph).grammar
     c.in_ok-upper.ensures.stands.grammar c.owning_link.new.self c.upper.new.self c.in_ok-upper.ensures.grows
     (ap (λ (q : Parser). q.level) c.in_ok-upper.ensures.same) first
@@ -53,7 +53,7 @@ pub attach-requires-clause-upper : goal.attach-requires-clause-upper
 attach-requires-clause-upper g c =
     let level = ap (λ (q : Parser). q.level) c.in_ok-upper.ensures.same in
     subst (λ (l : Level). IsUpper (g.G.Graph.means c.upper.new.graph).grammar.rules (found c.upper.new.self) l.at c.args.lower c.args.symbol
-        c.in_ok-upper.upper) (sym level)
+    c.in_ok-upper.upper) (sym level)
     (subst (λ (gr : Grammar). IsUpper gr.rules (found c.upper.new.self) c.owning_link.new.self.level.at c.args.lower c.args.symbol c.in_ok-upper.upper)
     (sym c.in_ok-upper.ensures.stands.grammar) c.in_ok-upper.ensures.upper)
 
@@ -62,9 +62,9 @@ attach-requires-clause-unlinked g c =
     let differs : c.args.lower ≢ c.first_opener-first.result = λ e. c.if-first-lower.false (sym e) in
     let first = c.in_ok-owner.ensures.others c.args.lower differs c.requires.unlinked in
     let here = subst (λ (l : Level). IsUnlinked (found c.owning_link.new.self) l.first_link c.args.lower c.args.symbol) (sym c.in_ok-owner.ensures.step.level)
-        first in
+    first in
     unlinked_on c.owning_link.new.self c.upper.new.self c.args.lower c.args.symbol c.in_ok-upper.ensures.links
-        (ap (λ (q : Parser). q.level) c.in_ok-upper.ensures.same) here
+    (ap (λ (q : Parser). q.level) c.in_ok-upper.ensures.same) here
 
 pub attach-requires-clause-label : goal.attach-requires-clause-label
 attach-requires-clause-label g c = λ place there.
@@ -81,7 +81,7 @@ attach-requires-clause-label g c = λ place there.
     is.node_is) there).1 in
     label_on (g.G.Graph.means c.owning_link.new.graph).grammar (g.G.Graph.means c.upper.new.graph).grammar c.in_ok-upper.ensures.stands.grammar tokens
     c.owning_link.new.self.spans.spans c.upper.new.self.spans.spans (ap (λ (q : Parser). q.spans.spans) c.in_ok-upper.ensures.same) c.args.symbol is.from
-        place.at here
+    place.at here
     c.in_ok-owner.ensures.link.label c.edge-label.result.label same c.args.self.now.level.at c.upper.new.self.level.at
     (ap (λ (q : Parser). q.level.at) c.in_ok-upper.ensures.same ∙ ap (λ (l : Level). l.at) c.in_ok-owner.ensures.step.level) part
 
@@ -121,13 +121,13 @@ returns-clause-step g c =
     } in
     let attached = step_alone tokens c.upper.new.self c.attach.new.self new c.upper.new.steps c.in_ok-link.ensures.sound
     (attached_grows c.upper.new.self c.attach.new.self (edge_of c.in_ok-upper.upper c.args.symbol c.args.lower c.edge-label.result.label)
-        c.in_ok-link.ensures.links
+    c.in_ok-link.ensures.links
     c.in_ok-link.ensures.nodes c.in_ok-link.ensures.same)
     (ap (λ (q : Parser). q.states) c.in_ok-link.ensures.same) (ap (λ (q : Parser). q.level) c.in_ok-link.ensures.same) in
     step_on tokens c.args.self.now c.owning_link.new.self c.attach.new.self old middle new c.args.steps.now c.owning_link.new.steps c.upper.new.steps
     c.in_ok-owner.ensures.step
     (step_on tokens c.owning_link.new.self c.upper.new.self c.attach.new.self middle new new c.owning_link.new.steps c.upper.new.steps c.upper.new.steps upper
-        attached)
+    attached)
 
 pub returns-clause-few : goal.returns-clause-few
 returns-clause-few g c =
@@ -156,7 +156,7 @@ returns-clause-count g c =
 pub returns-clause-splits : goal.returns-clause-splits
 returns-clause-splits g c =
     ap (λ (q : Parser). q.spans.splits) c.in_ok-link.ensures.same ∙ ap (λ (q : Parser). q.spans.splits) c.in_ok-upper.ensures.same
-        ∙ c.in_ok-owner.ensures.splits
+    ∙ c.in_ok-owner.ensures.splits
 
 pub returns-clause-trail : goal.returns-clause-trail
 returns-clause-trail g c = (

@@ -13,7 +13,7 @@ use Rattle.rekers.proofs.parser.Parser.new_owner.Goals as goal
 pub own-requires-clause-linkable : goal.own-requires-clause-linkable
 own-requires-clause-linkable g c =
     linkable_on (kinds_of c.args.tokens.now) (g.G.Graph.means c.args.graph.now).grammar (g.G.Graph.means c.upper.new.graph).grammar
-        c.in_ok-upper.ensures.stands.grammar
+    c.in_ok-upper.ensures.stands.grammar
     c.args.self.now c.upper.new.self c.in_ok-upper.ensures.grows (ap (λ (q : Parser). q.level) c.in_ok-upper.ensures.same) c.requires.linkable
 
 pub own-requires-clause-nonterminal : goal.own-requires-clause-nonterminal
@@ -25,13 +25,13 @@ own-requires-clause-nonterminal g c =
 pub own-requires-clause-unlinked : goal.own-requires-clause-unlinked
 own-requires-clause-unlinked g c =
     unlinked_on c.args.self.now c.upper.new.self c.args.lower c.args.symbol c.in_ok-upper.ensures.links
-        (ap (λ (q : Parser). q.level) c.in_ok-upper.ensures.same)
+    (ap (λ (q : Parser). q.level) c.in_ok-upper.ensures.same)
     c.requires.unlinked
 
 pub own-requires-clause-first : goal.own-requires-clause-first
 own-requires-clause-first g c =
     first_on (kinds_of c.args.tokens.now) (g.G.Graph.means c.args.graph.now).grammar (g.G.Graph.means c.upper.new.graph).grammar
-        c.in_ok-upper.ensures.stands.grammar
+    c.in_ok-upper.ensures.stands.grammar
     c.args.self.now c.upper.new.self c.in_ok-upper.ensures.grows (ap (λ (q : Parser). q.level) c.in_ok-upper.ensures.same) c.requires.sound
     (node_below c.requires.linkable.node) c.requires.first
 

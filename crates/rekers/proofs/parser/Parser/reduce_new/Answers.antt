@@ -39,14 +39,14 @@ pub returns-in_err-check_size-clause-step : goal.returns-in_err-check_size-claus
 returns-in_err-check_size-clause-step g c =
     unless_any _ (step_more (kinds_of c.args.tokens.now) c.args.self.now c.new_link.new.self c.split.new.self (g.G.Graph.means c.args.graph.now)
     (g.G.Graph.means c.new_link.new.graph) c.args.steps.now c.new_link.new.steps c.in_ok-link.ensures.step c.in_ok-split.ensures.same
-        c.in_ok-split.ensures.sound
+    c.in_ok-split.ensures.sound
     c.in_ok-split.ensures.grows)
 
 pub returns-clause-step : goal.returns-clause-step
 returns-clause-step g c =
     step_more (kinds_of c.args.tokens.now) c.args.self.now c.new_link.new.self c.split.new.self (g.G.Graph.means c.args.graph.now)
     (g.G.Graph.means c.new_link.new.graph) c.args.steps.now c.new_link.new.steps c.in_ok-link.ensures.step c.in_ok-split.ensures.same
-        c.in_ok-split.ensures.sound
+    c.in_ok-split.ensures.sound
     c.in_ok-split.ensures.grows
 
 pub returns-clause-reduced : goal.returns-clause-reduced

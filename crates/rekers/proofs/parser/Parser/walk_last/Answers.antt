@@ -64,7 +64,7 @@ returns-in_err-finish-clause-step g c =
     let some : 0 < 1 = omega arith in
     unless_on c.in_err-finish.field-0.0 c.from_residual.result
     (err_from_is_err_and c.from_residual.result c.from_residual.ensures.1)
-        (λ step. step_back (kinds_of c.args.tokens.now) c.args.self.now c.links.self (g.G.Graph.means c.args.graph.now) (g.G.Graph.means c.links.graph)
+    (λ step. step_back (kinds_of c.args.tokens.now) c.args.self.now c.links.self (g.G.Graph.means c.args.graph.now) (g.G.Graph.means c.links.graph)
     c.args.steps.now c.links.steps c.args.walk c.args.node 1 c.args.met c.requires.sound c.requires.walking
     c.in-Some.link down some c.put.new.trail c.put.ensures.puts c.finish.new.self (g.G.Graph.means c.finish.new.graph) c.finish.new.steps step)
     c.in_err-finish.ensures.step
@@ -78,7 +78,7 @@ links-preserved g c =
     c.args.steps.now c.links.steps c.args.walk c.args.node 1 c.args.met c.requires.sound c.requires.walking
     c.in-Some.link down some c.put.new.trail c.put.ensures.puts c.finish.new.self (g.G.Graph.means c.finish.new.graph) c.finish.new.steps
     c.in_ok-finish.ensures.step c.in_ok-finish.ensures.walked c.in_ok-finish.ensures.within (ap (λ (v : Vec ℕ Global). v.items) c.in_ok-finish.ensures.trail)
-        (ap (λ (v : Vec ℕ Global). length v.items) c.in_ok-finish.ensures.trail)
+    (ap (λ (v : Vec ℕ Global). length v.items) c.in_ok-finish.ensures.trail)
     c.put.ensures.size c.in_ok-finish.ensures.stands c.in_ok-finish.ensures.never_back c.next_link-next.result c.next_link-next.ensures.next
     c.next_link-next.ensures.none
 

@@ -16,7 +16,8 @@ overflow_cast-word c = let word : ℕ = slice_index c.args.places.now c.loop-pla
 
 pub set-requires-clause-row : goal.set-requires-clause-row
 set-requires-clause-row c = let word : ℕ = slice_index c.args.places.now c.loop-place.place in
-    subst (λ (z : Sizes). word - 1 < z.rows) (sym c.loop-place.invariant.sizes) (c.requires.rows c.loop-place.place (word - 1) (row_met word c.if-word-eq0.false))
+    subst (λ (z : Sizes). word - 1 < z.rows) (sym c.loop-place.invariant.sizes)
+    (c.requires.rows c.loop-place.place (word - 1) (row_met word c.if-word-eq0.false))
 
 pub loop-place-preserved-then-word-eq0 : goal.loop-place-preserved-then-word-eq0
 loop-place-preserved-then-word-eq0 c = let i = c.loop-place.invariant in record {

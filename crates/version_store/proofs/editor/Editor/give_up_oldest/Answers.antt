@@ -157,7 +157,8 @@ module _ (v : View) (l n : Lives) (h : IsNotedIn (role_of v) l) (some : 0 < leng
     next_is = old.next_page (role_of v).newest (before_last first_ rest) (((last_of first_ rest).live.page, met) ∷ (role_of v).released) n left ∙ next
 
     begins : IsGiving c n.carried gone giving 0 u
-    begins = given.begins v (role_of v) first_ rest met u has idle (older v l h some x first met u has meets is) loads all_dropped c n.carried sizes marked share
+    begins = given.begins v (role_of v) first_ rest met u has idle (older v l h some x first met u has meets is) loads all_dropped c n.carried sizes marked
+        share
         unpinned (old.page_is (role_of v) l h some x first ∙ page) next_is (release v l h some x first met u has meets is).apart
         (λ row lt. ap (λ (i : ℕ). is_marked n.carried.sizes n.carried.marks.items i row) (sym next_is)
         ∙ left.carried_are (last_live (role_of v).newest (before_last first_ rest)) row (oldest_in (role_of v).newest (before_last first_ rest))
@@ -166,7 +167,8 @@ module _ (v : View) (l n : Lives) (h : IsNotedIn (role_of v) l) (some : 0 < leng
     -- and was gone through
     module _ (w : View) (places : List ℕ) (many : length places ≡ c.sizes.places) (freed : FreesPage c n.carried gone giving places u w) where
       role_is : w.role ≡ Some (role_left (role_of v) first_ rest met)
-      role_is = given.role_after v (role_of v) first_ rest met u has idle (older v l h some x first met u has meets is) loads all_dropped c n.carried w places sizes
+      role_is = given.role_after v (role_of v) first_ rest met u has idle (older v l h some x first met u has meets is) loads all_dropped c n.carried w places
+          sizes
           (old.page_is (role_of v) l h some x first ∙ page) many freed
 
       role_now : role_of w ≡ role_left (role_of v) first_ rest met
@@ -182,7 +184,8 @@ module _ (v : View) (l n : Lives) (h : IsNotedIn (role_of v) l) (some : 0 < leng
           (ap (λ (r : Role). r.newest) role_now) (ap (λ (r : Role). r.older) role_now) (ap (λ (r : Role). r.released) role_now)
 
       gives_up : (t : TableId × ℕ) → GivesUpOldest (editor_meaning v t) (editor_meaning w t)
-      gives_up t = given.gives_up v (role_of v) first_ rest met u has idle (older v l h some x first met u has meets is) loads all_dropped c n.carried w places sizes
+      gives_up t = given.gives_up v (role_of v) first_ rest met u has idle (older v l h some x first met u has meets is) loads all_dropped c n.carried w places
+          sizes
           (old.page_is (role_of v) l h some x first ∙ page) many freed t refl
 
 pub free_page-requires : goal.free_page-requires
@@ -191,9 +194,12 @@ free_page-requires g c = let e = c.args.self.now in let k = c.load_release-met i
     let p = old.parts (role_of v) e.lives e.noted c.requires x first in
     let left = c.drop_oldest.ensures.noted (role_of v).newest p.0 p.1 (role_of v).released (old.noted_parts (role_of v) e.lives e.noted c.requires x first) in
     let marked : n.carried.sizes ≡ e.sizes = n.measured ∙ c.drop_oldest.ensures.sizes ∙ e.lives_measured in (
-      gone v e.lives n e.noted c.requires x first k.result u e.editor e.keeps_all k.ensures.met k.ensures.view c.if-released-oldest.false left e.shared e.unpinned,
-      giving v e.lives n e.noted c.requires x first k.result u e.editor e.keeps_all k.ensures.met k.ensures.view c.if-released-oldest.false left e.shared e.unpinned,
-      begins v e.lives n e.noted c.requires x first k.result u e.editor e.keeps_all k.ensures.met k.ensures.view c.if-released-oldest.false left e.shared e.unpinned
+      gone v e.lives n e.noted c.requires x first k.result u e.editor e.keeps_all k.ensures.met k.ensures.view c.if-released-oldest.false left e.shared
+          e.unpinned,
+      giving v e.lives n e.noted c.requires x first k.result u e.editor e.keeps_all k.ensures.met k.ensures.view c.if-released-oldest.false left e.shared
+          e.unpinned,
+      begins v e.lives n e.noted c.requires x first k.result u e.editor e.keeps_all k.ensures.met k.ensures.view c.if-released-oldest.false left e.shared
+          e.unpinned
           _ e.measured marked refl (sym c.oldest_page.ensures),
     )
 

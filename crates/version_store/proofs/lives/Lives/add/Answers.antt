@@ -12,16 +12,17 @@ pub note-requires-clause-rows : goal.note-requires-clause-rows
 note-requires-clause-rows c = λ place row e. subst (λ (z : Sizes). row < z.rows) (sym c.args.self.now.measured) (c.requires.rows place row e)
 
 pub invariant_of-self : goal.invariant_of-self
-invariant_of-self c = let s = c.args.self.now in let p = c.push_reserved.ensures in let x : OlderVersion = record { live = s.newest; taken = c.args.taken } in record {
-  measured = c.note.ensures.sizes ∙ s.measured;
-  few = (let n = ap length p.items in let m = length-append s.older.items (x ∷ []) in let room = c.requires.room in omega arith);
-  room = (let k = p.capacity in let room = s.room in omega arith);
-  many = s.many;
-  pages_in = λ page i. elim i [
-    | inl e ↦ subst (λ (q : ℕ). q < s.sizes.versions) (sym e) c.requires.page
-    | inr t ↦ s.pages_in page (page_added s.newest s.older.items c.push_reserved.new.self.items x page p.items refl t)
-  ];
-}
+invariant_of-self c = let s = c.args.self.now in let p = c.push_reserved.ensures in let x : OlderVersion = record { live = s.newest; taken = c.args.taken } in
+    record {
+      measured = c.note.ensures.sizes ∙ s.measured;
+      few = (let n = ap length p.items in let m = length-append s.older.items (x ∷ []) in let room = c.requires.room in omega arith);
+      room = (let k = p.capacity in let room = s.room in omega arith);
+      many = s.many;
+      pages_in = λ page i. elim i [
+        | inl e ↦ subst (λ (q : ℕ). q < s.sizes.versions) (sym e) c.requires.page
+        | inr t ↦ s.pages_in page (page_added s.newest s.older.items c.push_reserved.new.self.items x page p.items refl t)
+      ];
+    }
 
 pub returns-clause-noted : goal.returns-clause-noted
 returns-clause-noted c = λ newest older known h out. let s = c.args.self.now in let p = c.push_reserved.ensures in let page : ℕ = c.args.page in
