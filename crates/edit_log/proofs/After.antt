@@ -14,12 +14,12 @@ use Rattle.grammar_text.specs.declared.edit.RuleText.{RuleText}
 use Rattle.grammar_text.specs.declared.edit.DefText.{DefText}
 use Rattle.grammar_text.specs.declared.edit.Edit.{Edit}
 use Rattle.grammar_text.specs.declared.edit.Edit.TheVariants.{AddRule, DropRule, AddToken, DropToken, AddSkip, DropSkip}
-use Rattle.grammar_text.specs.Sameness.{symbol_eq, rule_eq-decides}
+use Rattle.grammar_text.specs.Sameness.{spelling_eq, rule_eq-decides}
 use Rattle.forest.specs.declared.symbols.SymbolId.{SymbolId}
 use Rattle.forest.specs.declared.rules.Rule.{Rule}
 use Rattle.edit_log.specs.declared.limits.TheConstants.{LOG_LIMIT}
 use Rattle.edit_log.specs.Symbols.{number_of, symbol_at, with_symbols, symbols_of, numbered, text_of}
-use Rattle.edit_log.specs.History.{Definition, Grammar, empty_grammar, after, reads, has_name, is_of_kind, is_named, defined}
+use Rattle.edit_log.specs.History.{Definition, Grammar, empty_grammar, after_edit, reads, has_name, is_of_kind, is_named, defined}
 use Rattle.edit_log.specs.Verdict.{IsAccepted, rule_found, definition_found, is_defined, is_left, is_taken}
 use Rattle.edit_log.specs.Facts.{IsWellFormed}
 use Rattle.edit_log.specs.Replicas.{adds, drops}
@@ -74,8 +74,8 @@ parts_placed symbols (part ∷ right) within =
     (placed_from_get symbols (symbol_at symbols part) part.0 (slice_get-get_or symbols part.0 (Named []) within.0), parts_placed symbols right within.1)
 
 -- the symbols of what is dropped are there
-pub symbols_stay_rule : (g : Grammar) (r : RuleText) → IsWellFormed g → IsAccepted g (DropRule r) → (after g (DropRule r)).symbols ≡ g.symbols
-unfolding after
+pub symbols_stay_rule : (g : Grammar) (r : RuleText) → IsWellFormed g → IsAccepted g (DropRule r) → (after_edit g (DropRule r)).symbols ≡ g.symbols
+unfolding after_edit
 symbols_stay_rule g r well accepted =
     let free = free g (DropRule r) accepted.taken in
     let there = rule_there g r free.lack in
@@ -91,8 +91,8 @@ symbols_stay_rule g r well accepted =
     with_symbols-same g.symbols (Named r.left ∷ r.right) (subst (λ (text : RuleText). ArePlaced g.symbols (Named text.left ∷ text.right)) is.1 placed)
 
 pub symbols_stay_definition : (g : Grammar) (skip : Bool) (name : List ℕ) → IsWellFormed g → IsAccepted g (drops skip name)
-    → (after g (drops skip name)).symbols ≡ g.symbols
-unfolding after
+    → (after_edit g (drops skip name)).symbols ≡ g.symbols
+unfolding after_edit
 symbols_stay_definition g skip name well accepted =
     let free = free g (drops skip name) accepted.taken in
     let there = definition_there g skip name free.lack in
@@ -125,8 +125,8 @@ same_test g r live other well at there =
 
 -- what is dropped is dropped by its number
 pub rules_dropped : (g : Grammar) (r : RuleText) (live : Rule) → IsWellFormed g → IsAccepted g (DropRule r) → rule_found g r ≡ Some live
-    → (after g (DropRule r)).rules ≡ filter (λ other. not (other.number.0 == live.number.0)) g.rules
-unfolding after
+    → (after_edit g (DropRule r)).rules ≡ filter (λ other. not (other.number.0 == live.number.0)) g.rules
+unfolding after_edit
 rules_dropped g r live well accepted is =
     let stay = symbols_stay_rule g r well accepted in
     let at = written g r live is in
@@ -164,8 +164,8 @@ same_definition g skip name live other well is there =
 
 pub definitions_dropped : (g : Grammar) (skip : Bool) (name : List ℕ) (live : Definition) → IsWellFormed g → IsAccepted g (drops skip name)
     → definition_found g skip name ≡ Some live
-    → (after g (drops skip name)).definitions ≡ filter (λ other. not (other.number.0 == live.number.0)) g.definitions
-unfolding after
+    → (after_edit g (drops skip name)).definitions ≡ filter (λ other. not (other.number.0 == live.number.0)) g.definitions
+unfolding after_edit
 definitions_dropped g true name live well accepted is =
     ap (λ (symbols : List Symbol). filter (λ other. not (is_named symbols true name other)) g.definitions) (symbols_stay_definition g true name well accepted)
     ∙ filter_same (λ other. not (is_named g.symbols true name other)) (λ other. not (other.number.0 == live.number.0)) g.definitions
@@ -192,8 +192,8 @@ growing g edit well free few =
           omega (arith, grows.few);
     }) (with_symbols-distinct g.symbols (symbols_of edit) well.distinct)
 
-rule_well : (g : Grammar) (r : RuleText) → IsWellFormed g → IsAccepted g (AddRule r) → IsWellFormed (after g (AddRule r))
-unfolding after
+rule_well : (g : Grammar) (r : RuleText) → IsWellFormed g → IsAccepted g (AddRule r) → IsWellFormed (after_edit g (AddRule r))
+unfolding after_edit
 rule_well g r well accepted =
     let edit = AddRule r in
     let free = free g edit accepted.taken in
@@ -227,7 +227,7 @@ rule_well g r well accepted =
 
 -- a name that may be given to a token or a skip
 pub record IsUnused (g : Grammar) (name : List ℕ) : Type 0 where
-  pub lefts : AllByRecursion (λ (r : Rule). symbol_eq (symbol_at g.symbols r.left) (Named name) ≡ false) g.rules
+  pub lefts : AllByRecursion (λ (r : Rule). spelling_eq (symbol_at g.symbols r.left) (Named name) ≡ false) g.rules
   pub names : AllByRecursion (λ live. has_name g.symbols name live ≡ false) g.definitions
 
 neither : (symbols : List Symbol) (name : List ℕ) (live : Definition) → is_named symbols true name live ≡ false → is_named symbols false name live ≡ false
@@ -285,8 +285,8 @@ new_definition g skip d well free =
           both_ways _ no yes;
     }
 
-pub well_formed_after : (g : Grammar) (edit : Edit) → IsWellFormed g → IsAccepted g edit → IsWellFormed (after g edit)
-unfolding after
+pub well_formed_after : (g : Grammar) (edit : Edit) → IsWellFormed g → IsAccepted g edit → IsWellFormed (after_edit g edit)
+unfolding after_edit
 well_formed_after g (AddRule r) well accepted = rule_well g r well accepted
 well_formed_after g (DropRule r) well accepted =
     let free = free g (DropRule r) accepted.taken in

@@ -19,14 +19,14 @@ use Rattle.edit_log.specs.declared.definitions.DefId.TheVariants.{Named as named
 use Rattle.edit_log.specs.declared.named_definitions.NamedDefinition.{NamedDefinition}
 use Rattle.edit_log.specs.declared.ready.NewDefinition.{NewDefinition}
 use Rattle.edit_log.specs.declared.ready.Plan.TheVariants as planned
-use Rattle.edit_log.specs.History.{Definition, Grammar, after, defined}
+use Rattle.edit_log.specs.History.{Definition, Grammar, after_edit, defined}
 use Rattle.edit_log.specs.Verdict.{IsAccepted}
 use Rattle.edit_log.specs.Facts.{IsWellFormed}
 use Rattle.edit_log.specs.Live.{definition_cmp}
 use Rattle.edit_log.specs.Lookups.{ListsDefinitions}
 use Rattle.edit_log.specs.Kept.{AreUses}
 use Rattle.edit_log.specs.Agreement.{grammar_in, Agrees}
-use Rattle.edit_log.specs.Replicas.{IsPlanFor, IsNew, AreFreshFor, seen_of, symbols_in, HasPositions, adds}
+use Rattle.edit_log.specs.Replicas.{IsPlanFor, IsAddedDefinition, AreFreshFor, seen_of, symbols_in, HasPositions, adds}
 use Rattle.edit_log.proofs.PlainLists.{all_push}
 use Rattle.edit_log.proofs.After.{well_formed_after}
 use Rattle.edit_log.proofs.Finders.{finds_rules_added, finds_definition_added}
@@ -42,7 +42,7 @@ pub record IsAdd (g : Grammar) (edit : Edit) (p : NewDefinition) : Type 0 where
   pub text : DefText
   pub is : edit ≡ adds skip text
   pub name : p.name ≡ text.name
-  pub new : IsNew g (adds skip text) p.live (defined (after g (adds skip text)).symbols (g.version + 1) skip text)
+  pub new : IsAddedDefinition g (adds skip text) p.live (defined (after_edit g (adds skip text)).symbols (g.version + 1) skip text)
   pub fresh : AreFreshFor g (adds skip text) p.fresh.items
 
 pub add_planned : (g : Grammar) (edit : Edit) (p : NewDefinition) → IsPlanFor g edit (planned.AddDefinition p) → IsAdd g edit p
@@ -63,19 +63,19 @@ symbols_apart g edit p well accepted plan =
 
 -- ---- the grammar after it
 
-rules_kept : (g : Grammar) (skip : Bool) (d : DefText) → (after g (adds skip d)).rules ≡ g.rules
-unfolding after
+rules_kept : (g : Grammar) (skip : Bool) (d : DefText) → (after_edit g (adds skip d)).rules ≡ g.rules
+unfolding after_edit
 rules_kept g true d = refl
 rules_kept g false d = refl
 
-one_more : (g : Grammar) (skip : Bool) (d : DefText) → (after g (adds skip d)).definitions ≡ g.definitions ++ defined (after g (adds skip d)).symbols
+one_more : (g : Grammar) (skip : Bool) (d : DefText) → (after_edit g (adds skip d)).definitions ≡ g.definitions ++ defined (after_edit g (adds skip d)).symbols
     (g.version + 1) skip d ∷ []
-unfolding after
+unfolding after_edit
 one_more g true d = refl
 one_more g false d = refl
 
-uses_kept : (g : Grammar) (skip : Bool) (d : DefText) (uses : List ℕ) → AreUses (after g (adds skip d)).symbols g.rules uses
-    → AreUses (after g (adds skip d)).symbols (after g (adds skip d)).rules uses
+uses_kept : (g : Grammar) (skip : Bool) (d : DefText) (uses : List ℕ) → AreUses (after_edit g (adds skip d)).symbols g.rules uses
+    → AreUses (after_edit g (adds skip d)).symbols (after_edit g (adds skip d)).rules uses
 uses_kept g skip d uses are = rw (rules_kept g skip d) are
 
 module _ (version : ℕ) (symbols new_symbols : List Symbol) (rules : List Rule) (definitions new : List NamedDefinition) (edit : Edit) (p : NewDefinition) where
@@ -83,15 +83,15 @@ module _ (version : ℕ) (symbols new_symbols : List Symbol) (rules : List Rule)
   held = grammar_in version symbols rules definitions
 
   pub definition_come : IsPlanFor held edit (planned.AddDefinition p) → new_symbols ≡ symbols ++ symbols_in p.fresh.items → new ≡ definitions ++ p.live ∷ []
-      → grammar_in (version + 1) new_symbols rules new ≡ after held edit
+      → grammar_in (version + 1) new_symbols rules new ≡ after_edit held edit
   definition_come plan symbols-are is =
       let add = add_planned held edit p plan in
-      let seen : map seen_of new ≡ (after held (adds add.skip add.text)).definitions =
+      let seen : map seen_of new ≡ (after_edit held (adds add.skip add.text)).definitions =
       ap (map seen_of) is ∙ map-append seen_of definitions (p.live ∷ []) ∙ ap (λ (live : Definition). map seen_of definitions ++ live ∷ []) add.new.is ∙ sym
       (one_more held add.skip add.text) in
-      let same = same_grammar (grammar_in (version + 1) new_symbols rules new) (after held (adds add.skip add.text))
+      let same = same_grammar (grammar_in (version + 1) new_symbols rules new) (after_edit held (adds add.skip add.text))
       (sym (version_next held (adds add.skip add.text))) (symbols-are ∙ sym add.fresh.symbols) (sym (rules_kept held add.skip add.text)) seen in
-      same ∙ ap (after held) (sym add.is)
+      same ∙ ap (after_edit held) (sym add.is)
 
   pub agrees_definition_added : (finds : RuleText → Option RuleId) (old_names names : List ℕ → Option RuleId) (old_lefts lefts : List (Vec RuleId Global))
       (old_uses uses : List ℕ) (old_literals literals : List (Option Table))
@@ -108,7 +108,7 @@ module _ (version : ℕ) (symbols new_symbols : List Symbol) (rules : List Rule)
       let add = add_planned held edit p plan in
       let well = agrees.well_formed in
       let taken = subst (IsAccepted held) add.is accepted in
-      let same = definition_come plan symbols-are is ∙ ap (after held) add.is in
+      let same = definition_come plan symbols-are is ∙ ap (after_edit held) add.is in
       let next : RuleId = record { 0 = version + 1 } in
       let number : p.live.number ≡ next = ap (λ (live : Definition). live.number) add.new.is in
       let come : names add.text.name ≡ Some next = ap names (sym add.name) ∙ told ∙ ap Some number in

@@ -23,7 +23,7 @@ use Rattle.edit_log.specs.declared.fresh_symbols.FreshSymbol.{FreshSymbol}
 use Rattle.edit_log.specs.declared.ready.NewRule.{NewRule}
 use Rattle.edit_log.specs.declared.ready.Plan.TheVariants as plan
 use Rattle.edit_log.specs.Symbols.{place_of, number_of, numbered, with_symbols}
-use Rattle.edit_log.specs.History.{Grammar, after}
+use Rattle.edit_log.specs.History.{Grammar, after_edit}
 use Rattle.edit_log.specs.Facts.{IsWellFormed, IsNumber, IsRight}
 use Rattle.edit_log.specs.Verdict.{IsAccepted}
 use Rattle.edit_log.specs.Lists.{under, occurrences, all_occurrences, IsLiveBy}
@@ -34,7 +34,7 @@ use Rattle.edit_log.specs.declared.named_definitions.NamedDefinition.{NamedDefin
 use Rattle.edit_log.specs.Lookups.{ListsDefinitions}
 use Rattle.edit_log.specs.Agreement.{Agrees}
 use Rattle.edit_log.specs.Kept.{AreLefts, AreUses, AreLiteralTables}
-use Rattle.edit_log.specs.Replicas.{Replica, room_of, symbols_in, IsFresh, AreFreshFor, HasRoom, HasRoomUnder, IsApplicable}
+use Rattle.edit_log.specs.Replicas.{Replica, room_of, symbols_in, IsFreshSymbol, AreFreshFor, HasSpare, HasRoomUnder, IsApplicable}
 use Rattle.edit_log.proofs.PlainLists.{each_contained, nat_cmp_less}
 use Rattle.edit_log.proofs.Places.{IsPlaced, place_of-append, place_of-get, placed_from_get, with_symbols-placed}
 use Rattle.edit_log.proofs.Texts.{numbers_within}
@@ -47,9 +47,9 @@ use Rattle.edit_log.proofs.Liveness.{numbers_in, uses_with, literals_with, uses_
 -- the replica takes the rule, and has the memory for it
 pub record IsRuleToAdd (replica : Replica) (p : NewRule) : Type 0 where
   pub accepted : IsAccepted replica.grammar (AddRule p.text)
-  pub live : p.live ≡ numbered (after replica.grammar (AddRule p.text)).symbols (replica.grammar.version + 1) p.text
+  pub live : p.live ≡ numbered (after_edit replica.grammar (AddRule p.text)).symbols (replica.grammar.version + 1) p.text
   pub fresh : AreFreshFor replica.grammar (AddRule p.text) p.fresh.items
-  pub room : HasRoom replica.room
+  pub room : HasSpare replica.room
   pub under : HasRoomUnder replica (AddRule p.text)
 
 pub to_add : (replica : Replica) (edit : Edit) (p : NewRule) → IsApplicable replica edit (plan.AddRule p) → IsRuleToAdd replica p
@@ -88,25 +88,25 @@ length_rules (one ∷ fresh) = ap suc (length_rules fresh)
 
 -- how many symbols there are afterwards
 pub grown_length : (replica : Replica) (p : NewRule) → IsRuleToAdd replica p
-    → length (after replica.grammar (AddRule p.text)).symbols ≡ length replica.grammar.symbols + length p.fresh.items
+    → length (after_edit replica.grammar (AddRule p.text)).symbols ≡ length replica.grammar.symbols + length p.fresh.items
 grown_length replica p add = ap length add.fresh.symbols ∙ length-append replica.grammar.symbols (symbols_in p.fresh.items) ∙ ap
     (λ n. length replica.grammar.symbols + n) (length_in p.fresh.items)
 
 -- ---- the left side
 
-placed_left : (g : Grammar) (r : RuleText) → IsPlaced (after g (AddRule r)).symbols (Named r.left)
-unfolding after
+placed_left : (g : Grammar) (r : RuleText) → IsPlaced (after_edit g (AddRule r)).symbols (Named r.left)
+unfolding after_edit
 placed_left g r = (with_symbols-placed g.symbols (Named r.left ∷ r.right)).0
 
-placed_right : (g : Grammar) (r : RuleText) → AllByRecursion (IsPlaced (after g (AddRule r)).symbols) r.right
-unfolding after
+placed_right : (g : Grammar) (r : RuleText) → AllByRecursion (IsPlaced (after_edit g (AddRule r)).symbols) r.right
+unfolding after_edit
 placed_right g r = (with_symbols-placed g.symbols (Named r.left ∷ r.right)).1
 
 pub left_within : (replica : Replica) (p : NewRule) (lefts new : List (Vec RuleId Global)) → IsRuleToAdd replica p
     → AreLefts replica.grammar.symbols replica.grammar.rules lefts → new ≡ with_fresh lefts p.fresh.items
     → p.live.left.0 < length new
 left_within replica p lefts new add are new-is =
-    let left : p.live.left.0 ≡ place_of (after replica.grammar (AddRule p.text)).symbols (Named p.text.left) = ap (λ (r : Rule). r.left.0) add.live in
+    let left : p.live.left.0 ≡ place_of (after_edit replica.grammar (AddRule p.text)).symbols (Named p.text.left) = ap (λ (r : Rule). r.left.0) add.live in
     omega (
       arith,
       left,
@@ -123,14 +123,14 @@ left_cases : (replica : Replica) (p : NewRule) → IsRuleToAdd replica p → (th
     (length replica.grammar.symbols) ≡ there
     → cond there (p.live.left.0 ≡ place_of replica.grammar.symbols (Named p.text.left)) (length replica.grammar.symbols ≤ p.live.left.0)
 left_cases replica p add true is =
-    let left : p.live.left.0 ≡ place_of (after replica.grammar (AddRule p.text)).symbols (Named p.text.left) = ap (λ (r : Rule). r.left.0) add.live in
+    let left : p.live.left.0 ≡ place_of (after_edit replica.grammar (AddRule p.text)).symbols (Named p.text.left) = ap (λ (r : Rule). r.left.0) add.live in
     left ∙ ap (λ ss. place_of ss (Named p.text.left)) add.fresh.symbols ∙ place_of-append replica.grammar.symbols (symbols_in p.fresh.items) (Named p.text.left)
     (ltb-true _ _ is)
 left_cases replica p add false is = by (nat_lt p.live.left.0 (length replica.grammar.symbols)) refl
   where
-    at : slice_get (after replica.grammar (AddRule p.text)).symbols p.live.left.0 ≡ Some (Named p.text.left)
-    at = subst (λ n. slice_get (after replica.grammar (AddRule p.text)).symbols n ≡ Some (Named p.text.left)) (sym (ap (λ (r : Rule). r.left.0) add.live))
-        (place_of-get (after replica.grammar (AddRule p.text)).symbols (Named p.text.left) (placed_left replica.grammar p.text))
+    at : slice_get (after_edit replica.grammar (AddRule p.text)).symbols p.live.left.0 ≡ Some (Named p.text.left)
+    at = subst (λ n. slice_get (after_edit replica.grammar (AddRule p.text)).symbols n ≡ Some (Named p.text.left)) (sym (ap (λ (r : Rule). r.left.0) add.live))
+        (place_of-get (after_edit replica.grammar (AddRule p.text)).symbols (Named p.text.left) (placed_left replica.grammar p.text))
 
     front : (xs ys : List Symbol) (i : ℕ) (s : Symbol) → i < length xs → slice_get (xs ++ ys) i ≡ Some s → slice_get xs i ≡ Some s
     front [] ys i s within is = absurd (omega (arith, within))
@@ -145,7 +145,7 @@ left_cases replica p add false is = by (nat_lt p.live.left.0 (length replica.gra
     by false within = ltb-false _ _ within
 
 -- a list of fresh rules has room for one
-fresh_room : (fresh : List FreshSymbol) (i : ℕ) (list : Vec RuleId Global) → AllByRecursion IsFresh fresh
+fresh_room : (fresh : List FreshSymbol) (i : ℕ) (list : Vec RuleId Global) → AllByRecursion IsFreshSymbol fresh
     → slice_get (map (λ one. one.rules) fresh) i ≡ Some list → 1 ≤ room_of list
 fresh_room [] i list all is = absurd cc
 fresh_room (one ∷ fresh) zero list all is = subst (λ l. 1 ≤ room_of l) (same_Some one.rules list is) all.0.room
@@ -192,13 +192,13 @@ left_room replica p lefts new add are room-is new-is list is =
 -- ---- the right side
 
 pub right_within : (replica : Replica) (p : NewRule) (uses : List ℕ) → IsRuleToAdd replica p
-    → length uses ≡ length (after replica.grammar (AddRule p.text)).symbols
+    → length uses ≡ length (after_edit replica.grammar (AddRule p.text)).symbols
     → (part : SymbolId) → Contains p.live.right part → part.0 < length uses
 right_within replica p uses add len part there =
-    let all = numbers_within (after replica.grammar (AddRule p.text)).symbols p.text.right (placed_right replica.grammar p.text) in
-    let is : p.live.right ≡ map (number_of (after replica.grammar (AddRule p.text)).symbols) p.text.right = ap (λ (r : Rule). r.right) add.live in
-    let within = each_contained (λ (x : SymbolId). x.0 < length (after replica.grammar (AddRule p.text)).symbols)
-    (map (number_of (after replica.grammar (AddRule p.text)).symbols) p.text.right) part all (subst (λ xs. Contains xs part) is there) in
+    let all = numbers_within (after_edit replica.grammar (AddRule p.text)).symbols p.text.right (placed_right replica.grammar p.text) in
+    let is : p.live.right ≡ map (number_of (after_edit replica.grammar (AddRule p.text)).symbols) p.text.right = ap (λ (r : Rule). r.right) add.live in
+    let within = each_contained (λ (x : SymbolId). x.0 < length (after_edit replica.grammar (AddRule p.text)).symbols)
+    (map (number_of (after_edit replica.grammar (AddRule p.text)).symbols) p.text.right) part all (subst (λ xs. Contains xs part) is there) in
     omega (arith, within, len)
 
 length_numbers : (symbols xs : List Symbol) → length (map (number_of symbols) xs) ≡ length xs
@@ -208,7 +208,7 @@ length_numbers symbols (x ∷ xs) = ap suc (length_numbers symbols xs)
 pub right_short : (replica : Replica) (p : NewRule) → IsRuleToAdd replica p → length p.live.right ≤ 16
 right_short replica p add =
     let is : length p.live.right ≡ length p.text.right = ap (λ (r : Rule). length r.right) add.live ∙ length_numbers
-    (after replica.grammar (AddRule p.text)).symbols p.text.right in
+    (after_edit replica.grammar (AddRule p.text)).symbols p.text.right in
     omega (arith, is, short_right p.text add.accepted.proper.0)
 
 -- ---- how often a symbol is used at most
@@ -292,17 +292,18 @@ below_next replica p (r ∷ rules) add all = (omega (arith, all.0.1, ap (λ (l :
 
 pub after_rule : (replica : Replica) (p : NewRule) (symbols : List Symbol) (rules : List Rule) → IsRuleToAdd replica p
     → symbols ≡ replica.grammar.symbols ++ symbols_in p.fresh.items → rules ≡ replica.grammar.rules ++ p.live ∷ []
-    → (record { version = replica.grammar.version + 1; symbols = symbols; rules = rules; definitions = replica.grammar.definitions }) ≡ after replica.grammar
+    → (record { version = replica.grammar.version + 1; symbols = symbols; rules = rules; definitions = replica.grammar.definitions }) ≡ after_edit
+    replica.grammar
     (AddRule p.text)
-unfolding after
+unfolding after_edit
 after_rule replica p symbols rules add symbols-are rules-are =
     let all : symbols ≡ with_symbols replica.grammar.symbols (Named p.text.left ∷ p.text.right) = symbols-are ∙ sym add.fresh.symbols in
     let listed : rules ≡ replica.grammar.rules ++ numbered (with_symbols replica.grammar.symbols (Named p.text.left ∷ p.text.right))
     (replica.grammar.version + 1) p.text ∷ [] = rules-are ∙ ap (λ l. replica.grammar.rules ++ l ∷ []) add.live in
     (λ i. record { version = replica.grammar.version + 1; symbols = all i; rules = listed i; definitions = replica.grammar.definitions })
 
-same_numbers : (g : Grammar) (r : RuleText) → numbers_in (after g (AddRule r)).definitions ≡ numbers_in g.definitions
-unfolding after
+same_numbers : (g : Grammar) (r : RuleText) → numbers_in (after_edit g (AddRule r)).definitions ≡ numbers_in g.definitions
+unfolding after_edit
 same_numbers g r = refl
 
 pub agrees_rule_added : (replica : Replica) (p : NewRule) (definitions : List NamedDefinition) (numbers new_numbers : RuleText → Option RuleId)
@@ -317,7 +318,7 @@ pub agrees_rule_added : (replica : Replica) (p : NewRule) (definitions : List Na
     → ((place : ℕ) → slice_get new_uses place ≡ option_map (λ n. n + occurrences (record { 0 = place }) p.live.right) (slice_get grown place))
     → new_literals ≡ literals_with literals p.fresh.items
     → ((others : List RuleId) → ListsDefinitions (IsLiveBy new_literals grown others) live → ListsDefinitions (IsLiveBy new_literals new_uses others) new_live)
-    → new_spare ≡ [] → Agrees (after replica.grammar (AddRule p.text)) new_numbers names new_lefts new_uses new_literals definitions new_live new_spare
+    → new_spare ≡ [] → Agrees (after_edit replica.grammar (AddRule p.text)) new_numbers names new_lefts new_uses new_literals definitions new_live new_spare
 agrees_rule_added replica p definitions numbers new_numbers names lefts new_lefts uses grown new_uses literals new_literals live new_live spare new_spare agrees
     add number-is others-are len-is lists-are grown-is uses-len counts literals-are live-leads spare-is =
     let g = replica.grammar in
@@ -325,10 +326,10 @@ agrees_rule_added replica p definitions numbers new_numbers names lefts new_left
     let well = agrees.well_formed in
     let next = well_formed_after g (AddRule text) well add.accepted in
     let number : p.live.number ≡ record { 0 = g.version + 1 } = ap (λ (r : Rule). r.number) add.live in
-    let grown_uses : AreUses (after g (AddRule text)).symbols g.rules grown = subst (AreUses (after g (AddRule text)).symbols g.rules) (sym grown-is)
+    let grown_uses : AreUses (after_edit g (AddRule text)).symbols g.rules grown = subst (AreUses (after_edit g (AddRule text)).symbols g.rules) (sym grown-is)
     (uses_grown g (AddRule text) uses p.fresh.items well add.fresh agrees.has_uses) in
     let are_uses = uses_rule_added g text grown new_uses p.live.right well add.accepted grown_uses (ap (λ (r : Rule). r.right) add.live) uses-len counts in
-    let are_literals : AreLiteralTables (after g (AddRule text)).symbols new_literals = subst (AreLiteralTables (after g (AddRule text)).symbols)
+    let are_literals : AreLiteralTables (after_edit g (AddRule text)).symbols new_literals = subst (AreLiteralTables (after_edit g (AddRule text)).symbols)
     (sym literals-are) (literals_grown g (AddRule text) literals p.fresh.items add.fresh agrees.has_literals) in
     let grown_live : ListsDefinitions (IsLiveBy new_literals grown (numbers_in g.definitions)) live =
     subst (λ ls. ListsDefinitions (IsLiveBy ls grown (numbers_in g.definitions)) live) (sym literals-are)
@@ -345,6 +346,6 @@ agrees_rule_added replica p definitions numbers new_numbers names lefts new_left
       has_uses = are_uses;
       has_literals = are_literals;
       has_positions = agrees.has_positions;
-      has_live = live_from (after g (AddRule text)) new_uses new_literals new_live next are_uses are_literals new_listed;
+      has_live = live_from (after_edit g (AddRule text)) new_uses new_literals new_live next are_uses are_literals new_listed;
       no_spare = spare-is;
     }

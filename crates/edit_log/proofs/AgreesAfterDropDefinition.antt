@@ -17,7 +17,7 @@ use Rattle.edit_log.specs.declared.definitions.DefId.TheVariants.{Named as named
 use Rattle.edit_log.specs.declared.named_definitions.NamedDefinition.{NamedDefinition}
 use Rattle.edit_log.specs.declared.ready.OldDefinition.{OldDefinition}
 use Rattle.edit_log.specs.declared.ready.Plan.TheVariants as planned
-use Rattle.edit_log.specs.History.{Definition, Grammar, after}
+use Rattle.edit_log.specs.History.{Definition, Grammar, after_edit}
 use Rattle.edit_log.specs.Verdict.{IsAccepted, definition_found}
 use Rattle.edit_log.specs.Facts.{IsWellFormed}
 use Rattle.edit_log.specs.Live.{definition_cmp}
@@ -84,23 +84,23 @@ drop_planned g (DropSkip name) p is = record {
 
 -- ---- the grammar after it
 
-rules_stay : (g : Grammar) (skip : Bool) (name : List ℕ) → (after g (drops skip name)).rules ≡ g.rules
-unfolding after
+rules_stay : (g : Grammar) (skip : Bool) (name : List ℕ) → (after_edit g (drops skip name)).rules ≡ g.rules
+unfolding after_edit
 rules_stay g true name = refl
 rules_stay g false name = refl
 
-pub version_next : (g : Grammar) (edit : Edit) → (after g edit).version ≡ g.version + 1
-unfolding after
+pub version_next : (g : Grammar) (edit : Edit) → (after_edit g edit).version ≡ g.version + 1
+unfolding after_edit
 version_next g edit = refl
 
 uses_definition_dropped : (g : Grammar) (skip : Bool) (name : List ℕ) (uses : List ℕ) → IsWellFormed g → IsAccepted g (drops skip name)
     → AreUses g.symbols g.rules uses
-    → AreUses (after g (drops skip name)).symbols (after g (drops skip name)).rules uses
+    → AreUses (after_edit g (drops skip name)).symbols (after_edit g (drops skip name)).rules uses
 uses_definition_dropped g skip name uses well taken are = rw (symbols_stay_definition g skip name well taken, rules_stay g skip name) are
 
 literals_definition_dropped : (g : Grammar) (skip : Bool) (name : List ℕ) (literals : List (Option Table)) → IsWellFormed g → IsAccepted g (drops skip name)
     → AreLiteralTables g.symbols literals
-    → AreLiteralTables (after g (drops skip name)).symbols literals
+    → AreLiteralTables (after_edit g (drops skip name)).symbols literals
 literals_definition_dropped g skip name literals well taken are = rw (symbols_stay_definition g skip name well taken) are
 
 module _ (version : ℕ) (symbols : List Symbol) (rules : List Rule) (definitions new : List NamedDefinition) (edit : Edit) (p : OldDefinition) where
@@ -108,18 +108,18 @@ module _ (version : ℕ) (symbols : List Symbol) (rules : List Rule) (definition
   held = grammar_in version symbols rules definitions
 
   pub definition_gone : IsWellFormed held → IsAccepted held edit → IsPlanFor held edit (planned.DropDefinition p)
-      → new ≡ filter (λ live. not (live.number.0 == p.number.0)) definitions → grammar_in (version + 1) symbols rules new ≡ after held edit
+      → new ≡ filter (λ live. not (live.number.0 == p.number.0)) definitions → grammar_in (version + 1) symbols rules new ≡ after_edit held edit
   definition_gone well accepted plan is =
       let drop = drop_planned held edit p plan in
       let taken = subst (IsAccepted held) drop.is accepted in
-      let seen : map seen_of new ≡ (after held (drops drop.skip p.name)).definitions =
+      let seen : map seen_of new ≡ (after_edit held (drops drop.skip p.name)).definitions =
       ap (map seen_of) is ∙ seen_without p.number definitions ∙ ap (λ (n : RuleId). filter (λ (live : Definition). not (live.number.0 == n.0))
       (map seen_of definitions)) drop.number
       ∙ sym (definitions_dropped held drop.skip p.name drop.live well taken drop.found) in
-      let same = same_grammar (grammar_in (version + 1) symbols rules new) (after held (drops drop.skip p.name))
+      let same = same_grammar (grammar_in (version + 1) symbols rules new) (after_edit held (drops drop.skip p.name))
       (sym (version_next held (drops drop.skip p.name))) (sym (symbols_stay_definition held drop.skip p.name well taken))
       (sym (rules_stay held drop.skip p.name)) seen in
-      same ∙ ap (after held) (sym drop.is)
+      same ∙ ap (after_edit held) (sym drop.is)
 
   pub agrees_definition_dropped : (finds : RuleText → Option RuleId) (old_names names : List ℕ → Option RuleId) (lefts : List (Vec RuleId Global))
       (uses : List ℕ) (literals : List (Option Table)) (old_live live : List DefId) (spare : List Rule)
@@ -132,7 +132,7 @@ module _ (version : ℕ) (symbols : List Symbol) (rules : List Rule) (definition
       let drop = drop_planned held edit p plan in
       let well = agrees.well_formed in
       let taken = subst (IsAccepted held) drop.is accepted in
-      let same = definition_gone well accepted plan is ∙ ap (after held) drop.is in
+      let same = definition_gone well accepted plan is ∙ ap (after_edit held) drop.is in
       let lists = subst (λ (n : RuleId). ListsDefinitions (λ other. Contains old_live other × (other ≡ named n → ⊥)) live) drop.number
       (removed agrees.has_live.order) in
       subst (λ (g : Grammar). Agrees g finds names lefts uses literals new live spare) (sym same) (record {

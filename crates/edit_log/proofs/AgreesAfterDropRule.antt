@@ -22,7 +22,7 @@ use Rattle.edit_log.specs.declared.definitions.DefId.{DefId}
 use Rattle.edit_log.specs.declared.named_definitions.NamedDefinition.{NamedDefinition}
 use Rattle.edit_log.specs.declared.ready.OldRule.{OldRule}
 use Rattle.edit_log.specs.declared.ready.Plan.TheVariants as planned
-use Rattle.edit_log.specs.History.{Definition, Grammar, after, reads}
+use Rattle.edit_log.specs.History.{Definition, Grammar, after_edit, reads}
 use Rattle.edit_log.specs.Verdict.{IsAccepted, rule_found}
 use Rattle.edit_log.specs.Facts.{IsWellFormed, IsNamed, IsRight}
 use Rattle.edit_log.specs.Lookups.{ListsDefinitions, numbers_of_left, rule_of}
@@ -153,8 +153,8 @@ module _ (g : Grammar) (edit : Edit) (p : OldRule) (gone : Rule) (well : IsWellF
 
 -- ---- the grammar after it
 
-definitions_stay : (g : Grammar) (r : RuleText) → (after g (DropRule r)).definitions ≡ g.definitions
-unfolding after
+definitions_stay : (g : Grammar) (r : RuleText) → (after_edit g (DropRule r)).definitions ≡ g.definitions
+unfolding after_edit
 definitions_stay g r = refl
 
 module _ (version : ℕ) (symbols : List Symbol) (rules new : List Rule) (definitions : List NamedDefinition) (edit : Edit) (p : OldRule) (gone : Rule) where
@@ -162,15 +162,15 @@ module _ (version : ℕ) (symbols : List Symbol) (rules new : List Rule) (defini
   held = grammar_in version symbols rules definitions
 
   pub rule_gone : IsWellFormed held → IsAccepted held edit → IsPlanFor held edit (planned.DropRule p) → rule_of rules p.number ≡ Some gone
-      → new ≡ filter (λ r. not (r.number.0 == p.number.0)) rules → grammar_in (version + 1) symbols new definitions ≡ after held edit
+      → new ≡ filter (λ r. not (r.number.0 == p.number.0)) rules → grammar_in (version + 1) symbols new definitions ≡ after_edit held edit
   rule_gone well accepted plan gone-is is =
       let drop = rule_dropped held edit p gone well plan gone-is in
       let taken = subst (IsAccepted held) drop.is accepted in
-      let kept : new ≡ (after held (DropRule p.text)).rules =
+      let kept : new ≡ (after_edit held (DropRule p.text)).rules =
       is ∙ ap (λ (n : RuleId). filter (λ (r : Rule). not (r.number.0 == n.0)) rules) drop.number ∙ sym (rules_dropped held p.text gone well taken drop.found) in
-      let same = same_grammar (grammar_in (version + 1) symbols new definitions) (after held (DropRule p.text))
+      let same = same_grammar (grammar_in (version + 1) symbols new definitions) (after_edit held (DropRule p.text))
       (sym (version_next held (DropRule p.text))) (sym (symbols_stay_rule held p.text well taken)) kept (sym (definitions_stay held p.text)) in
-      same ∙ ap (after held) (sym drop.is)
+      same ∙ ap (after_edit held) (sym drop.is)
 
   pub agrees_rule_dropped : (old_numbers numbers : RuleText → Option RuleId) (names : List ℕ → Option RuleId) (old_lefts lefts : List (Vec RuleId Global))
       (old_uses uses : List ℕ) (literals : List (Option Table)) (old_live live : List DefId) (spare : List Rule)
@@ -191,7 +191,7 @@ module _ (version : ℕ) (symbols : List Symbol) (rules new : List Rule) (defini
       let well = agrees.well_formed in
       let drop = rule_dropped held edit p gone well plan gone-is in
       let taken = subst (IsAccepted held) drop.is accepted in
-      let same = rule_gone well accepted plan gone-is is ∙ ap (after held) drop.is in
+      let same = rule_gone well accepted plan gone-is is ∙ ap (after_edit held) drop.is in
       let next_well = well_formed_after held (DropRule p.text) well taken in
       let lists = subst (λ (n : RuleId). (place : ℕ) → under lefts place ≡ (if place == gone.left.0 then filter (λ m. not (m.0 == n.0))
       (under old_lefts place) else under old_lefts place)) drop.number lefts-are in
@@ -211,6 +211,6 @@ module _ (version : ℕ) (symbols : List Symbol) (rules new : List Rule) (defini
         has_uses = next_uses;
         has_literals = next_literals;
         has_positions = agrees.has_positions;
-        has_live = live_from (after held (DropRule p.text)) uses literals live next_well next_uses next_literals by_next;
+        has_live = live_from (after_edit held (DropRule p.text)) uses literals live next_well next_uses next_literals by_next;
         no_spare = agrees.no_spare;
       })

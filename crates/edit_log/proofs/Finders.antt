@@ -10,11 +10,11 @@ use Rattle.grammar_text.specs.declared.edit.RuleText.{RuleText}
 use Rattle.grammar_text.specs.declared.edit.DefText.{DefText}
 use Rattle.grammar_text.specs.declared.edit.Edit.{Edit}
 use Rattle.grammar_text.specs.declared.edit.Edit.TheVariants.{AddRule, DropRule, AddSkip}
-use Rattle.grammar_text.specs.Sameness.{symbol_eq, symbol_eq-decides, rule_eq, rule_eq-decides}
+use Rattle.grammar_text.specs.Sameness.{spelling_eq, spelling_eq-decides, rule_eq, rule_eq-decides}
 use Rattle.forest.specs.declared.rules.RuleId.{RuleId}
 use Rattle.forest.specs.declared.rules.Rule.{Rule}
 use Rattle.edit_log.specs.Symbols.{symbol_at, with_symbols, symbols_of, numbered, text_of}
-use Rattle.edit_log.specs.History.{Definition, Grammar, after, reads, has_name, defined}
+use Rattle.edit_log.specs.History.{Definition, Grammar, after_edit, reads, has_name, defined}
 use Rattle.edit_log.specs.Verdict.{IsAccepted, rule_found}
 use Rattle.edit_log.specs.Facts.{IsWellFormed}
 use Rattle.edit_log.specs.Kept.{FindsRules, FindsDefinitions}
@@ -49,14 +49,14 @@ names_same g edit name well =
     let within = named_within g.symbols live.name (each_contained _ g.definitions live well.names there) in
     let same : symbol_at (grown_by g edit) live.name ≡ symbol_at g.symbols live.name = ap (λ ss. symbol_at ss live.name) grows.is
     ∙ symbol_at-grow g.symbols grows.more live.name within in
-    ap (λ s. symbol_eq s (Named name)) same))
+    ap (λ s. spelling_eq s (Named name)) same))
 
 -- ---- rules
 
 pub finds_rule_added : (g : Grammar) (r : RuleText) (old new : RuleText → Option RuleId) → IsWellFormed g → IsAccepted g (AddRule r) → FindsRules g old
     → new r ≡ Some (record { 0 = g.version + 1 }) → ((other : RuleText) → rule_eq r other ≡ false → new other ≡ old other)
-    → FindsRules (after g (AddRule r)) new
-unfolding after
+    → FindsRules (after_edit g (AddRule r)) new
+unfolding after_edit
 finds_rule_added g r old new well accepted finds added kept other = by (rule_eq r other) refl
   where
     text : text_of (grown_by g (AddRule r)) (numbered (grown_by g (AddRule r)) (g.version + 1) r) ≡ r
@@ -80,8 +80,8 @@ finds_rule_added g r old new well accepted finds added kept other = by (rule_eq 
         (g.version + 1) r) fails ∙ reads_same g (AddRule r) other well))
 
 pub finds_rule_dropped : (g : Grammar) (r : RuleText) (old new : RuleText → Option RuleId) → IsWellFormed g → IsAccepted g (DropRule r) → FindsRules g old
-    → new r ≡ None → ((other : RuleText) → rule_eq r other ≡ false → new other ≡ old other) → FindsRules (after g (DropRule r)) new
-unfolding after
+    → new r ≡ None → ((other : RuleText) → rule_eq r other ≡ false → new other ≡ old other) → FindsRules (after_edit g (DropRule r)) new
+unfolding after_edit
 finds_rule_dropped g r old new well accepted finds dropped kept other =
     subst (λ (symbols : List Symbol). new other ≡ option_map (λ live. live.number) (find (reads symbols other)
     (filter (λ live. not (reads symbols r live)) g.rules))) (sym (symbols_stay_rule g r well accepted)) (by (rule_eq r other) refl)
@@ -103,14 +103,14 @@ finds_rule_dropped g r old new well accepted finds dropped kept other =
         kept other is ∙ finds other ∙ sym (ap (option_map (λ (live : Rule). live.number)) stays)
 
 pub finds_rules_added : (g : Grammar) (skip : Bool) (d : DefText) (old : RuleText → Option RuleId) → IsWellFormed g → IsAccepted g (adds skip d)
-    → FindsRules g old → FindsRules (after g (adds skip d)) old
-unfolding after
+    → FindsRules g old → FindsRules (after_edit g (adds skip d)) old
+unfolding after_edit
 finds_rules_added g true d old well accepted finds = λ r. finds r ∙ sym (ap (option_map (λ (live : Rule). live.number)) (reads_same g (adds true d) r well))
 finds_rules_added g false d old well accepted finds = λ r. finds r ∙ sym (ap (option_map (λ (live : Rule). live.number)) (reads_same g (adds false d) r well))
 
 pub finds_rules_dropped : (g : Grammar) (skip : Bool) (name : List ℕ) (old : RuleText → Option RuleId) → IsWellFormed g → IsAccepted g (drops skip name)
-    → FindsRules g old → FindsRules (after g (drops skip name)) old
-unfolding after
+    → FindsRules g old → FindsRules (after_edit g (drops skip name)) old
+unfolding after_edit
 finds_rules_dropped g true name old well accepted finds = λ r. finds r ∙ sym
     (ap (option_map (λ (live : Rule). live.number)) (reads_same g (drops true name) r well))
 finds_rules_dropped g false name old well accepted finds = λ r. finds r ∙ sym
@@ -124,7 +124,7 @@ named_so : (g : Grammar) (skip : Bool) (d : DefText) (name : List ℕ)
     ≡ bytes_eq d.name name
 named_so g skip d name =
     let placed = with_symbols-placed g.symbols (Named d.name ∷ []) in
-    ap (λ s. symbol_eq s (Named name)) (symbol_at_number (with_symbols g.symbols (Named d.name ∷ [])) (Named d.name) placed.0)
+    ap (λ s. spelling_eq s (Named name)) (symbol_at_number (with_symbols g.symbols (Named d.name ∷ [])) (Named d.name) placed.0)
 
 -- the name is found behind the definition that is added
 definition_added : (g : Grammar) (skip : Bool) (d : DefText) (old new : List ℕ → Option RuleId) → IsWellFormed g → IsUnused g d.name → FindsDefinitions g old
@@ -152,8 +152,8 @@ definition_added g skip d old new well free finds added kept other = by (bytes_e
 pub finds_definition_added : (g : Grammar) (skip : Bool) (d : DefText) (old new : List ℕ → Option RuleId) → IsWellFormed g → IsAccepted g (adds skip d)
     → FindsDefinitions g old
     → new d.name ≡ Some (record { 0 = g.version + 1 }) → ((other : List ℕ) → bytes_eq d.name other ≡ false → new other ≡ old other)
-    → FindsDefinitions (after g (adds skip d)) new
-unfolding after
+    → FindsDefinitions (after_edit g (adds skip d)) new
+unfolding after_edit
 finds_definition_added g true d old new well accepted finds added kept = definition_added g true d old new well
     (added_unused g true d (free g (adds true d) accepted.taken)) finds added kept
 finds_definition_added g false d old new well accepted finds added kept = definition_added g false d old new well
@@ -183,32 +183,32 @@ definition_dropped g name live old new well there called finds dropped kept othe
         let stays = find_kept (has_name g.symbols other) (λ x. not (x.number.0 == live.number.0)) g.definitions (all_contained _ g.definitions (λ x c passes.
         ap not (false_from_ne_true (x.number.0 == live.number.0) (λ e.
         let same : x ≡ live = one_numbered g x live well c there (eqb-true x.number.0 live.number.0 e) in
-        let his : symbol_at g.symbols x.name ≡ Named other = (symbol_eq-decides (symbol_at g.symbols x.name) (Named other)).0 passes in
-        let its : symbol_at g.symbols live.name ≡ Named name = (symbol_eq-decides (symbol_at g.symbols live.name) (Named name)).0 called in
-        both_ways (bytes_eq name other) is ((symbol_eq-decides (Named name) (Named other)).1 (sym its ∙ ap (λ (d : Definition). symbol_at g.symbols d.name)
+        let his : symbol_at g.symbols x.name ≡ Named other = (spelling_eq-decides (symbol_at g.symbols x.name) (Named other)).0 passes in
+        let its : symbol_at g.symbols live.name ≡ Named name = (spelling_eq-decides (symbol_at g.symbols live.name) (Named name)).0 called in
+        both_ways (bytes_eq name other) is ((spelling_eq-decides (Named name) (Named other)).1 (sym its ∙ ap (λ (d : Definition). symbol_at g.symbols d.name)
         (sym same) ∙ his)))))) in
         kept other is ∙ finds other ∙ sym (ap (option_map (λ (live : Definition). live.number)) stays)
 
 pub finds_definition_dropped : (g : Grammar) (skip : Bool) (name : List ℕ) (old new : List ℕ → Option RuleId) → IsWellFormed g → IsAccepted g (drops skip name)
     → FindsDefinitions g old
-    → new name ≡ None → ((other : List ℕ) → bytes_eq name other ≡ false → new other ≡ old other) → FindsDefinitions (after g (drops skip name)) new
+    → new name ≡ None → ((other : List ℕ) → bytes_eq name other ≡ false → new other ≡ old other) → FindsDefinitions (after_edit g (drops skip name)) new
 finds_definition_dropped g skip name old new well accepted finds dropped kept other =
     let live = definition_there g skip name (free g (drops skip name) accepted.taken).lack in
     let at = called g skip name live.0 live.1 in
     let inner = definition_dropped g name live.0 old new well at.0 at.1 finds dropped kept other in
-    subst (λ (symbols : List Symbol). new other ≡ option_map (λ live. live.number) (find (has_name symbols other) (after g (drops skip name)).definitions))
+    subst (λ (symbols : List Symbol). new other ≡ option_map (λ live. live.number) (find (has_name symbols other) (after_edit g (drops skip name)).definitions))
     (sym (symbols_stay_definition g skip name well accepted))
     (subst (λ (definitions : List Definition). new other ≡ option_map (λ live. live.number) (find (has_name g.symbols other) definitions))
     (sym (definitions_dropped g skip name live.0 well accepted live.1)) inner)
 
 pub finds_definitions_added : (g : Grammar) (r : RuleText) (old : List ℕ → Option RuleId) → IsWellFormed g → IsAccepted g (AddRule r) → FindsDefinitions g old
-    → FindsDefinitions (after g (AddRule r)) old
-unfolding after
+    → FindsDefinitions (after_edit g (AddRule r)) old
+unfolding after_edit
 finds_definitions_added g r old well accepted finds = λ name. finds name ∙ sym (ap (option_map (λ (live : Definition). live.number))
     (names_same g (AddRule r) name well))
 
 pub finds_definitions_dropped : (g : Grammar) (r : RuleText) (old : List ℕ → Option RuleId) → IsWellFormed g → IsAccepted g (DropRule r)
-    → FindsDefinitions g old → FindsDefinitions (after g (DropRule r)) old
-unfolding after
+    → FindsDefinitions g old → FindsDefinitions (after_edit g (DropRule r)) old
+unfolding after_edit
 finds_definitions_dropped g r old well accepted finds = λ name. finds name ∙ sym (ap (option_map (λ (live : Definition). live.number))
     (names_same g (DropRule r) name well))

@@ -6,7 +6,7 @@ use Rattle.std.proofs.lemmas.Bool.{lt-ltb, le-ltb, ltb-true, ltb-false, both_way
 use Rattle.std.proofs.lemmas.Option.{get_or_from_slice_get, slice_get_within}
 use Rattle.std.proofs.lemmas.List.Sums.{fails_before_first, passes_at_first}
 use Rattle.grammar_text.specs.declared.symbol.Symbol.{Symbol}
-use Rattle.grammar_text.specs.Sameness.{symbol_eq, symbol_eq-decides}
+use Rattle.grammar_text.specs.Sameness.{spelling_eq, spelling_eq-decides}
 use Rattle.edit_log.specs.Symbols.{place_of, with_symbol}
 use Rattle.edit_log.proofs.Places.{IsPlaced, place_of-append, place_of-push, IsPlaced-append, with_symbol-same}
 
@@ -51,18 +51,18 @@ position_past test xs is = by (ltb (position_or_len test xs) (length xs)) refl i
 
 -- ---- a symbol among those that are known, and then among the fresh ones
 
-pub symbol_eq-sym : (a b : Symbol) (answer : Bool) → symbol_eq a b ≡ answer → symbol_eq b a ≡ answer
-symbol_eq-sym a b true is = (symbol_eq-decides b a).1 (sym ((symbol_eq-decides a b).0 is))
-symbol_eq-sym a b false is = by (symbol_eq b a) refl
+pub spelling_eq-sym : (a b : Symbol) (answer : Bool) → spelling_eq a b ≡ answer → spelling_eq b a ≡ answer
+spelling_eq-sym a b true is = (spelling_eq-decides b a).1 (sym ((spelling_eq-decides a b).0 is))
+spelling_eq-sym a b false is = by (spelling_eq b a) refl
   where
-    by : (back : Bool) → symbol_eq b a ≡ back → symbol_eq b a ≡ false
-    by true back = absurd (both_ways (symbol_eq a b) is ((symbol_eq-decides a b).1 (sym ((symbol_eq-decides b a).0 back))))
+    by : (back : Bool) → spelling_eq b a ≡ back → spelling_eq b a ≡ false
+    by true back = absurd (both_ways (spelling_eq a b) is ((spelling_eq-decides a b).1 (sym ((spelling_eq-decides b a).0 back))))
     by false back = back
 
 -- behind symbols that are others its place is that among the rest
 pub place_of-behind : (known fresh : List Symbol) (s : Symbol) → length known ≤ place_of known s → place_of (known ++ fresh) s ≡ length known + place_of fresh s
 place_of-behind [] fresh s past = omega arith
-place_of-behind (first ∷ others) fresh s past = by (symbol_eq s first) (place_of-behind others fresh s) past
+place_of-behind (first ∷ others) fresh s past = by (spelling_eq s first) (place_of-behind others fresh s) past
   where
     by : (same : Bool) → (length others ≤ place_of others s → place_of (others ++ fresh) s ≡ length others + place_of fresh s)
         → length (first ∷ others) ≤ cond (not same) (1 + place_of others s) 0
@@ -75,34 +75,35 @@ pub record IsNumberIn (old new : List Symbol) (s : Symbol) (number : ℕ) : Type
   pub list : new ≡ with_symbol old s
   pub place : number ≡ place_of new s
 
-pub in_known : (known fresh : List Symbol) (s : Symbol) (place : ℕ) → position (symbol_eq s) known ≡ Some place
+pub in_known : (known fresh : List Symbol) (s : Symbol) (place : ℕ) → position (spelling_eq s) known ≡ Some place
     → IsNumberIn (known ++ fresh) (known ++ fresh) s place
 in_known known fresh s place at =
-    let where_it_is = position_within (symbol_eq s) known place at in
+    let where_it_is = position_within (spelling_eq s) known place at in
     let placed : IsPlaced known s = omega arith in
     record {
       list = sym (with_symbol-same (known ++ fresh) s (IsPlaced-append known fresh s placed));
       place = where_it_is.0 ∙ sym (place_of-append known fresh s placed);
     }
 
-pub in_fresh : (known fresh : List Symbol) (s : Symbol) (place : ℕ) → position (symbol_eq s) known ≡ None → position (symbol_eq s) fresh ≡ Some place
+pub in_fresh : (known fresh : List Symbol) (s : Symbol) (place : ℕ) → position (spelling_eq s) known ≡ None → position (spelling_eq s) fresh ≡ Some place
     → IsNumberIn (known ++ fresh) (known ++ fresh) s (length known + place)
 in_fresh known fresh s place none at =
-    let where_it_is = position_within (symbol_eq s) fresh place at in
-    let behind = place_of-behind known fresh s (position_past (symbol_eq s) known none) in
+    let where_it_is = position_within (spelling_eq s) fresh place at in
+    let behind = place_of-behind known fresh s (position_past (spelling_eq s) known none) in
     record {
       list = sym (with_symbol-same (known ++ fresh) s (rw behind (omega (arith, length-append known fresh, where_it_is))));
       place = omega (arith, behind, where_it_is);
     }
 
-pub in_neither : (known fresh : List Symbol) (s : Symbol) → position (symbol_eq s) known ≡ None → position (symbol_eq s) fresh ≡ None
+pub in_neither : (known fresh : List Symbol) (s : Symbol) → position (spelling_eq s) known ≡ None → position (spelling_eq s) fresh ≡ None
     → IsNumberIn (known ++ fresh) (known ++ (fresh ++ s ∷ [])) s (length known + length fresh)
 in_neither known fresh s none absent =
-    let behind = place_of-behind known fresh s (position_past (symbol_eq s) known none) in
+    let behind = place_of-behind known fresh s (position_past (spelling_eq s) known none) in
     let past : length (known ++ fresh) ≤ place_of (known ++ fresh) s =
-    rw behind (omega (arith, length-append known fresh, position_past (symbol_eq s) fresh absent)) in
+    rw behind (omega (arith, length-append known fresh, position_past (spelling_eq s) fresh absent)) in
     let all : known ++ (fresh ++ s ∷ []) ≡ (known ++ fresh) ++ s ∷ [] = sym (append_assoc known fresh (s ∷ [])) in
     record {
       list = rw (le-ltb (place_of (known ++ fresh) s) (length (known ++ fresh)) past) all;
-      place = sym (place_of-push (known ++ fresh) (known ++ (fresh ++ s ∷ [])) s (nowhere (symbol_eq s) (known ++ fresh) past) all ∙ length-append known fresh);
+      place = sym (place_of-push (known ++ fresh) (known ++ (fresh ++ s ∷ [])) s (nowhere (spelling_eq s)
+          (known ++ fresh) past) all ∙ length-append known fresh);
     }

@@ -4,7 +4,7 @@ use Rattle.std.proofs.Common.{arith, append_assoc, length-append}
 use Rattle.std.proofs.lemmas.List.{map-append}
 use Rattle.std.proofs.lemmas.Option.{slice_get-map, slice_get_read}
 use Rattle.grammar_text.specs.declared.symbol.Symbol.{Symbol}
-use Rattle.grammar_text.specs.Sameness.{symbol_eq}
+use Rattle.grammar_text.specs.Sameness.{spelling_eq}
 use Rattle.forest.specs.Distinct.{IsDistinct}
 use Rattle.edit_log.specs.declared.fresh_symbols.FreshSymbol.{FreshSymbol}
 use Rattle.edit_log.specs.Replicas.{symbols_in}
@@ -29,7 +29,7 @@ next_is fresh done items rest one front is =
 -- its symbol is not there yet
 pub next_new : (known keys : List Symbol) (fresh done rest : List FreshSymbol) (one : FreshSymbol) → IsNext fresh done rest one
     → IsDistinct (known ++ symbols_in fresh) → keys ≡ known ++ symbols_in done
-    → position (symbol_eq one.symbol) keys ≡ None
+    → position (spelling_eq one.symbol) keys ≡ None
 next_new known keys fresh done rest one next apart is =
     let symbols : symbols_in fresh ≡ symbols_in done ++ one.symbol ∷ symbols_in rest = ap symbols_in next.front ∙ map-append
     (λ (one : FreshSymbol). one.symbol) done (one ∷ rest) in

@@ -7,21 +7,21 @@ use Rattle.grammar_text.specs.declared.edit.Edit.TheVariants.{AddRule, DropRule,
 use Rattle.forest.specs.declared.rules.Rule.{Rule}
 use Rattle.edit_log.specs.Facts.{IsWellFormed}
 use Rattle.edit_log.specs.Symbols.{with_symbols, symbols_of, numbered}
-use Rattle.edit_log.specs.History.{Definition, Grammar, after, grammar_of, empty_grammar, defined}
+use Rattle.edit_log.specs.History.{Definition, Grammar, after_edit, grammar_of, empty_grammar, defined}
 use Rattle.edit_log.specs.Verdict.{AreAccepted, IsHistory}
 use Rattle.edit_log.proofs.PlainLists.{contains_filter}
 use Rattle.edit_log.proofs.After.{well_formed_empty, well_formed_after}
 
-along : (g : Grammar) (edits : List Edit) → IsWellFormed g → AreAccepted g edits → IsWellFormed (fold after g edits)
+along : (g : Grammar) (edits : List Edit) → IsWellFormed g → AreAccepted g edits → IsWellFormed (fold after_edit g edits)
 along g [] well accepted = well
-along g (edit ∷ edits) well accepted = along (after g edit) edits (well_formed_after g edit well accepted.0) accepted.1
+along g (edit ∷ edits) well accepted = along (after_edit g edit) edits (well_formed_after g edit well accepted.0) accepted.1
 
 pub well_formed_always : (history : List Edit) → IsHistory history → IsWellFormed (grammar_of history)
 well_formed_always history accepted = along empty_grammar history well_formed_empty accepted
 
 -- the rule is there already, or has this number
-pub new_rule : (g : Grammar) (edit : Edit) (live : Rule) → Contains (after g edit).rules live → Contains g.rules live ⊎ (live.number.0 ≡ g.version + 1)
-unfolding after
+pub new_rule : (g : Grammar) (edit : Edit) (live : Rule) → Contains (after_edit g edit).rules live → Contains g.rules live ⊎ (live.number.0 ≡ g.version + 1)
+unfolding after_edit
 new_rule g (AddRule r) live is = elim (Contains-push_cases g.rules (numbered (with_symbols g.symbols (symbols_of (AddRule r))) (g.version + 1) r) live is) [
   | inl c ↦ inl c
   | inr e ↦ inr (ap (λ (r : Rule). r.number.0) (sym e))
@@ -39,9 +39,9 @@ pushed g d live number there = elim (Contains-push_cases g.definitions d live th
   | inr e ↦ inr (ap (λ (d : Definition). d.number.0) (sym e) ∙ number)
 ]
 
-pub new_definition : (g : Grammar) (edit : Edit) (live : Definition) → Contains (after g edit).definitions live
+pub new_definition : (g : Grammar) (edit : Edit) (live : Definition) → Contains (after_edit g edit).definitions live
     → Contains g.definitions live ⊎ (live.number.0 ≡ g.version + 1)
-unfolding after
+unfolding after_edit
 new_definition g (AddRule r) live there = inl there
 new_definition g (DropRule r) live there = inl there
 new_definition g (AddToken d) live there = pushed g (defined (with_symbols g.symbols (symbols_of (AddToken d))) (g.version + 1) false d) live refl there

@@ -18,13 +18,13 @@ use Rattle.forest.specs.declared.rules.RuleId.{RuleId}
 use Rattle.forest.specs.declared.rules.Rule.{Rule}
 use Rattle.edit_log.specs.declared.fresh_symbols.FreshSymbol.{FreshSymbol}
 use Rattle.edit_log.specs.Symbols.{number_of, symbols_of, with_symbols, numbered}
-use Rattle.edit_log.specs.History.{Grammar, after}
+use Rattle.edit_log.specs.History.{Grammar, after_edit}
 use Rattle.edit_log.specs.Verdict.{IsAccepted, rule_found}
 use Rattle.edit_log.specs.Facts.{IsWellFormed}
 use Rattle.edit_log.specs.Lists.{under}
 use Rattle.edit_log.specs.Lookups.{numbers_of_left}
 use Rattle.edit_log.specs.Kept.{AreLefts}
-use Rattle.edit_log.specs.Replicas.{IsFresh, AreFreshFor, symbols_in, adds, drops}
+use Rattle.edit_log.specs.Replicas.{IsFreshSymbol, AreFreshFor, symbols_in, adds, drops}
 use Rattle.edit_log.proofs.PlainLists.{each_contained, all_contained, distinct_map, sorted_keys}
 use Rattle.edit_log.proofs.Texts.{named_within}
 use Rattle.edit_log.proofs.After.{written, rules_dropped, symbols_stay_rule, symbols_stay_definition}
@@ -75,13 +75,13 @@ filter_none test (x ∷ xs) all = rw all.0 (filter_none test xs all.1)
 abbrev pub with_fresh : List (Vec RuleId Global) → List FreshSymbol → List (Vec RuleId Global)
 with_fresh lefts fresh = lefts ++ map (λ one. one.rules) fresh
 
-under_fresh : (fresh : List FreshSymbol) → AllByRecursion IsFresh fresh → (place : ℕ) → under (map (λ one. one.rules) fresh) place ≡ []
+under_fresh : (fresh : List FreshSymbol) → AllByRecursion IsFreshSymbol fresh → (place : ℕ) → under (map (λ one. one.rules) fresh) place ≡ []
 under_fresh [] all place = refl
 under_fresh (one ∷ fresh) all zero = all.0.rules
 under_fresh (one ∷ fresh) all (suc place) = under_fresh fresh all.1 place
 
 -- a list is as it was, and a fresh one is empty
-under_with : (lefts : List (Vec RuleId Global)) (fresh : List FreshSymbol) → AllByRecursion IsFresh fresh → (place : ℕ)
+under_with : (lefts : List (Vec RuleId Global)) (fresh : List FreshSymbol) → AllByRecursion IsFreshSymbol fresh → (place : ℕ)
     → under (with_fresh lefts fresh) place ≡ under lefts place
 under_with [] fresh all place = under_fresh fresh all place
 under_with (list ∷ lefts) fresh all zero = refl
@@ -106,7 +106,7 @@ everywhere g lefts well are place = elim (cases_lt place (length g.symbols)) [
 ]
 
 length_with : (g : Grammar) (edit : Edit) (lefts : List (Vec RuleId Global)) (fresh : List FreshSymbol) → AreFreshFor g edit fresh
-    → length lefts ≡ length g.symbols → length (with_fresh lefts fresh) ≡ length (after g edit).symbols
+    → length lefts ≡ length g.symbols → length (with_fresh lefts fresh) ≡ length (after_edit g edit).symbols
 length_with g edit lefts fresh are_fresh len =
     omega (
       arith,
@@ -133,10 +133,10 @@ left_added rules r place =
 
 pub lefts_rule_added : (g : Grammar) (r : RuleText) (lefts new : List (Vec RuleId Global)) (fresh : List FreshSymbol) (left : SymbolId) (number : RuleId)
     → IsWellFormed g → IsAccepted g (AddRule r) → AreFreshFor g (AddRule r) fresh → AreLefts g.symbols g.rules lefts
-    → left ≡ number_of (after g (AddRule r)).symbols (Named r.left) → number ≡ record { 0 = g.version + 1 } → length new ≡ length (with_fresh lefts fresh)
+    → left ≡ number_of (after_edit g (AddRule r)).symbols (Named r.left) → number ≡ record { 0 = g.version + 1 } → length new ≡ length (with_fresh lefts fresh)
     → ((place : ℕ) → under new place ≡ (if place == left.0 then under (with_fresh lefts fresh) place ++ number ∷ [] else under (with_fresh lefts fresh) place))
-    → AreLefts (after g (AddRule r)).symbols (after g (AddRule r)).rules new
-unfolding after
+    → AreLefts (after_edit g (AddRule r)).symbols (after_edit g (AddRule r)).rules new
+unfolding after_edit
 lefts_rule_added g r lefts new fresh left number well accepted are_fresh are left-is number-is len lists = record {
   len = len ∙ length_with g (AddRule r) lefts fresh are_fresh are.len;
   lists = λ place within.
@@ -168,7 +168,7 @@ left_dropped g live place well there = elim (cases_eq place live.left.0) [
 pub lefts_rule_dropped : (g : Grammar) (r : RuleText) (lefts new : List (Vec RuleId Global)) (live : Rule)
     → IsWellFormed g → IsAccepted g (DropRule r) → rule_found g r ≡ Some live → AreLefts g.symbols g.rules lefts → length new ≡ length lefts
     → ((place : ℕ) → under new place ≡ (if place == live.left.0 then filter (λ n. not (n.0 == live.number.0)) (under lefts place) else under lefts place))
-    → AreLefts (after g (DropRule r)).symbols (after g (DropRule r)).rules new
+    → AreLefts (after_edit g (DropRule r)).symbols (after_edit g (DropRule r)).rules new
 lefts_rule_dropped g r lefts new live well accepted found are len lists = record {
   len = len ∙ are.len ∙ ap length (sym (symbols_stay_rule g r well accepted));
   lists = λ place within.
@@ -184,8 +184,8 @@ lefts_rule_dropped g r lefts new live well accepted found are len lists = record
 
 pub lefts_definition_added : (g : Grammar) (skip : Bool) (d : DefText) (lefts : List (Vec RuleId Global)) (fresh : List FreshSymbol)
     → IsWellFormed g → IsAccepted g (adds skip d) → AreFreshFor g (adds skip d) fresh → AreLefts g.symbols g.rules lefts
-    → AreLefts (after g (adds skip d)).symbols (after g (adds skip d)).rules (with_fresh lefts fresh)
-unfolding after
+    → AreLefts (after_edit g (adds skip d)).symbols (after_edit g (adds skip d)).rules (with_fresh lefts fresh)
+unfolding after_edit
 lefts_definition_added g true d lefts fresh well accepted are_fresh are = record {
   len = length_with g (adds true d) lefts fresh are_fresh are.len;
   lists = λ place within. under_with lefts fresh are_fresh.each place ∙ everywhere g lefts well are place;
@@ -195,14 +195,14 @@ lefts_definition_added g false d lefts fresh well accepted are_fresh are = recor
   lists = λ place within. under_with lefts fresh are_fresh.each place ∙ everywhere g lefts well are place;
 }
 
-rules_stay : (g : Grammar) (skip : Bool) (name : List ℕ) → (after g (drops skip name)).rules ≡ g.rules
-unfolding after
+rules_stay : (g : Grammar) (skip : Bool) (name : List ℕ) → (after_edit g (drops skip name)).rules ≡ g.rules
+unfolding after_edit
 rules_stay g true name = refl
 rules_stay g false name = refl
 
 pub lefts_definition_dropped : (g : Grammar) (skip : Bool) (name : List ℕ) (lefts : List (Vec RuleId Global))
     → IsWellFormed g → IsAccepted g (drops skip name) → AreLefts g.symbols g.rules lefts
-    → AreLefts (after g (drops skip name)).symbols (after g (drops skip name)).rules lefts
+    → AreLefts (after_edit g (drops skip name)).symbols (after_edit g (drops skip name)).rules lefts
 lefts_definition_dropped g skip name lefts well accepted are = record {
   len = are.len ∙ ap length (sym (symbols_stay_definition g skip name well accepted));
   lists = λ place within. everywhere g lefts well are place ∙ ap (λ rules. numbers_of_left rules (record { 0 = place })) (sym (rules_stay g skip name));

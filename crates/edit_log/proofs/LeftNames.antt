@@ -6,7 +6,7 @@ use Rattle.std.proofs.lemmas.Bool.{eq-eqb, ne_eqb, ltb-true, ltb-false}
 use Rattle.std.proofs.lemmas.Option.{same_Some, get_or_from_slice_get, slice_get_within, slice_get_read}
 use Rattle.grammar_text.specs.declared.symbol.Symbol.{Symbol}
 use Rattle.grammar_text.specs.declared.symbol.Symbol.TheVariants.{Named}
-use Rattle.grammar_text.specs.Sameness.{symbol_eq, symbol_eq-decides}
+use Rattle.grammar_text.specs.Sameness.{spelling_eq, spelling_eq-decides}
 use Rattle.forest.specs.declared.symbols.SymbolId.{SymbolId}
 use Rattle.forest.specs.declared.rules.RuleId.{RuleId}
 use Rattle.forest.specs.declared.rules.Rule.{Rule}
@@ -23,7 +23,7 @@ use Rattle.edit_log.proofs.PlainLists.{distinct_places}
 use Rattle.edit_log.proofs.Places.{place_of-get, placed_from_get}
 
 -- where a symbol is found, it stands
-pub found_at : (symbols : List Symbol) (s : Symbol) (place : ℕ) → position (symbol_eq s) symbols ≡ Some place → slice_get symbols place ≡ Some s
+pub found_at : (symbols : List Symbol) (s : Symbol) (place : ℕ) → position (spelling_eq s) symbols ≡ Some place → slice_get symbols place ≡ Some s
 found_at symbols s place is = by (nat_lt (place_of symbols s) (length symbols)) refl is
   where
     by : (there : Bool) → nat_lt (place_of symbols s) (length symbols) ≡ there → cond there (Some (place_of symbols s)) None ≡ Some place
@@ -34,7 +34,7 @@ found_at symbols s place is = by (nat_lt (place_of symbols s) (length symbols)) 
     by false there is = absurd cc
 
 -- where it is not found, it stands nowhere
-pub not_found : (symbols : List Symbol) (s : Symbol) → position (symbol_eq s) symbols ≡ None → (place : ℕ) → slice_get symbols place ≡ Some s → ⊥
+pub not_found : (symbols : List Symbol) (s : Symbol) → position (spelling_eq s) symbols ≡ None → (place : ℕ) → slice_get symbols place ≡ Some s → ⊥
 not_found symbols s is place at = by (nat_lt (place_of symbols s) (length symbols)) refl is
   where
     by : (there : Bool) → nat_lt (place_of symbols s) (length symbols) ≡ there → cond there (Some (place_of symbols s)) None ≡ None → ⊥
@@ -44,24 +44,24 @@ not_found symbols s is place at = by (nat_lt (place_of symbols s) (length symbol
 -- the left side has the name exactly where it has the name's number
 same_left : (symbols : List Symbol) (name : List ℕ) (place : ℕ) (left : SymbolId) → IsDistinct symbols → slice_get symbols place ≡ Some (Named name)
     → IsNamed symbols left
-    → (left.0 == place) ≡ symbol_eq (symbol_at symbols left) (Named name)
-same_left symbols name place left distinct at is = by (symbol_eq (Named is.0) (Named name)) refl
+    → (left.0 == place) ≡ spelling_eq (symbol_at symbols left) (Named name)
+same_left symbols name place left distinct at is = by (spelling_eq (Named is.0) (Named name)) refl
   where
     read : symbol_at symbols left ≡ Named is.0
     read = get_or_from_slice_get symbols left.0 (Named is.0) (Named []) is.1
 
-    by : (same : Bool) → symbol_eq (Named is.0) (Named name) ≡ same → (left.0 == place) ≡ symbol_eq (symbol_at symbols left) (Named name)
+    by : (same : Bool) → spelling_eq (Named is.0) (Named name) ≡ same → (left.0 == place) ≡ spelling_eq (symbol_at symbols left) (Named name)
     by true same =
-        let names : Named is.0 ≡ Named name = (symbol_eq-decides (Named is.0) (Named name)).0 same in
+        let names : Named is.0 ≡ Named name = (spelling_eq-decides (Named is.0) (Named name)).0 same in
         let places : left.0 ≡ place = distinct_places symbols left.0 place (Named name) distinct (is.1 ∙ ap Some names) at in
-        eq-eqb left.0 place places ∙ sym (ap (λ s. symbol_eq s (Named name)) read ∙ same)
+        eq-eqb left.0 place places ∙ sym (ap (λ s. spelling_eq s (Named name)) read ∙ same)
     by false same =
         let other : left.0 ≡ place → ⊥ = λ e.
         let both : Some (Named is.0) ≡ Some (Named name) = sym is.1 ∙ ap (slice_get symbols) e ∙ at in
         let names : Named is.0 ≡ Named name = same_Some (Named is.0) (Named name) both in
-        let yes : symbol_eq (Named is.0) (Named name) ≡ true = (symbol_eq-decides (Named is.0) (Named name)).1 names in
+        let yes : spelling_eq (Named is.0) (Named name) ≡ true = (spelling_eq-decides (Named is.0) (Named name)).1 names in
         absurd (let never : false ≡ true = sym same ∙ yes in cc) in
-        ne_eqb left.0 place other ∙ sym (ap (λ s. symbol_eq s (Named name)) read ∙ same)
+        ne_eqb left.0 place other ∙ sym (ap (λ s. spelling_eq s (Named name)) read ∙ same)
 
 -- some rule has the left side where there are rules under its number
 pub left_by_list : (g : Grammar) (name : List ℕ) (place : ℕ) (numbers : List RuleId) → IsWellFormed g → slice_get g.symbols place ≡ Some (Named name)
@@ -69,33 +69,34 @@ pub left_by_list : (g : Grammar) (name : List ℕ) (place : ℕ) (numbers : List
 left_by_list g name place numbers well at is = ap (λ ns. not (length ns == 0)) is ∙ go g.rules well.lefts
   where
     go : (rules : List Rule) → AllByRecursion (λ r. IsNamed g.symbols r.left) rules
-        → not (length (numbers_of_left rules (record { 0 = place })) == 0) ≡ list_any (λ live. symbol_eq (symbol_at g.symbols live.left) (Named name)) rules
+        → not (length (numbers_of_left rules (record { 0 = place })) == 0) ≡ list_any (λ live. spelling_eq (symbol_at g.symbols live.left) (Named name)) rules
     go [] all = refl
     go (r ∷ rules) all = by (r.left.0 == place) (same_left g.symbols name place r.left well.distinct at all.0) (go rules all.1)
       where
-        by : (is : Bool) → is ≡ symbol_eq (symbol_at g.symbols r.left) (Named name)
-            → not (length (numbers_of_left rules (record { 0 = place })) == 0) ≡ list_any (λ live. symbol_eq (symbol_at g.symbols live.left) (Named name)) rules
+        by : (is : Bool) → is ≡ spelling_eq (symbol_at g.symbols r.left) (Named name)
+            → not (length (numbers_of_left rules (record { 0 = place })) == 0) ≡ list_any (λ live. spelling_eq (symbol_at g.symbols live.left)
+            (Named name)) rules
             → not (length (map (λ (r : Rule). r.number) (cond is (r ∷ filter (λ (r : Rule). r.left.0 == place) rules)
             (filter (λ (r : Rule). r.left.0 == place) rules))) == 0)
-            ≡ (symbol_eq (symbol_at g.symbols r.left) (Named name) || list_any (λ live. symbol_eq (symbol_at g.symbols live.left) (Named name)) rules)
+            ≡ (spelling_eq (symbol_at g.symbols r.left) (Named name) || list_any (λ live. spelling_eq (symbol_at g.symbols live.left) (Named name)) rules)
         by true is rest = ap not (ne_eqb (suc (length (numbers_of_left rules (record { 0 = place })))) 0 (λ e. omega (arith, e))) ∙ ap
-            (λ b. b || list_any (λ (live : Rule). symbol_eq (symbol_at g.symbols live.left) (Named name)) rules) is
-        by false is rest = rest ∙ ap (λ b. b || list_any (λ (live : Rule). symbol_eq (symbol_at g.symbols live.left) (Named name)) rules) is
+            (λ b. b || list_any (λ (live : Rule). spelling_eq (symbol_at g.symbols live.left) (Named name)) rules) is
+        by false is rest = rest ∙ ap (λ b. b || list_any (λ (live : Rule). spelling_eq (symbol_at g.symbols live.left) (Named name)) rules) is
 
 -- a name that has no number is no left side
-pub left_unknown : (g : Grammar) (name : List ℕ) → IsWellFormed g → position (symbol_eq (Named name)) g.symbols ≡ None → false ≡ is_left g name
+pub left_unknown : (g : Grammar) (name : List ℕ) → IsWellFormed g → position (spelling_eq (Named name)) g.symbols ≡ None → false ≡ is_left g name
 left_unknown g name well none = go g.rules well.lefts
   where
     go : (rules : List Rule) → AllByRecursion (λ r. IsNamed g.symbols r.left) rules
-        → false ≡ list_any (λ live. symbol_eq (symbol_at g.symbols live.left) (Named name)) rules
+        → false ≡ list_any (λ live. spelling_eq (symbol_at g.symbols live.left) (Named name)) rules
     go [] all = refl
-    go (r ∷ rules) all = by (symbol_eq (symbol_at g.symbols r.left) (Named name)) refl (go rules all.1)
+    go (r ∷ rules) all = by (spelling_eq (symbol_at g.symbols r.left) (Named name)) refl (go rules all.1)
       where
-        by : (same : Bool) → symbol_eq (symbol_at g.symbols r.left) (Named name) ≡ same
-            → false ≡ list_any (λ live. symbol_eq (symbol_at g.symbols live.left) (Named name)) rules
-            → false ≡ (same || list_any (λ live. symbol_eq (symbol_at g.symbols live.left) (Named name)) rules)
+        by : (same : Bool) → spelling_eq (symbol_at g.symbols r.left) (Named name) ≡ same
+            → false ≡ list_any (λ live. spelling_eq (symbol_at g.symbols live.left) (Named name)) rules
+            → false ≡ (same || list_any (λ live. spelling_eq (symbol_at g.symbols live.left) (Named name)) rules)
         by true same rest =
-            let names : symbol_at g.symbols r.left ≡ Named name = (symbol_eq-decides (symbol_at g.symbols r.left) (Named name)).0 same in
+            let names : symbol_at g.symbols r.left ≡ Named name = (spelling_eq-decides (symbol_at g.symbols r.left) (Named name)).0 same in
             let read : symbol_at g.symbols r.left ≡ Named all.0.0 = get_or_from_slice_get g.symbols r.left.0 (Named all.0.0) (Named []) all.0.1 in
             absurd (not_found g.symbols (Named name) none r.left.0 (all.0.1 ∙ ap Some (sym read ∙ names)))
         by false same rest = rest

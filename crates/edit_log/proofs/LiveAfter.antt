@@ -14,7 +14,7 @@ use Rattle.forest.specs.declared.rules.RuleId.{RuleId}
 use Rattle.edit_log.specs.declared.definitions.DefId.{DefId}
 use Rattle.edit_log.specs.declared.definitions.DefId.TheVariants.{Literal as literal, Named as named}
 use Rattle.edit_log.specs.Symbols.{symbol_at, with_symbols}
-use Rattle.edit_log.specs.History.{Definition, Grammar, after}
+use Rattle.edit_log.specs.History.{Definition, Grammar, after_edit}
 use Rattle.edit_log.specs.Verdict.{IsAccepted, definition_found}
 use Rattle.edit_log.specs.Facts.{IsWellFormed, IsNumber}
 use Rattle.edit_log.specs.Live.{IsLive, is_literal}
@@ -100,41 +100,41 @@ numbers_without (x ∷ xs) gone n = by (x.number.0 == gone.0) refl (numbers_with
 
 -- ---- a token or a skip that is added
 
-added_symbols : (g : Grammar) (skip : Bool) (d : DefText) → (after g (adds skip d)).symbols ≡ with_symbols g.symbols (Named d.name ∷ [])
-unfolding after
+added_symbols : (g : Grammar) (skip : Bool) (d : DefText) → (after_edit g (adds skip d)).symbols ≡ with_symbols g.symbols (Named d.name ∷ [])
+unfolding after_edit
 added_symbols g true d = refl
 added_symbols g false d = refl
 
-added_rules : (g : Grammar) (skip : Bool) (d : DefText) → (after g (adds skip d)).rules ≡ g.rules
-unfolding after
+added_rules : (g : Grammar) (skip : Bool) (d : DefText) → (after_edit g (adds skip d)).rules ≡ g.rules
+unfolding after_edit
 added_rules g true d = refl
 added_rules g false d = refl
 
-added_numbers : (g : Grammar) (skip : Bool) (d : DefText) → numbers_in (after g (adds skip d)).definitions ≡ numbers_in g.definitions ++ record {
+added_numbers : (g : Grammar) (skip : Bool) (d : DefText) → numbers_in (after_edit g (adds skip d)).definitions ≡ numbers_in g.definitions ++ record {
   0 =
       g.version + 1;
 } ∷ []
-unfolding after
+unfolding after_edit
 added_numbers g true d = map-append (λ (live : Definition). live.number) g.definitions _
 added_numbers g false d = map-append (λ (live : Definition). live.number) g.definitions _
 
 pub live_added : (g : Grammar) (skip : Bool) (d : DefText) → IsWellFormed g → (other : DefId)
-    → IsLive (after g (adds skip d)) other ↔ (IsLive g other ⊎ (other ≡ named (record { 0 = g.version + 1 })))
+    → IsLive (after_edit g (adds skip d)) other ↔ (IsLive g other ⊎ (other ≡ named (record { 0 = g.version + 1 })))
 live_added g skip d well (literal s) =
     let grown = with_symbols-grown g.symbols (Named d.name ∷ []) in
     let grows = added_symbols g skip d ∙ grown.is in
-    let same : all_occurrences s (after g (adds skip d)).rules ≡ all_occurrences s g.rules = ap (all_occurrences s) (added_rules g skip d) in (
-      λ live. inl (literal_back g (after g (adds skip d)) grown.more s well grows (omega (arith, same)) live),
-      λ w. elim w [ inl live ↦ literal_kept g (after g (adds skip d)) grown.more s well grows (omega (arith, same)) live | inr e ↦ absurd cc ],
+    let same : all_occurrences s (after_edit g (adds skip d)).rules ≡ all_occurrences s g.rules = ap (all_occurrences s) (added_rules g skip d) in (
+      λ live. inl (literal_back g (after_edit g (adds skip d)) grown.more s well grows (omega (arith, same)) live),
+      λ w. elim w [ inl live ↦ literal_kept g (after_edit g (adds skip d)) grown.more s well grows (omega (arith, same)) live | inr e ↦ absurd cc ],
     )
 live_added g skip d well (named n) =
     let new : RuleId = record { 0 = g.version + 1 } in (
       λ live. elim (Contains-push_cases (numbers_in g.definitions) new n (subst (λ numbers. Contains numbers n) (added_numbers g skip d)
-          ((live_named (after g (adds skip d)) n).0 live))) [
+          ((live_named (after_edit g (adds skip d)) n).0 live))) [
             | inl c ↦ inl ((live_named g n).1 c)
             | inr e ↦ inr (ap named (sym e))
           ],
-      λ w. (live_named (after g (adds skip d)) n).1 (subst (λ numbers. Contains numbers n) (sym (added_numbers g skip d)) (elim w [
+      λ w. (live_named (after_edit g (adds skip d)) n).1 (subst (λ numbers. Contains numbers n) (sym (added_numbers g skip d)) (elim w [
         | inl live ↦ Contains-append_left (numbers_in g.definitions) (new ∷ []) n ((live_named g n).0 live)
         | inr e ↦ let same : n ≡ new = cc in subst (Contains (numbers_in g.definitions ++ new ∷ [])) (sym same) (Contains-push (numbers_in g.definitions) new)
       ])),
@@ -142,26 +142,26 @@ live_added g skip d well (named n) =
 
 -- ---- and one that is dropped
 
-dropped_rules : (g : Grammar) (skip : Bool) (name : List ℕ) → (after g (drops skip name)).rules ≡ g.rules
-unfolding after
+dropped_rules : (g : Grammar) (skip : Bool) (name : List ℕ) → (after_edit g (drops skip name)).rules ≡ g.rules
+unfolding after_edit
 dropped_rules g true name = refl
 dropped_rules g false name = refl
 
 pub live_dropped : (g : Grammar) (skip : Bool) (name : List ℕ) (gone : Definition) → IsWellFormed g → IsAccepted g (drops skip name)
     → definition_found g skip name ≡ Some gone → (other : DefId)
-    → IsLive (after g (drops skip name)) other ↔ (IsLive g other × (other ≡ named gone.number → ⊥))
+    → IsLive (after_edit g (drops skip name)) other ↔ (IsLive g other × (other ≡ named gone.number → ⊥))
 live_dropped g skip name gone well accepted found (literal s) =
     let grows = symbols_stay_definition g skip name well accepted ∙ sym (append-nil g.symbols) in
-    let same : all_occurrences s (after g (drops skip name)).rules ≡ all_occurrences s g.rules = ap (all_occurrences s) (dropped_rules g skip name) in (
-      λ live. (literal_back g (after g (drops skip name)) [] s well grows (omega (arith, same)) live, λ e. cc),
-      λ w. literal_kept g (after g (drops skip name)) [] s well grows (omega (arith, same)) w.0,
+    let same : all_occurrences s (after_edit g (drops skip name)).rules ≡ all_occurrences s g.rules = ap (all_occurrences s) (dropped_rules g skip name) in (
+      λ live. (literal_back g (after_edit g (drops skip name)) [] s well grows (omega (arith, same)) live, λ e. cc),
+      λ w. literal_kept g (after_edit g (drops skip name)) [] s well grows (omega (arith, same)) w.0,
     )
 live_dropped g skip name gone well accepted found (named n) =
     let kept = definitions_dropped g skip name gone well accepted found in
     let numbers = numbers_without g.definitions gone.number n in (
       λ live.
-          let known = numbers.0 (subst (λ definitions. Contains (numbers_in definitions) n) kept ((live_named (after g (drops skip name)) n).0 live)) in
+          let known = numbers.0 (subst (λ definitions. Contains (numbers_in definitions) n) kept ((live_named (after_edit g (drops skip name)) n).0 live)) in
           ((live_named g n).1 known.0, λ e. known.1 (let same : n ≡ gone.number = cc in same)),
-      λ w. (live_named (after g (drops skip name)) n).1 (subst (λ definitions. Contains (numbers_in definitions) n) (sym kept)
+      λ w. (live_named (after_edit g (drops skip name)) n).1 (subst (λ definitions. Contains (numbers_in definitions) n) (sym kept)
           (numbers.1 ((live_named g n).0 w.0, λ e. w.1 (ap named e)))),
     )

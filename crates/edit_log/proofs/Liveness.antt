@@ -17,14 +17,14 @@ use Rattle.edit_log.specs.declared.definitions.DefId.{DefId}
 use Rattle.edit_log.specs.declared.definitions.DefId.TheVariants.{Literal as literal, Named as named}
 use Rattle.edit_log.specs.declared.fresh_symbols.FreshSymbol.{FreshSymbol}
 use Rattle.edit_log.specs.Symbols.{numbered}
-use Rattle.edit_log.specs.History.{Definition, Grammar, after, reads}
+use Rattle.edit_log.specs.History.{Definition, Grammar, after_edit, reads}
 use Rattle.edit_log.specs.Verdict.{IsAccepted, rule_found, definition_found}
 use Rattle.edit_log.specs.Facts.{IsWellFormed}
 use Rattle.edit_log.specs.Live.{IsLive}
 use Rattle.edit_log.specs.Lookups.{ListsDefinitions}
 use Rattle.edit_log.specs.Lists.{occurrences, all_occurrences, IsLiveBy}
 use Rattle.edit_log.specs.Kept.{AreUses, AreLiteralTables}
-use Rattle.edit_log.specs.Replicas.{AreFreshFor, ArePositionsOfSymbol, IsFresh, adds, drops}
+use Rattle.edit_log.specs.Replicas.{AreFreshFor, ArePositionsOfSymbol, IsFreshSymbol, adds, drops}
 use Rattle.edit_log.proofs.After.{symbols_stay_rule, rules_dropped}
 pub use Rattle.edit_log.proofs.LiveByUses.{numbers_in}
 use Rattle.edit_log.proofs.LiveByUses.{live_literal, live_named, literal_has, has_is_literal, lists_same, counted_beyond, counted_push, sum_without}
@@ -66,14 +66,14 @@ all_zip_append R [] us (y ∷ ys) vs first second = absurd first
 all_zip_append R (x ∷ xs) us [] vs first second = absurd first
 all_zip_append R (x ∷ xs) us (y ∷ ys) vs first second = (first.0, all_zip_append R xs us ys vs first.1 second)
 
-fresh_literals : (fresh : List FreshSymbol) → AllByRecursion IsFresh fresh
+fresh_literals : (fresh : List FreshSymbol) → AllByRecursion IsFreshSymbol fresh
     → AllZip ArePositionsOfSymbol (map (λ one. one.symbol) fresh) (map (λ one. one.positions) fresh)
 fresh_literals [] each = tt
 fresh_literals (one ∷ fresh) each = (each.0.positions, fresh_literals fresh each.1)
 
 pub literals_grown : (g : Grammar) (edit : Edit) (literals : List (Option Table)) (fresh : List FreshSymbol) → AreFreshFor g edit fresh
     → AreLiteralTables g.symbols literals
-    → AreLiteralTables (after g edit).symbols (literals_with literals fresh)
+    → AreLiteralTables (after_edit g edit).symbols (literals_with literals fresh)
 literals_grown g edit literals fresh are_fresh are =
     rw are_fresh.symbols (all_zip_append ArePositionsOfSymbol g.symbols (map (λ one. one.symbol) fresh) literals (map (λ one. one.positions) fresh) are
     (fresh_literals fresh are_fresh.each))
@@ -97,7 +97,7 @@ get_right (x ∷ uses) fresh (suc k) more less = get_right uses fresh k (omega a
 -- the lists of uses and literals are equally long
 pub uses_grown : (g : Grammar) (edit : Edit) (uses : List ℕ) (fresh : List FreshSymbol) → IsWellFormed g → AreFreshFor g edit fresh
     → AreUses g.symbols g.rules uses
-    → AreUses (after g edit).symbols g.rules (uses_with uses fresh)
+    → AreUses (after_edit g edit).symbols g.rules (uses_with uses fresh)
 uses_grown g edit uses fresh well are_fresh are =
     let symbols = g.symbols ++ map (λ (one : FreshSymbol). one.symbol) fresh in
     let long : length symbols ≡ length g.symbols + length fresh = length-append g.symbols (map (λ (one : FreshSymbol). one.symbol) fresh) ∙ ap
@@ -114,15 +114,16 @@ uses_grown g edit uses fresh well are_fresh are =
 -- ---- uses
 
 pub uses_rule_added : (g : Grammar) (r : RuleText) (grown new : List ℕ) (right : List SymbolId) → IsWellFormed g → IsAccepted g (AddRule r)
-    → AreUses (after g (AddRule r)).symbols g.rules grown → right ≡ (numbered (after g (AddRule r)).symbols (g.version + 1) r).right → length new ≡ length grown
+    → AreUses (after_edit g (AddRule r)).symbols g.rules grown → right ≡ (numbered (after_edit g (AddRule r)).symbols (g.version + 1) r).right
+    → length new ≡ length grown
     → ((place : ℕ) → slice_get new place ≡ option_map (λ n. n + occurrences (record { 0 = place }) right) (slice_get grown place))
-    → AreUses (after g (AddRule r)).symbols (after g (AddRule r)).rules new
-unfolding after
+    → AreUses (after_edit g (AddRule r)).symbols (after_edit g (AddRule r)).rules new
+unfolding after_edit
 uses_rule_added g r grown new right well accepted are right-is len counts = record {
   len = len ∙ are.len;
   counts = λ place within.
       let s : SymbolId = record { 0 = place } in
-      let rule : Rule = numbered (after g (AddRule r)).symbols (g.version + 1) r in
+      let rule : Rule = numbered (after_edit g (AddRule r)).symbols (g.version + 1) r in
       counts place ∙ ap (option_map (λ n. n + occurrences s right)) (are.counts place within) ∙ ap Some
       (ap (λ parts. all_occurrences s g.rules + occurrences s parts) right-is ∙ sym (counted_push s g.rules rule));
 }
@@ -130,7 +131,7 @@ uses_rule_added g r grown new right well accepted are right-is len counts = reco
 pub uses_rule_dropped : (g : Grammar) (r : RuleText) (uses new : List ℕ) (live : Rule) → IsWellFormed g → IsAccepted g (DropRule r) → rule_found g r ≡ Some live
     → AreUses g.symbols g.rules uses → length new ≡ length uses
     → ((place : ℕ) → slice_get new place ≡ option_map (λ n. n - occurrences (record { 0 = place }) live.right) (slice_get uses place))
-    → AreUses (after g (DropRule r)).symbols (after g (DropRule r)).rules new
+    → AreUses (after_edit g (DropRule r)).symbols (after_edit g (DropRule r)).rules new
 uses_rule_dropped g r uses new live well accepted found are len counts =
     let there = (found_there (reads g.symbols r) g.rules live found).0 in
     rw (symbols_stay_rule g r well accepted, rules_dropped g r live well accepted found) (record {
@@ -195,7 +196,7 @@ live_grown g edit uses literals fresh live well are_fresh are_uses are_literals 
 pub live_definition_added : (g : Grammar) (skip : Bool) (d : DefText) (old new : List DefId) → IsWellFormed g → IsAccepted g (adds skip d)
     → ListsDefinitions (IsLive g) old
     → ListsDefinitions (λ other. Contains old other ⊎ (other ≡ named (record { 0 = g.version + 1 }))) new
-    → ListsDefinitions (IsLive (after g (adds skip d))) new
+    → ListsDefinitions (IsLive (after_edit g (adds skip d))) new
 live_definition_added g skip d old new well accepted lists added = lists_same _ _ new (λ other.
     let live = live_added g skip d well other in (
       λ w. live.1 (elim w [ inl c ↦ inl ((lists.members other).0 c) | inr e ↦ inr e ]),
@@ -205,7 +206,7 @@ live_definition_added g skip d old new well accepted lists added = lists_same _ 
 pub live_definition_dropped : (g : Grammar) (skip : Bool) (name : List ℕ) (gone : Definition) (old new : List DefId) → IsWellFormed g
     → IsAccepted g (drops skip name)
     → definition_found g skip name ≡ Some gone → ListsDefinitions (IsLive g) old
-    → ListsDefinitions (λ other. Contains old other × (other ≡ named gone.number → ⊥)) new → ListsDefinitions (IsLive (after g (drops skip name))) new
+    → ListsDefinitions (λ other. Contains old other × (other ≡ named gone.number → ⊥)) new → ListsDefinitions (IsLive (after_edit g (drops skip name))) new
 live_definition_dropped g skip name gone old new well accepted found lists dropped = lists_same _ _ new (λ other.
     let live = live_dropped g skip name gone well accepted found other in (
       λ w. live.1 ((lists.members other).0 w.0, w.1),

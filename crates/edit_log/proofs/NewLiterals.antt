@@ -12,12 +12,12 @@ use Rattle.grammar_text.specs.declared.symbol.Symbol.{Symbol}
 use Rattle.grammar_text.specs.declared.symbol.Symbol.TheVariants.{Named}
 use Rattle.grammar_text.specs.declared.edit.RuleText.{RuleText}
 use Rattle.grammar_text.specs.declared.edit.Edit.TheVariants.{AddRule}
-use Rattle.grammar_text.specs.Sameness.{symbol_eq, symbol_eq-decides}
+use Rattle.grammar_text.specs.Sameness.{spelling_eq, spelling_eq-decides}
 use Rattle.forest.specs.declared.symbols.SymbolId.{SymbolId}
 use Rattle.forest.specs.Distinct.{IsDistinct}
 use Rattle.edit_log.specs.declared.fresh_symbols.FreshSymbol.{FreshSymbol}
 use Rattle.edit_log.specs.Symbols.{place_of, number_of, symbol_at, symbols_of, numbered}
-use Rattle.edit_log.specs.History.{Grammar, after}
+use Rattle.edit_log.specs.History.{Grammar, after_edit}
 use Rattle.edit_log.specs.Live.{is_literal}
 use Rattle.edit_log.specs.Replicas.{AreFreshFor, symbols_in}
 use Rattle.edit_log.proofs.DefinitionOrder.{contains_first, contains_later, contains_cases, contains_none}
@@ -36,15 +36,15 @@ contains_get xs k x is = (k, slice_get_within xs k x is, get_or_from_slice_get x
 -- a symbol that stands once has the number of its place
 pub place_is : (symbols : List Symbol) (k : ℕ) (s : Symbol) → IsDistinct symbols → slice_get symbols k ≡ Some s → place_of symbols s ≡ k
 place_is [] k s distinct is = absurd cc
-place_is (x ∷ xs) zero s distinct is = let same : x ≡ s = cc in first (symbol_eq s x) ((symbol_eq-decides s x).1 (sym same))
+place_is (x ∷ xs) zero s distinct is = let same : x ≡ s = cc in first (spelling_eq s x) ((spelling_eq-decides s x).1 (sym same))
   where
     first : (b : Bool) → b ≡ true → cond (not b) (1 + place_of xs s) 0 ≡ 0
     first true e = refl
     first false e = absurd cc
-place_is (x ∷ xs) (suc k) s distinct is = later (symbol_eq s x) refl (place_is xs k s distinct.1 is)
+place_is (x ∷ xs) (suc k) s distinct is = later (spelling_eq s x) refl (place_is xs k s distinct.1 is)
   where
-    later : (b : Bool) → symbol_eq s x ≡ b → place_of xs s ≡ k → cond (not b) (1 + place_of xs s) 0 ≡ suc k
-    later true e rest = absurd (distinct.0 (subst (Contains xs) ((symbol_eq-decides s x).0 e) (contains_get xs k s is)))
+    later : (b : Bool) → spelling_eq s x ≡ b → place_of xs s ≡ k → cond (not b) (1 + place_of xs s) 0 ≡ suc k
+    later true e rest = absurd (distinct.0 (subst (Contains xs) ((spelling_eq-decides s x).0 e) (contains_get xs k s is)))
     later false e rest = omega (arith, rest)
 
 some_literal : (symbols : List Symbol) → list_any is_literal symbols ≡ true → (s : Symbol) × Contains symbols s × (is_literal s ≡ true)
@@ -72,12 +72,12 @@ is_fresh_literal old fresh s more e =
 -- a literal of the rule that is new
 pub record FreshLiteral (g : Grammar) (r : RuleText) : Type 0 where
   pub number : SymbolId
-  pub literal_there : is_literal (symbol_at (after g (AddRule r)).symbols number) ≡ true
-  pub used : Contains (numbered (after g (AddRule r)).symbols (g.version + 1) r).right number
+  pub literal_there : is_literal (symbol_at (after_edit g (AddRule r)).symbols number) ≡ true
+  pub used : Contains (numbered (after_edit g (AddRule r)).symbols (g.version + 1) r).right number
   pub absent : number.0 < length g.symbols → ⊥
 
-grown_after : (g : Grammar) (r : RuleText) → Grown g.symbols (symbols_of (AddRule r)) (after g (AddRule r)).symbols
-unfolding after
+grown_after : (g : Grammar) (r : RuleText) → Grown g.symbols (symbols_of (AddRule r)) (after_edit g (AddRule r)).symbols
+unfolding after_edit
 grown_after g r = with_symbols-grown g.symbols (symbols_of (AddRule r))
 
 pub fresh_literal : (g : Grammar) (r : RuleText) (fresh : List FreshSymbol) → AreFreshFor g (AddRule r) fresh → list_any is_literal (symbols_in fresh) ≡ true
@@ -85,7 +85,7 @@ pub fresh_literal : (g : Grammar) (r : RuleText) (fresh : List FreshSymbol) → 
 fresh_literal g r fresh are_fresh some =
     let one = some_literal (symbols_in fresh) some in
     let y : Symbol = one.0 in
-    let symbols = (after g (AddRule r)).symbols in
+    let symbols = (after_edit g (AddRule r)).symbols in
     let grown = grown_after g r in
     let same : grown.more ≡ symbols_in fresh =
     sym (drop-append_seam g.symbols grown.more) ∙ ap (drop (length g.symbols)) (sym grown.is ∙ are_fresh.symbols) ∙ drop-append_seam g.symbols

@@ -5,7 +5,7 @@ use Rattle.std.proofs.lemmas.Bool.{ltb-false, ltb-true}
 use Rattle.std.proofs.lemmas.Option.{get_or_from_slice_get}
 use Rattle.std.proofs.lemmas.List.Elements.{Contains-append_left, Contains-append_right, Contains-append_cases}
 use Rattle.grammar_text.specs.declared.symbol.Symbol.{Symbol}
-use Rattle.grammar_text.specs.Sameness.{symbol_eq, symbol_eq-decides}
+use Rattle.grammar_text.specs.Sameness.{spelling_eq, spelling_eq-decides}
 use Rattle.edit_log.specs.Symbols.{place_of, with_symbol, with_symbols}
 use Rattle.edit_log.proofs.DefinitionOrder.{contains_first, contains_later, contains_cases, contains_none}
 
@@ -14,23 +14,23 @@ use Rattle.edit_log.proofs.DefinitionOrder.{contains_first, contains_later, cont
 -- a symbol of the list has a place
 pub placed : (symbols : List Symbol) (s : Symbol) → Contains symbols s → place_of symbols s < length symbols
 placed [] s c = absurd (contains_none s c)
-placed (x ∷ xs) s c = by (symbol_eq s x) refl (contains_cases x xs s c) (λ d. placed xs s d)
+placed (x ∷ xs) s c = by (spelling_eq s x) refl (contains_cases x xs s c) (λ d. placed xs s d)
   where
-    by : (b : Bool) → symbol_eq s x ≡ b → (x ≡ s) ⊎ Contains xs s → (Contains xs s → place_of xs s < length xs)
+    by : (b : Bool) → spelling_eq s x ≡ b → (x ≡ s) ⊎ Contains xs s → (Contains xs s → place_of xs s < length xs)
         → cond (not b) (1 + place_of xs s) 0 < length (x ∷ xs)
     by true is there rest = omega arith
-    by false is (inl e) rest = let same : symbol_eq s x ≡ true = (symbol_eq-decides s x).1 (sym e) in absurd cc
+    by false is (inl e) rest = let same : spelling_eq s x ≡ true = (spelling_eq-decides s x).1 (sym e) in absurd cc
     by false is (inr d) rest = omega (arith, rest d)
 
 -- and stands there
 pub at_place : (symbols : List Symbol) (s : Symbol) → place_of symbols s < length symbols → slice_get symbols (place_of symbols s) ≡ Some s
 at_place [] s there = absurd (omega arith)
-at_place (first ∷ others) s there = by (symbol_eq s first) refl (at_place others s) there
+at_place (first ∷ others) s there = by (spelling_eq s first) refl (at_place others s) there
   where
-    by : (same : Bool) → symbol_eq s first ≡ same → (place_of others s < length others → slice_get others (place_of others s) ≡ Some s)
+    by : (same : Bool) → spelling_eq s first ≡ same → (place_of others s < length others → slice_get others (place_of others s) ≡ Some s)
         → cond (not same) (1 + place_of others s) 0 < length (first ∷ others)
         → slice_get (first ∷ others) (cond (not same) (1 + place_of others s) 0) ≡ Some s
-    by true is rest less = ap Some (sym ((symbol_eq-decides s first).0 is))
+    by true is rest less = ap Some (sym ((spelling_eq-decides s first).0 is))
     by false is rest less = rw (one-add (place_of others s)) (rest (omega arith))
 
 -- ---- a list of symbols that grows

@@ -10,7 +10,7 @@ use Rattle.std.proofs.lemmas.List.Sums.{prefix_len-le-length}
 use Rattle.std.proofs.lemmas.Bool.{eq-eqb, ltb-false, ltb-true, lt-ltb, le-ltb, cases_lt}
 use Rattle.std.proofs.lemmas.Option.{slice_get_within}
 use Rattle.grammar_text.specs.declared.symbol.Symbol.{Symbol}
-use Rattle.grammar_text.specs.Sameness.{symbol_eq, symbol_eq-decides}
+use Rattle.grammar_text.specs.Sameness.{spelling_eq, spelling_eq-decides}
 use Rattle.forest.specs.declared.symbols.SymbolId.{SymbolId}
 use Rattle.forest.specs.Distinct.{IsDistinct}
 use Rattle.forest.proofs.Ascending.{contains_cases}
@@ -21,7 +21,7 @@ pub place_of-within : (symbols : List Symbol) (s : Symbol) → place_of symbols 
 place_of-within symbols s = prefix_len-le-length _ symbols
 
 -- a symbol that no place has gets the next one
-pub place_of-push : (symbols keys : List Symbol) (s : Symbol) → position (symbol_eq s) symbols ≡ None → keys ≡ symbols ++ s ∷ []
+pub place_of-push : (symbols keys : List Symbol) (s : Symbol) → position (spelling_eq s) symbols ≡ None → keys ≡ symbols ++ s ∷ []
     → place_of keys s ≡ length symbols
 place_of-push symbols keys s none keys-is = by (nat_lt (place_of symbols s) (length symbols)) refl none
   where
@@ -29,9 +29,9 @@ place_of-push symbols keys s none keys-is = by (nat_lt (place_of symbols s) (len
         → place_of keys s ≡ length symbols
     by true is none = cc
     by false is none =
-        let same : symbol_eq s s ≡ true = (symbol_eq-decides s s).1 refl in
+        let same : spelling_eq s s ≡ true = (spelling_eq-decides s s).1 refl in
         let last : place_of symbols s ≡ length symbols = omega (arith, ltb-false (place_of symbols s) (length symbols) is, place_of-within symbols s) in
-        rw keys-is (position_or_len_push (symbol_eq s) symbols s ∙ rw (eq-eqb (place_of symbols s) (length symbols) last, same) (omega arith))
+        rw keys-is (position_or_len_push (spelling_eq s) symbols s ∙ rw (eq-eqb (place_of symbols s) (length symbols) last, same) (omega arith))
 
 -- where no element passes, the first place that passes is behind the last
 any_none : {X : Type 0} (test : X → Bool) (xs : List X) → length xs ≤ position_or_len test xs → list_any test xs ≡ false
@@ -43,13 +43,13 @@ any_none {X} test (x ∷ xs) e = by (test x) refl (any_none test xs) e
     by true is rest e = absurd (omega arith)
     by false is rest e = rest (omega arith)
 
-pub insert_key-new : (symbols : List Symbol) (s : Symbol) → position (symbol_eq s) symbols ≡ None → insert_key symbol_eq symbols s ≡ symbols ++ s ∷ []
+pub insert_key-new : (symbols : List Symbol) (s : Symbol) → position (spelling_eq s) symbols ≡ None → insert_key spelling_eq symbols s ≡ symbols ++ s ∷ []
 insert_key-new symbols s none = by (nat_lt (place_of symbols s) (length symbols)) refl none
   where
     by : (there : Bool) → nat_lt (place_of symbols s) (length symbols) ≡ there → cond there (Some (place_of symbols s)) None ≡ None
-        → insert_key symbol_eq symbols s ≡ symbols ++ s ∷ []
+        → insert_key spelling_eq symbols s ≡ symbols ++ s ∷ []
     by true is none = cc
-    by false is none = rw (any_none (symbol_eq s) symbols (ltb-false (place_of symbols s) (length symbols) is)) refl
+    by false is none = rw (any_none (spelling_eq s) symbols (ltb-false (place_of symbols s) (length symbols) is)) refl
 
 -- ---- a list of symbols that grows
 
@@ -60,7 +60,7 @@ IsPlaced symbols s = place_of symbols s < length symbols
 -- a symbol keeps its place where others come behind it
 pub place_of-append : (symbols more : List Symbol) (s : Symbol) → IsPlaced symbols s → place_of (symbols ++ more) s ≡ place_of symbols s
 place_of-append [] more s there = absurd (omega arith)
-place_of-append (first ∷ others) more s there = by (symbol_eq s first) (place_of-append others more s) there
+place_of-append (first ∷ others) more s there = by (spelling_eq s first) (place_of-append others more s) there
   where
     by : (same : Bool) → (IsPlaced others s → place_of (others ++ more) s ≡ place_of others s)
         → cond (not same) (1 + place_of others s) 0 < length (first ∷ others)
@@ -74,12 +74,12 @@ IsPlaced-append symbols more s there = rw (place_of-append symbols more s there)
 -- and stands there
 pub place_of-get : (symbols : List Symbol) (s : Symbol) → IsPlaced symbols s → slice_get symbols (place_of symbols s) ≡ Some s
 place_of-get [] s there = absurd (omega arith)
-place_of-get (first ∷ others) s there = by (symbol_eq s first) refl (place_of-get others s) there
+place_of-get (first ∷ others) s there = by (spelling_eq s first) refl (place_of-get others s) there
   where
-    by : (same : Bool) → symbol_eq s first ≡ same → (IsPlaced others s → slice_get others (place_of others s) ≡ Some s)
+    by : (same : Bool) → spelling_eq s first ≡ same → (IsPlaced others s → slice_get others (place_of others s) ≡ Some s)
         → cond (not same) (1 + place_of others s) 0 < length (first ∷ others)
         → slice_get (first ∷ others) (cond (not same) (1 + place_of others s) 0) ≡ Some s
-    by true is rest less = ap Some (sym ((symbol_eq-decides s first).0 is))
+    by true is rest less = ap Some (sym ((spelling_eq-decides s first).0 is))
     by false is rest less = rw (one-add (place_of others s)) (rest (omega arith))
 
 -- the list after one more symbol is the list with none or one behind it
@@ -101,9 +101,9 @@ with_symbol-placed symbols s = by (nat_lt (place_of symbols s) (length symbols))
     by : (there : Bool) → nat_lt (place_of symbols s) (length symbols) ≡ there → IsPlaced (if there then symbols else symbols ++ s ∷ []) s
     by true is = ltb-true (place_of symbols s) (length symbols) is
     by false is =
-        let same : symbol_eq s s ≡ true = (symbol_eq-decides s s).1 refl in
+        let same : spelling_eq s s ≡ true = (spelling_eq-decides s s).1 refl in
         let last : place_of symbols s ≡ length symbols = omega (arith, ltb-false (place_of symbols s) (length symbols) is, place_of-within symbols s) in
-        let place : place_of (symbols ++ s ∷ []) s ≡ length symbols = position_or_len_push (symbol_eq s) symbols s ∙ rw
+        let place : place_of (symbols ++ s ∷ []) s ≡ length symbols = position_or_len_push (spelling_eq s) symbols s ∙ rw
         (eq-eqb (place_of symbols s) (length symbols) last, same) (omega arith) in
         rw place (omega (arith, length-append symbols (s ∷ [])))
 
@@ -178,9 +178,9 @@ pub placed_from_get : (symbols : List Symbol) (s : Symbol) (i : ℕ) → slice_g
 placed_from_get [] s i at = absurd (omega (arith, slice_get_within [] i s at))
 placed_from_get (first ∷ others) s zero at =
     let equal : first ≡ s = cc in
-    let same : symbol_eq s first ≡ true = (symbol_eq-decides s first).1 (sym equal) in
+    let same : spelling_eq s first ≡ true = (spelling_eq-decides s first).1 (sym equal) in
     rw same (omega arith)
-placed_from_get (first ∷ others) s (suc i) at = by (symbol_eq s first) (placed_from_get others s i at)
+placed_from_get (first ∷ others) s (suc i) at = by (spelling_eq s first) (placed_from_get others s i at)
   where
     by : (same : Bool) → IsPlaced others s → cond (not same) (1 + place_of others s) 0 < length (first ∷ others)
     by true rest = omega arith
@@ -208,7 +208,7 @@ placed_contained : (symbols : List Symbol) (s : Symbol) → Contains symbols s �
 placed_contained [] s (k, l, e) = absurd (omega arith)
 placed_contained (first ∷ others) s c = elim (contains_cases first others s c) [
   | inl e ↦ placed_from_get (first ∷ others) s 0 (ap Some e)
-  | inr d ↦ by (symbol_eq s first) (placed_contained others s d)
+  | inr d ↦ by (spelling_eq s first) (placed_contained others s d)
 ]
   where
     by : (same : Bool) → IsPlaced others s → cond (not same) (1 + place_of others s) 0 < length (first ∷ others)
@@ -235,7 +235,7 @@ number_stays middle symbols xs s placed is =
     (λ i. record { 0 = same i })
 
 -- a symbol that is not there has no place
-pub not_there : (symbols : List Symbol) (s : Symbol) → (Contains symbols s → ⊥) → position (symbol_eq s) symbols ≡ None
+pub not_there : (symbols : List Symbol) (s : Symbol) → (Contains symbols s → ⊥) → position (spelling_eq s) symbols ≡ None
 not_there symbols s absent = elim (cases_lt (place_of symbols s) (length symbols)) [
   | inl less ↦ absurd (absent (contains_at symbols (place_of symbols s) s (place_of-get symbols s less)))
   | inr past ↦ rw (le-ltb (place_of symbols s) (length symbols) past) refl

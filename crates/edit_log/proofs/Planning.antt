@@ -23,11 +23,12 @@ use Rattle.edit_log.specs.declared.named_definitions.NamedDefinition.{NamedDefin
 use Rattle.edit_log.specs.declared.ready.Ready.{Ready}
 use Rattle.edit_log.specs.declared.ready.Plan.TheVariants as plan
 use Rattle.edit_log.specs.Symbols.{place_of, number_of, with_symbol, with_symbols, numbered}
-use Rattle.edit_log.specs.History.{Definition, Grammar, after, has_name, is_of_kind}
+use Rattle.edit_log.specs.History.{Definition, Grammar, after_edit, has_name, is_of_kind}
 use Rattle.edit_log.specs.Facts.{IsWellFormed, IsRight}
 use Rattle.edit_log.specs.Verdict.{IsAccepted, rule_found, definition_found}
 use Rattle.edit_log.specs.Touches.{IsTouchOf}
-use Rattle.edit_log.specs.Replicas.{Replica, Spare, symbols_in, seen_of, IsFresh, HasPositions, AreFreshFor, HasRoom, HasRoomAt, HasRoomUnder, IsNoMoreThan}
+use Rattle.edit_log.specs.Replicas.{Replica, Spare, symbols_in, seen_of, IsFreshSymbol}
+use Rattle.edit_log.specs.Replicas.{HasPositions, AreFreshFor, HasSpare, HasRoomAt, HasRoomUnder, IsNoMoreThan}
 use Rattle.edit_log.specs.Replicas.{IsPlanFor, IsReadyFor, of_kind, adds, drops}
 use Rattle.edit_log.proofs.Places.{place_of-append, with_symbols-grows}
 use Rattle.edit_log.proofs.Verdicts.{free, rule_there, definition_there}
@@ -36,15 +37,15 @@ use Rattle.edit_log.proofs.OneName.{found_of_kind}
 -- ---- a rule that is added
 
 pub fresh_for_rule : (g : Grammar) (r : RuleText) (fresh : List FreshSymbol) → g.symbols ++ symbols_in fresh ≡ with_symbols g.symbols (Named r.left ∷ r.right)
-    → AllByRecursion IsFresh fresh → length fresh ≤ 1 + length r.right → length r.right ≤ 16
+    → AllByRecursion IsFreshSymbol fresh → length fresh ≤ 1 + length r.right → length r.right ≤ 16
     → AreFreshFor g (AddRule r) fresh
-unfolding after
+unfolding after_edit
 fresh_for_rule g r fresh grown each few short = record { symbols = sym grown; each = each; few = omega (arith, few, short) }
 
 pub rule_planned : (g : Grammar) (r : RuleText) (fresh : List FreshSymbol) (number : RuleId) (live : Rule)
     → g.symbols ++ symbols_in fresh ≡ with_symbols g.symbols (Named r.left ∷ r.right) → number.0 ≡ g.version + 1
-    → live ≡ numbered (g.symbols ++ symbols_in fresh) number.0 r → live ≡ numbered (after g (AddRule r)).symbols (g.version + 1) r
-unfolding after
+    → live ≡ numbered (g.symbols ++ symbols_in fresh) number.0 r → live ≡ numbered (after_edit g (AddRule r)).symbols (g.version + 1) r
+unfolding after_edit
 rule_planned g r fresh number live grown number-is is = is ∙ (λ i. numbered (grown i) (number-is i) r)
 
 -- ---- a rule that is dropped
@@ -90,13 +91,14 @@ some_listed (d ∷ items) n is = (λ some empty. absurd cc, λ never. ap not (ne
 -- ---- a token or a skip that is added
 
 pub fresh_for_definition : (g : Grammar) (skip : Bool) (d : DefText) (fresh : List FreshSymbol)
-    → g.symbols ++ symbols_in fresh ≡ with_symbol g.symbols (Named d.name) → AllByRecursion IsFresh fresh → length fresh ≤ 1 → AreFreshFor g (adds skip d) fresh
-unfolding after
+    → g.symbols ++ symbols_in fresh ≡ with_symbol g.symbols (Named d.name) → AllByRecursion IsFreshSymbol fresh → length fresh ≤ 1
+    → AreFreshFor g (adds skip d) fresh
+unfolding after_edit
 fresh_for_definition g true d fresh grown each few = record { symbols = sym grown; each = each; few = omega (arith, few) }
 fresh_for_definition g false d fresh grown each few = record { symbols = sym grown; each = each; few = omega (arith, few) }
 
 pub definition_planned : (g : Grammar) (skip : Bool) (d : DefText) (fresh : List FreshSymbol) (number : RuleId) (symbol : SymbolId) (live : NamedDefinition)
-    → g.symbols ++ symbols_in fresh ≡ with_symbol g.symbols (Named d.name) → AllByRecursion IsFresh fresh → length fresh ≤ 1 → number.0 ≡ g.version + 1
+    → g.symbols ++ symbols_in fresh ≡ with_symbol g.symbols (Named d.name) → AllByRecursion IsFreshSymbol fresh → length fresh ≤ 1 → number.0 ≡ g.version + 1
     → symbol ≡ number_of (g.symbols ++ symbols_in fresh) (Named d.name)
     → seen_of live ≡ record { number = number; name = symbol; is_skip = skip; expression = d.expression } → HasPositions live
     → (list : Vec FreshSymbol Global) → list.items ≡ fresh → IsPlanFor g (adds skip d) (plan.AddDefinition (record {
@@ -105,7 +107,7 @@ pub definition_planned : (g : Grammar) (skip : Bool) (d : DefText) (fresh : List
       fresh =
           list;
     }))
-unfolding after
+unfolding after_edit
 definition_planned g true d fresh number symbol live grown each few number-is symbol-is seen positions list list-is = (
   refl,
   record {
@@ -174,7 +176,7 @@ definition_end_planned g false name number there = (refl, there)
 
 -- ---- what is ready stays ready where memory grows
 
-room_stays : (old new : Spare) → IsNoMoreThan old new → HasRoom old → HasRoom new
+room_stays : (old new : Spare) → IsNoMoreThan old new → HasSpare old → HasSpare new
 room_stays old new grows has = record {
   symbols = omega (arith, grows.symbols, has.symbols);
   rows = omega (arith, grows.rows, has.rows);
@@ -222,8 +224,8 @@ stays_ready old new same grows edit ready is = record {
 
 -- ---- and what was prepared is ready
 
-grows_symbol : (g : Grammar) (r : RuleText) → (more : List Symbol) × ((after g (AddRule r)).symbols ≡ g.symbols ++ more)
-unfolding after
+grows_symbol : (g : Grammar) (r : RuleText) → (more : List Symbol) × ((after_edit g (AddRule r)).symbols ≡ g.symbols ++ more)
+unfolding after_edit
 grows_symbol g r = let grows = with_symbols-grows g.symbols (Named r.left ∷ r.right) in (grows.more, grows.is)
 
 under_prepared : (replica : Replica) (edit : Edit) (ready : Ready) → IsTouchOf replica.grammar edit ready.touch
@@ -234,7 +236,7 @@ under_prepared replica (AddRule r) ready touch count room = by (nat_lt (place_of
         → IfSome (slice_get replica.room.under (place_of replica.grammar.symbols (Named r.left))) (λ count. 1 ≤ count)
     by true there =
         let grown = grows_symbol replica.grammar r in
-        let same : place_of (after replica.grammar (AddRule r)).symbols (Named r.left) ≡ place_of replica.grammar.symbols (Named r.left) =
+        let same : place_of (after_edit replica.grammar (AddRule r)).symbols (Named r.left) ≡ place_of replica.grammar.symbols (Named r.left) =
         ap (λ ss. place_of ss (Named r.left)) grown.1 ∙ place_of-append replica.grammar.symbols grown.0 (Named r.left)
         (ltb-true (place_of replica.grammar.symbols (Named r.left)) (length replica.grammar.symbols) there) in
         subst (λ place. IfSome (slice_get replica.room.under place) (λ count. 1 ≤ count)) same (subst (HasRoomAt replica.room) touch.left room)
@@ -249,7 +251,7 @@ under_prepared replica (DropToken name) ready touch count room = tt
 under_prepared replica (AddSkip d) ready touch count room = tt
 under_prepared replica (DropSkip name) ready touch count room = tt
 
-pub prepared : (middle new : Replica) (edit : Edit) (ready : Ready) → new.grammar ≡ middle.grammar → IsNoMoreThan middle.room new.room → HasRoom middle.room
+pub prepared : (middle new : Replica) (edit : Edit) (ready : Ready) → new.grammar ≡ middle.grammar → IsNoMoreThan middle.room new.room → HasSpare middle.room
     → IsAccepted middle.grammar edit → IsPlanFor middle.grammar edit ready.plan → IsTouchOf middle.grammar edit ready.touch
     → length new.room.under ≡ length new.grammar.symbols → HasRoomAt new.room ready.touch.left → IsReadyFor new edit ready
 prepared middle new edit ready same grows has accepted planned touch count room =

@@ -6,7 +6,7 @@ use Rattle.std.proofs.Math.ListN.{get_or-append}
 use Rattle.grammar_text.specs.declared.symbol.Symbol.{Symbol}
 use Rattle.grammar_text.specs.declared.symbol.Symbol.TheVariants.{Named}
 use Rattle.grammar_text.specs.declared.edit.RuleText.{RuleText}
-use Rattle.grammar_text.specs.Sameness.{symbol_eq, symbol_eq-decides}
+use Rattle.grammar_text.specs.Sameness.{spelling_eq, spelling_eq-decides}
 use Rattle.forest.specs.declared.symbols.SymbolId.{SymbolId}
 use Rattle.forest.specs.declared.rules.RuleId.{RuleId}
 use Rattle.forest.specs.declared.rules.Rule.{Rule}
@@ -105,16 +105,16 @@ named_number symbols name placed = (name, place_of-get symbols (Named name) plac
 -- a number from before that is the name's number afterwards is the name's
 pub old_name : (symbols new : List Symbol) (room : ℕ) (name : List ℕ) (n : SymbolId) → Grows symbols new room → IsNamed symbols n → IsPlaced new (Named name)
     → n ≡ number_of new (Named name)
-    → symbol_eq (symbol_at symbols n) (Named name) ≡ true
+    → spelling_eq (symbol_at symbols n) (Named name) ≡ true
 old_name symbols new room name n grows named placed same =
     let at : symbol_at new n ≡ Named name = ap (symbol_at new) same ∙ symbol_at_number new (Named name) placed in
     let stays : symbol_at new n ≡ symbol_at symbols n = ap (λ ss. symbol_at ss n) grows.is ∙ symbol_at-grow symbols grows.more n
     (named_within symbols n named) in
-    (symbol_eq-decides (symbol_at symbols n) (Named name)).1 (sym stays ∙ at)
+    (spelling_eq-decides (symbol_at symbols n) (Named name)).1 (sym stays ∙ at)
 
 -- and the other way
-pub name_at : (symbols : List Symbol) (name : List ℕ) (n : SymbolId) → IsNamed symbols n → symbol_eq (symbol_at symbols n) (Named name) ≡ true
+pub name_at : (symbols : List Symbol) (name : List ℕ) (n : SymbolId) → IsNamed symbols n → spelling_eq (symbol_at symbols n) (Named name) ≡ true
     → slice_get symbols n.0 ≡ Some (Named name)
 name_at symbols name n named same =
-    let is : symbol_at symbols n ≡ Named name = (symbol_eq-decides (symbol_at symbols n) (Named name)).0 same in
+    let is : symbol_at symbols n ≡ Named name = (spelling_eq-decides (symbol_at symbols n) (Named name)).0 same in
     named.1 ∙ ap Some (sym (symbol_at_get symbols n (Named named.0) named.1) ∙ is)

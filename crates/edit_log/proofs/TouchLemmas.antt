@@ -19,7 +19,7 @@ use Rattle.edit_log.specs.declared.definitions.DefId.TheVariants.{Literal as lit
 use Rattle.edit_log.specs.declared.fresh_symbols.FreshSymbol.{FreshSymbol}
 use Rattle.edit_log.specs.declared.touch.Touch.{Touch}
 use Rattle.edit_log.specs.Symbols.{numbered, number_of, symbol_at, symbol_bytes, text_of}
-use Rattle.edit_log.specs.History.{Definition, Grammar, after, reads, is_named}
+use Rattle.edit_log.specs.History.{Definition, Grammar, after_edit, reads, is_named}
 use Rattle.edit_log.specs.Verdict.{IsAccepted, rule_found, definition_found}
 use Rattle.edit_log.specs.Facts.{IsWellFormed, IsNamed}
 use Rattle.edit_log.specs.Live.{is_literal, IsLive}
@@ -37,28 +37,29 @@ use Rattle.edit_log.proofs.NewLiterals.{fresh_literal, is_fresh_literal, place_i
 
 -- ---- a rule that is added
 
-module _ (g : Grammar) (r : RuleText) (live : Rule) (well : IsWellFormed g) (live-is : live ≡ numbered (after g (AddRule r)).symbols (g.version + 1) r) where
-  more_uses : (s : SymbolId) → all_occurrences s (after g (AddRule r)).rules ≡ all_occurrences s g.rules + occurrences s live.right
-  unfolding after
-  more_uses s = counted_push s g.rules (numbered (after g (AddRule r)).symbols (g.version + 1) r) ∙ ap
+module _ (g : Grammar) (r : RuleText) (live : Rule) (well : IsWellFormed g) (live-is : live ≡ numbered (after_edit g (AddRule r)).symbols
+    (g.version + 1) r) where
+  more_uses : (s : SymbolId) → all_occurrences s (after_edit g (AddRule r)).rules ≡ all_occurrences s g.rules + occurrences s live.right
+  unfolding after_edit
+  more_uses s = counted_push s g.rules (numbered (after_edit g (AddRule r)).symbols (g.version + 1) r) ∙ ap
       (λ (x : Rule). all_occurrences s g.rules + occurrences s x.right) (sym live-is)
 
-  same_named : (n : RuleId) → IsLive (after g (AddRule r)) (named n) ↔ IsLive g (named n)
-  unfolding after
-  same_named n = named_same g (after g (AddRule r)) n refl
+  same_named : (n : RuleId) → IsLive (after_edit g (AddRule r)) (named n) ↔ IsLive g (named n)
+  unfolding after_edit
+  same_named n = named_same g (after_edit g (AddRule r)) n refl
 
   module _ (fresh : List FreshSymbol) (are_fresh : AreFreshFor g (AddRule r) fresh) where
     -- what is live stays so
-    kept : (d : DefId) → IsLive g d → IsLive (after g (AddRule r)) d
-    kept (literal s) now = literal_kept g (after g (AddRule r)) (symbols_in fresh) s well are_fresh.symbols (omega (arith, more_uses s)) now
+    kept : (d : DefId) → IsLive g d → IsLive (after_edit g (AddRule r)) d
+    kept (literal s) now = literal_kept g (after_edit g (AddRule r)) (symbols_in fresh) s well are_fresh.symbols (omega (arith, more_uses s)) now
     kept (named n) now = (same_named n).1 now
 
     -- a fresh literal is live then
-    fresh_starts : IsTrue (list_any is_literal (symbols_in fresh)) → ChangesDefinitions g (after g (AddRule r))
+    fresh_starts : IsTrue (list_any is_literal (symbols_in fresh)) → ChangesDefinitions g (after_edit g (AddRule r))
     fresh_starts some =
         let found = fresh_literal g r fresh are_fresh some in
         let right : Contains live.right found.number = subst (λ (x : Rule). Contains x.right found.number) (sym live-is) found.used in
-        let now = (live_literal (after g (AddRule r)) found.number).1 (
+        let now = (live_literal (after_edit g (AddRule r)) found.number).1 (
           found.literal_there,
           omega (
             arith,
@@ -77,7 +78,7 @@ module _ (g : Grammar) (r : RuleText) (live : Rule) (well : IsWellFormed g) (liv
     module _ (uses : List ℕ) (literals : List (Option Table)) (are_uses : AreUses g.symbols g.rules uses)
         (are_literals : AreLiteralTables g.symbols literals) where
       -- and so is one that it wakes
-      woken_starts : Wakes literals uses live.right → ChangesDefinitions g (after g (AddRule r))
+      woken_starts : Wakes literals uses live.right → ChangesDefinitions g (after_edit g (AddRule r))
       woken_starts (part, there, has, none) =
           let within : part.0 < length g.symbols = omega (
             arith,
@@ -85,8 +86,8 @@ module _ (g : Grammar) (r : RuleText) (live : Rule) (well : IsWellFormed g) (liv
             same_length g.symbols literals are_literals,
           ) in
           let here = has_is_literal g.symbols literals are_literals part.0 has in
-          let same = symbol_kept g.symbols (after g (AddRule r)).symbols (symbols_in fresh) part are_fresh.symbols within in
-          let now = (live_literal (after g (AddRule r)) part).1 (
+          let same = symbol_kept g.symbols (after_edit g (AddRule r)).symbols (symbols_in fresh) part are_fresh.symbols within in
+          let now = (live_literal (after_edit g (AddRule r)) part).1 (
             ap is_literal same ∙ here,
             omega (
               arith,
@@ -99,13 +100,13 @@ module _ (g : Grammar) (r : RuleText) (live : Rule) (well : IsWellFormed g) (liv
           (literal part, inr (now, λ before. absurd (omega (arith, unused, ((live_literal g part).0 before).1))))
 
       -- and nothing else
-      starts_by : (s : SymbolId) → IsLive (after g (AddRule r)) (literal s) → (IsLive g (literal s) → ⊥)
+      starts_by : (s : SymbolId) → IsLive (after_edit g (AddRule r)) (literal s) → (IsLive g (literal s) → ⊥)
           → IsTrue (list_any is_literal (symbols_in fresh)) ⊎ Wakes literals uses live.right
       starts_by s now before =
-          let both = (live_literal (after g (AddRule r)) s).0 now in
+          let both = (live_literal (after_edit g (AddRule r)) s).0 now in
           elim (cases_lt s.0 (length g.symbols)) [
             | inl less ↦
-                let same = symbol_kept g.symbols (after g (AddRule r)).symbols (symbols_in fresh) s are_fresh.symbols less in
+                let same = symbol_kept g.symbols (after_edit g (AddRule r)).symbols (symbols_in fresh) s are_fresh.symbols less in
                 let here = ap is_literal (sym same) ∙ both.0 in
                 let unused : all_occurrences s g.rules ≡ 0 = elim (cases_lt 0 (all_occurrences s g.rules)) [
                   | inl some ↦ absurd (before ((live_literal g s).1 (here, some)))
@@ -117,7 +118,7 @@ module _ (g : Grammar) (r : RuleText) (live : Rule) (well : IsWellFormed g) (liv
                 ∙ both.0))
           ]
 
-      changes_by : ChangesDefinitions g (after g (AddRule r)) → IsTrue (list_any is_literal (symbols_in fresh)) ⊎ Wakes literals uses live.right
+      changes_by : ChangesDefinitions g (after_edit g (AddRule r)) → IsTrue (list_any is_literal (symbols_in fresh)) ⊎ Wakes literals uses live.right
       changes_by (d, inl ends) = absurd (ends.1 (kept d ends.0))
       changes_by (literal s, inr starts) = starts_by s starts.0 starts.1
       changes_by (named n, inr starts) = absurd (starts.1 ((same_named n).0 starts.0))
@@ -128,7 +129,7 @@ none_ends old new kept = record { order = tt; members = λ d. (λ c. absurd (con
 
 pub touch_rule_added : (g : Grammar) (r : RuleText) (uses : List ℕ) (literals : List (Option Table)) (fresh : List FreshSymbol) (live : Rule) (touch : Touch)
     → IsWellFormed g → IsAccepted g (AddRule r) → AreFreshFor g (AddRule r) fresh → AreUses g.symbols g.rules uses → AreLiteralTables g.symbols literals
-    → live ≡ numbered (after g (AddRule r)).symbols (g.version + 1) r → touch.left ≡ Some live.left → touch.gone_rule ≡ None → touch.gone_defs ≡ []
+    → live ≡ numbered (after_edit g (AddRule r)).symbols (g.version + 1) r → touch.left ≡ Some live.left → touch.gone_rule ≡ None → touch.gone_defs ≡ []
     → (IsTrue touch.scan ↔ (IsTrue (list_any is_literal (symbols_in fresh)) ⊎ Wakes literals uses live.right)) → IsTouchOf g (AddRule r) touch
 touch_rule_added g r uses literals fresh live touch well accepted are_fresh are_uses are_literals live-is left-is rule-is defs-is scan-is = record {
   left = left-is ∙ ap (λ (x : Rule). Some x.left) live-is;
@@ -140,7 +141,7 @@ touch_rule_added g r uses literals fresh live touch well accepted are_fresh are_
     ],
     λ changes. scan-is.1 (changes_by g r live well live-is fresh are_fresh uses literals are_uses are_literals changes),
   );
-  gone_defs = rw defs-is (none_ends g (after g (AddRule r)) (kept g r live well live-is fresh are_fresh));
+  gone_defs = rw defs-is (none_ends g (after_edit g (AddRule r)) (kept g r live well live-is fresh are_fresh));
 }
 
 -- ---- a rule that is dropped
@@ -159,27 +160,27 @@ module _ (g : Grammar) (r : RuleText) (live : Rule) (well : IsWellFormed g) (acc
       let place = place_is g.symbols live.left.0 (Named r.left) well.distinct (has.1 ∙ ap (λ n. Some (Named n)) name) in
       ap (λ n. let s : SymbolId = record { 0 = n } in s) (sym place)
 
-  less_uses : (s : SymbolId) → all_occurrences s (after g (DropRule r)).rules + occurrences s live.right ≡ all_occurrences s g.rules
+  less_uses : (s : SymbolId) → all_occurrences s (after_edit g (DropRule r)).rules + occurrences s live.right ≡ all_occurrences s g.rules
   less_uses s = ap (λ rules. all_occurrences s rules + occurrences s live.right) (rules_dropped g r live well accepted found) ∙ sum_without
       (λ x. occurrences s x.right) g.rules live well.rule_order there
 
-  stays_named : (n : RuleId) → IsLive (after g (DropRule r)) (named n) ↔ IsLive g (named n)
-  unfolding after
-  stays_named n = named_same g (after g (DropRule r)) n refl
+  stays_named : (n : RuleId) → IsLive (after_edit g (DropRule r)) (named n) ↔ IsLive g (named n)
+  unfolding after_edit
+  stays_named n = named_same g (after_edit g (DropRule r)) n refl
 
-  same_symbol : (s : SymbolId) → symbol_at (after g (DropRule r)).symbols s ≡ symbol_at g.symbols s
+  same_symbol : (s : SymbolId) → symbol_at (after_edit g (DropRule r)).symbols s ≡ symbol_at g.symbols s
   same_symbol s = ap (λ symbols. symbol_at symbols s) (symbols_stay_rule g r well accepted)
 
   -- nothing is live that was not
-  none_starts : (d : DefId) → IsLive (after g (DropRule r)) d → IsLive g d
-  none_starts (literal s) now = let both = (live_literal (after g (DropRule r)) s).0 now in
+  none_starts : (d : DefId) → IsLive (after_edit g (DropRule r)) d → IsLive g d
+  none_starts (literal s) now = let both = (live_literal (after_edit g (DropRule r)) s).0 now in
       (live_literal g s).1 (ap is_literal (sym (same_symbol s)) ∙ both.0, omega (arith, less_uses s, both.1))
   none_starts (named n) now = (stays_named n).0 now
 
   module _ (uses : List ℕ) (literals : List (Option Table)) (are_uses : AreUses g.symbols g.rules uses)
       (are_literals : AreLiteralTables g.symbols literals) where
     -- what ends is what is used here alone
-    ends_last : (d : DefId) → IsLastUse literals uses live.right d ↔ IsEnded g (after g (DropRule r)) d
+    ends_last : (d : DefId) → IsLastUse literals uses live.right d ↔ IsEnded g (after_edit g (DropRule r)) d
     ends_last (named n) = (λ none. absurd none, λ ends. ends.1 ((stays_named n).1 ends.0))
     ends_last (literal s) = (
       λ (c, has, count).
@@ -187,12 +188,12 @@ module _ (g : Grammar) (r : RuleText) (live : Rule) (well : IsWellFormed g) (acc
           let counted = are_uses.counts s.0 within in
           let all : all_occurrences s g.rules ≡ occurrences s live.right = cc in (
             (live_literal g s).1 (has_is_literal g.symbols literals are_literals s.0 has, omega (arith, all, counted_there s live.right c)),
-            λ now. absurd (omega (arith, less_uses s, all, ((live_literal (after g (DropRule r)) s).0 now).1)),
+            λ now. absurd (omega (arith, less_uses s, all, ((live_literal (after_edit g (DropRule r)) s).0 now).1)),
           ),
       λ ends.
           let both = (live_literal g s).0 ends.0 in
-          let none : all_occurrences s (after g (DropRule r)).rules ≡ 0 = elim (cases_lt 0 (all_occurrences s (after g (DropRule r)).rules)) [
-            | inl some ↦ absurd (ends.1 ((live_literal (after g (DropRule r)) s).1 (ap is_literal (same_symbol s) ∙ both.0, some)))
+          let none : all_occurrences s (after_edit g (DropRule r)).rules ≡ 0 = elim (cases_lt 0 (all_occurrences s (after_edit g (DropRule r)).rules)) [
+            | inl some ↦ absurd (ends.1 ((live_literal (after_edit g (DropRule r)) s).1 (ap is_literal (same_symbol s) ∙ both.0, some)))
             | inr none ↦ omega (arith, none)
           ] in
           let all : all_occurrences s g.rules ≡ occurrences s live.right = omega (arith, less_uses s, none) in (
@@ -221,7 +222,7 @@ pub touch_rule_dropped : (g : Grammar) (r : RuleText) (uses : List ℕ) (literal
     → (IsTrue touch.scan ↔ (touch.gone_defs ≡ [] → ⊥)) → IsTouchOf g (DropRule r) touch
 touch_rule_dropped g r uses literals live touch well accepted found are_uses are_literals left-is rule-is defs-are scan-is =
     let lists = lists_same _ _ touch.gone_defs (ends_last g r live well accepted found uses literals are_uses are_literals) defs-are in
-    let changes = changes_ends g (after g (DropRule r)) touch.gone_defs (none_starts g r live well accepted found) lists in
+    let changes = changes_ends g (after_edit g (DropRule r)) touch.gone_defs (none_starts g r live well accepted found) lists in
     record {
       left = left-is ∙ ap Some (left_is g r live well accepted found) ∙ ap (λ symbols. Some (number_of symbols (Named r.left)))
           (sym (symbols_stay_rule g r well accepted));
@@ -262,7 +263,7 @@ touch_definition_added g skip d touch well accepted left-is rule-is scan-is defs
       left = left-is ∙ sym (added_left g skip d);
       gone_rule = rule-is ∙ sym (added_rule g skip d);
       scan = (λ e. (named new, inr (now, before)), λ w. scan-is);
-      gone_defs = rw defs-is (none_ends g (after g (adds skip d)) (λ other live. (live_added g skip d well other).1 (inl live)));
+      gone_defs = rw defs-is (none_ends g (after_edit g (adds skip d)) (λ other live. (live_added g skip d well other).1 (inl live)));
     }
 
 decide_named : (d : DefId) (n : RuleId) → (d ≡ named n) ⊎ (d ≡ named n → ⊥)
@@ -275,19 +276,19 @@ decide_named (named m) n = elim (cases_eq m.0 n.0) [
 -- the dropped one alone ends
 one_ends : (g : Grammar) (skip : Bool) (name : List ℕ) (gone : Definition) → IsWellFormed g → IsAccepted g (drops skip name)
     → definition_found g skip name ≡ Some gone
-    → ListsDefinitions (IsEnded g (after g (drops skip name))) (named gone.number ∷ [])
+    → ListsDefinitions (IsEnded g (after_edit g (drops skip name))) (named gone.number ∷ [])
 unfolding IsStrictlySortedBy
 one_ends g skip name gone well accepted found =
     let there = contains_map (λ (live : Definition). live.number) g.definitions gone
     ((found_there (is_named g.symbols skip name) g.definitions gone found).0) in
     let before = (live_named g gone.number).1 there in
-    let now : IsLive (after g (drops skip name)) (named gone.number)
+    let now : IsLive (after_edit g (drops skip name)) (named gone.number)
     → ⊥ = λ live. ((live_dropped g skip name gone well accepted found (named gone.number)).0 live).1 refl in
     record {
       order = (tt, tt);
       members = λ d. (
         λ c. elim (contains_cases (named gone.number) [] d c) [
-          | inl e ↦ subst (IsEnded g (after g (drops skip name))) e (before, now)
+          | inl e ↦ subst (IsEnded g (after_edit g (drops skip name))) e (before, now)
           | inr none ↦ absurd (contains_none d none)
         ],
         λ ends. elim (decide_named d gone.number) [

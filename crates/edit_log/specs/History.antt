@@ -6,7 +6,7 @@ use Rattle.grammar_text.specs.declared.edit.RuleText.{RuleText}
 use Rattle.grammar_text.specs.declared.edit.DefText.{DefText}
 use Rattle.grammar_text.specs.declared.edit.Edit.{Edit}
 use Rattle.grammar_text.specs.declared.edit.Edit.TheVariants.{AddRule, DropRule, AddToken, DropToken, AddSkip, DropSkip}
-use Rattle.grammar_text.specs.Sameness.{symbol_eq, rule_eq}
+use Rattle.grammar_text.specs.Sameness.{spelling_eq, rule_eq}
 use Rattle.forest.specs.declared.symbols.SymbolId.{SymbolId}
 use Rattle.forest.specs.declared.rules.RuleId.{RuleId}
 use Rattle.forest.specs.declared.rules.Rule.{Rule}
@@ -37,7 +37,7 @@ reads symbols r live = rule_eq (text_of symbols live) r
 
 -- the definition has this name
 abbrev pub has_name : List Symbol → List ℕ → Definition → Bool
-has_name symbols name live = symbol_eq (symbol_at symbols live.name) (Named name)
+has_name symbols name live = spelling_eq (symbol_at symbols live.name) (Named name)
 
 -- a skip is looked for, and this is one; or a token, and this is one
 abbrev pub is_of_kind : (skip : Bool) → Definition → Bool
@@ -77,8 +77,8 @@ definitions_after symbols version definitions (AddSkip d) = definitions ++ defin
 definitions_after symbols version definitions (DropSkip name) = filter (λ live. not (is_named symbols true name live)) definitions
 
 -- the grammar after one more edit
-unfoldable pub after : Grammar → Edit → Grammar
-after grammar edit =
+unfoldable pub after_edit : Grammar → Edit → Grammar
+after_edit grammar edit =
     let version = grammar.version + 1 in
     let symbols = with_symbols grammar.symbols (symbols_of edit) in
     record {
@@ -91,4 +91,4 @@ after grammar edit =
 
 -- the grammar that the edits of a history make
 abbrev pub grammar_of : List Edit → Grammar
-grammar_of history = fold after empty_grammar history
+grammar_of history = fold after_edit empty_grammar history

@@ -3,7 +3,7 @@ use Rattle.std.specs.Prelude.{◌≡◌, ℕ, ◌==◌, ◌↔◌, List, Option,
 use Rattle.std.specs.List.Sorted.{IsStrictlySortedBy}
 use Rattle.grammar_text.specs.declared.symbol.Symbol.{Symbol}
 use Rattle.grammar_text.specs.declared.symbol.Symbol.TheVariants.{Literal}
-use Rattle.grammar_text.specs.Sameness.{symbol_eq}
+use Rattle.grammar_text.specs.Sameness.{spelling_eq}
 use Rattle.forest.specs.declared.symbols.SymbolId.{SymbolId}
 use Rattle.forest.specs.declared.rules.RuleId.{RuleId}
 use Rattle.forest.specs.declared.rules.Rule.{Rule}
@@ -26,7 +26,7 @@ rule_of rules number = find (λ r. r.number.0 == number.0) rules
 
 -- the number of the symbol, if it ever appeared
 abbrev pub known_number : List Symbol → Symbol → Option SymbolId
-known_number symbols symbol = option_map (λ place. record { 0 = place }) (position (symbol_eq symbol) symbols)
+known_number symbols symbol = option_map (λ place. record { 0 = place }) (position (spelling_eq symbol) symbols)
 
 -- the definitions are exactly these, in their order
 pub record ListsDefinitions (Is : DefId → Type 0) (definitions : List DefId) : Type 0 where

@@ -18,7 +18,7 @@ use Rattle.edit_log.specs.declared.ready.Ready.{Ready}
 use Rattle.edit_log.specs.declared.ready.Plan.{Plan}
 use Rattle.edit_log.specs.declared.ready.Plan.TheVariants as plan
 use Rattle.edit_log.specs.Symbols.{number_of, numbered}
-use Rattle.edit_log.specs.History.{Definition, Grammar, after, defined, is_of_kind}
+use Rattle.edit_log.specs.History.{Definition, Grammar, after_edit, defined, is_of_kind}
 use Rattle.edit_log.specs.Verdict.{IsAccepted, rule_found, definition_found}
 use Rattle.edit_log.specs.Touches.{IsTouchOf}
 
@@ -55,7 +55,7 @@ pub record IsNoMoreThan (old new : Spare) : Type 0 where
   pub under : (place count : ℕ) → slice_get old.under place ≡ Some count → (more : ℕ) × (slice_get new.under place ≡ Some more) × (count ≤ more)
 
 -- any edit brings at most 17 symbols, 17 definitions, and one rule or one token or skip
-pub record HasRoom (room : Spare) : Type 0 where
+pub record HasSpare (room : Spare) : Type 0 where
   pub symbols : 17 ≤ room.symbols
   pub rows : 17 ≤ room.rows
   pub live : 17 ≤ room.live
@@ -85,7 +85,7 @@ ArePositionsOfSymbol (Named name) positions = positions ≡ None
 ArePositionsOfSymbol (Literal bytes) positions = (table : Table) × (positions ≡ Some table) × ArePositionsOfLiteral bytes table
 
 -- a symbol that no rule has yet, with room for the first
-pub record IsFresh (one : FreshSymbol) : Type 0 where
+pub record IsFreshSymbol (one : FreshSymbol) : Type 0 where
   pub positions : ArePositionsOfSymbol one.symbol one.positions
   pub rules : one.rules.items ≡ []
   pub room : 1 ≤ room_of one.rules
@@ -110,27 +110,29 @@ HasPositions live = (e : Expression) × SpellsWithinLimits live.expression e × 
 
 -- these symbols are not there yet, and with them all symbols of the edit are
 pub record AreFreshFor (grammar : Grammar) (edit : Edit) (fresh : List FreshSymbol) : Type 0 where
-  pub symbols : (after grammar edit).symbols ≡ grammar.symbols ++ symbols_in fresh
-  pub each : AllByRecursion IsFresh fresh
+  pub symbols : (after_edit grammar edit).symbols ≡ grammar.symbols ++ symbols_in fresh
+  pub each : AllByRecursion IsFreshSymbol fresh
   pub few : length fresh ≤ 17
 
 -- the definition that the edit adds
-pub record IsNew (grammar : Grammar) (edit : Edit) (live : NamedDefinition) (seen : Definition) : Type 0 where
+pub record IsAddedDefinition (grammar : Grammar) (edit : Edit) (live : NamedDefinition) (seen : Definition) : Type 0 where
   pub is : seen_of live ≡ seen
   pub positions : HasPositions live
 
 -- the plan is that of the edit
 abbrev pub IsPlanFor : Grammar → Edit → Plan → Type 0
 IsPlanFor grammar (AddRule r) (plan.AddRule p) =
-    (p.text ≡ r) × (p.live ≡ numbered (after grammar (AddRule r)).symbols (grammar.version + 1) r) × AreFreshFor grammar (AddRule r) p.fresh.items
+    (p.text ≡ r) × (p.live ≡ numbered (after_edit grammar (AddRule r)).symbols (grammar.version + 1) r) × AreFreshFor grammar (AddRule r) p.fresh.items
 IsPlanFor grammar (DropRule r) (plan.DropRule p) = (p.text ≡ r) × ((live : _) × (rule_found grammar r ≡ Some live) × (p.number ≡ live.number))
 IsPlanFor grammar (AddToken d) (plan.AddDefinition p) =
-    (p.name ≡ d.name) × IsNew grammar (AddToken d) p.live (defined (after grammar (AddToken d)).symbols (grammar.version + 1) false d) × AreFreshFor grammar
+    (p.name ≡ d.name) × IsAddedDefinition grammar (AddToken d) p.live (defined (after_edit grammar (AddToken d)).symbols (grammar.version + 1) false d) ×
+    AreFreshFor grammar
     (AddToken d) p.fresh.items
 IsPlanFor grammar (DropToken name) (plan.DropDefinition p) = (p.name ≡ name) × ((live : _) × (definition_found grammar false name ≡ Some live)
     × (p.number ≡ live.number))
 IsPlanFor grammar (AddSkip d) (plan.AddDefinition p) =
-    (p.name ≡ d.name) × IsNew grammar (AddSkip d) p.live (defined (after grammar (AddSkip d)).symbols (grammar.version + 1) true d) × AreFreshFor grammar
+    (p.name ≡ d.name) × IsAddedDefinition grammar (AddSkip d) p.live (defined (after_edit grammar (AddSkip d)).symbols (grammar.version + 1) true d) ×
+    AreFreshFor grammar
     (AddSkip d) p.fresh.items
 IsPlanFor grammar (DropSkip name) (plan.DropDefinition p) = (p.name ≡ name) × ((live : _) × (definition_found grammar true name ≡ Some live)
     × (p.number ≡ live.number))
@@ -140,7 +142,7 @@ IsPlanFor grammar edit p = ⊥
 pub record IsApplicable (replica : Replica) (edit : Edit) (p : Plan) : Type 0 where
   pub accepted : IsAccepted replica.grammar edit
   pub plan : IsPlanFor replica.grammar edit p
-  pub room : HasRoom replica.room
+  pub room : HasSpare replica.room
   pub under : HasRoomUnder replica edit
 
 -- the edit was prepared for this replica

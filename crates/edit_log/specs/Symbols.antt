@@ -6,13 +6,13 @@ use Rattle.grammar_text.specs.declared.symbol.Symbol.TheVariants.{Named, Literal
 use Rattle.grammar_text.specs.declared.edit.RuleText.{RuleText}
 use Rattle.grammar_text.specs.declared.edit.Edit.{Edit}
 use Rattle.grammar_text.specs.declared.edit.Edit.TheVariants.{AddRule, DropRule, AddToken, DropToken, AddSkip, DropSkip}
-use Rattle.grammar_text.specs.Sameness.{symbol_eq}
+use Rattle.grammar_text.specs.Sameness.{spelling_eq}
 use Rattle.forest.specs.declared.symbols.SymbolId.{SymbolId}
 use Rattle.forest.specs.declared.rules.Rule.{Rule}
 
 -- the place of the symbol in the list, or how long the list is
 abbrev pub place_of : List Symbol → Symbol → ℕ
-place_of symbols symbol = position_or_len (symbol_eq symbol) symbols
+place_of symbols symbol = position_or_len (spelling_eq symbol) symbols
 
 abbrev pub number_of : List Symbol → Symbol → SymbolId
 number_of symbols symbol = record { 0 = place_of symbols symbol }

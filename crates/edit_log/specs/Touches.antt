@@ -8,15 +8,15 @@ use Rattle.forest.specs.declared.rules.RuleId.{RuleId}
 use Rattle.edit_log.specs.declared.definitions.DefId.{DefId}
 use Rattle.edit_log.specs.declared.touch.Touch.{Touch}
 use Rattle.edit_log.specs.Symbols.{number_of}
-use Rattle.edit_log.specs.History.{Grammar, after}
+use Rattle.edit_log.specs.History.{Grammar, after_edit}
 use Rattle.edit_log.specs.Live.{IsLive}
 use Rattle.edit_log.specs.Lookups.{ListsDefinitions}
 use Rattle.edit_log.specs.Verdict.{rule_found}
 
 -- the left side of a rule that is added or dropped
 abbrev pub touched_left : Grammar → Edit → Option SymbolId
-touched_left grammar (AddRule r) = Some (number_of (after grammar (AddRule r)).symbols (Named r.left))
-touched_left grammar (DropRule r) = Some (number_of (after grammar (DropRule r)).symbols (Named r.left))
+touched_left grammar (AddRule r) = Some (number_of (after_edit grammar (AddRule r)).symbols (Named r.left))
+touched_left grammar (DropRule r) = Some (number_of (after_edit grammar (DropRule r)).symbols (Named r.left))
 touched_left grammar (AddToken d) = None
 touched_left grammar (DropToken name) = None
 touched_left grammar (AddSkip d) = None
@@ -43,5 +43,5 @@ ChangesDefinitions old new = (definition : DefId) × (IsEnded old new definition
 pub record IsTouchOf (grammar : Grammar) (edit : Edit) (touch : Touch) : Type 0 where
   pub left : touch.left ≡ touched_left grammar edit
   pub gone_rule : touch.gone_rule ≡ ended_rule grammar edit
-  pub scan : IsTrue touch.scan ↔ ChangesDefinitions grammar (after grammar edit)
-  pub gone_defs : ListsDefinitions (IsEnded grammar (after grammar edit)) touch.gone_defs
+  pub scan : IsTrue touch.scan ↔ ChangesDefinitions grammar (after_edit grammar edit)
+  pub gone_defs : ListsDefinitions (IsEnded grammar (after_edit grammar edit)) touch.gone_defs

@@ -8,7 +8,7 @@ use Rattle.grammar_text.specs.declared.edit.RuleText.{RuleText}
 use Rattle.grammar_text.specs.declared.edit.Edit.{Edit}
 use Rattle.grammar_text.specs.declared.edit.Edit.TheVariants.{AddRule, DropRule, AddToken, DropToken, AddSkip, DropSkip}
 use Rattle.grammar_text.specs.Limits.{IsSound}
-use Rattle.grammar_text.specs.Sameness.{symbol_eq}
+use Rattle.grammar_text.specs.Sameness.{spelling_eq}
 use Rattle.forest.specs.declared.rules.Rule.{Rule}
 use Rattle.regex_ast.specs.Expressions.{Expression}
 use Rattle.regex_ast.specs.Refusals.{SpellsWithinLimits}
@@ -16,7 +16,7 @@ use Rattle.edit_log.specs.declared.refusal.Refusal.{Refusal}
 use Rattle.edit_log.specs.declared.refusal.Refusal.TheVariants.{NameClash, Exists, NoSuch, LogFull}
 use Rattle.edit_log.specs.declared.limits.TheConstants.{LOG_LIMIT}
 use Rattle.edit_log.specs.Symbols.{symbol_at}
-use Rattle.edit_log.specs.History.{Definition, Grammar, after, empty_grammar, reads, has_name, is_named}
+use Rattle.edit_log.specs.History.{Definition, Grammar, after_edit, empty_grammar, reads, has_name, is_named}
 
 -- the live rule that is written so
 abbrev pub rule_found : Grammar → RuleText → Option Rule
@@ -32,7 +32,7 @@ is_defined grammar name = list_any (has_name grammar.symbols name) grammar.defin
 
 -- the name is the left side of a live rule
 abbrev pub is_left : Grammar → List ℕ → Bool
-is_left grammar name = list_any (λ live. symbol_eq (symbol_at grammar.symbols live.left) (Named name)) grammar.rules
+is_left grammar name = list_any (λ live. spelling_eq (symbol_at grammar.symbols live.left) (Named name)) grammar.rules
 
 -- a token may not have this name, or a skip: it is START, the left side of a live rule, or the name of a live definition of the other kind
 abbrev pub is_taken : Grammar → (other : Bool) → List ℕ → Bool
@@ -101,7 +101,7 @@ pub record IsAccepted (grammar : Grammar) (edit : Edit) : Type 0 where
 -- each edit is taken by the grammar that those before it make
 abbrev pub AreAccepted : Grammar → List Edit → Type 0
 AreAccepted grammar [] = Unit {0}
-AreAccepted grammar (edit ∷ edits) = IsAccepted grammar edit × AreAccepted (after grammar edit) edits
+AreAccepted grammar (edit ∷ edits) = IsAccepted grammar edit × AreAccepted (after_edit grammar edit) edits
 
 -- the list of edits is a history
 abbrev pub IsHistory : List Edit → Type 0

@@ -3,7 +3,7 @@
 ghost use Rattle.std.specs.Prelude.{◌≡◌};
 ghost use Rattle.grammar_text.specs.declared.edit.Edit.{Edit as AnEdit};
 ghost use Rattle.edit_log.specs.declared.ready.Plan.TheVariants as planned;
-ghost use Rattle.edit_log.specs.History.{after};
+ghost use Rattle.edit_log.specs.History.{after_edit};
 ghost use Rattle.edit_log.specs.Replicas.{IsReadyFor, IsApplicable};
 
 use crate::definitions::DefId;
@@ -20,7 +20,7 @@ use std::mem;
 impl Grammar {
     fn add_rule(&mut self, plan: NewRule)
         requires { (edit : AnEdit) × IsApplicable self.old edit (planned.AddRule plan) }
-        ensures { (edit : AnEdit) → IsApplicable self.old edit (planned.AddRule plan) → self.new.grammar ≡ after self.old.grammar edit }
+        ensures { (edit : AnEdit) → IsApplicable self.old edit (planned.AddRule plan) → self.new.grammar ≡ after_edit self.old.grammar edit }
     {
         let NewRule { text, live, fresh } = plan;
         let number = live.number;
@@ -35,7 +35,7 @@ impl Grammar {
 
     fn drop_rule(&mut self, plan: OldRule)
         requires { (edit : AnEdit) × IsApplicable self.old edit (planned.DropRule plan) }
-        ensures { (edit : AnEdit) → IsApplicable self.old edit (planned.DropRule plan) → self.new.grammar ≡ after self.old.grammar edit }
+        ensures { (edit : AnEdit) → IsApplicable self.old edit (planned.DropRule plan) → self.new.grammar ≡ after_edit self.old.grammar edit }
     {
         let OldRule { text, number } = plan;
         let rules = mem::replace(&mut self.rules, no_rules(self.alloc));
@@ -50,7 +50,7 @@ impl Grammar {
 
     fn add_definition(&mut self, plan: NewDefinition)
         requires { (edit : AnEdit) × IsApplicable self.old edit (planned.AddDefinition plan) }
-        ensures { (edit : AnEdit) → IsApplicable self.old edit (planned.AddDefinition plan) → self.new.grammar ≡ after self.old.grammar edit }
+        ensures { (edit : AnEdit) → IsApplicable self.old edit (planned.AddDefinition plan) → self.new.grammar ≡ after_edit self.old.grammar edit }
     {
         let NewDefinition { name, live, fresh } = plan;
         let number = live.number;
@@ -63,7 +63,7 @@ impl Grammar {
 
     fn drop_definition(&mut self, plan: OldDefinition)
         requires { (edit : AnEdit) × IsApplicable self.old edit (planned.DropDefinition plan) }
-        ensures { (edit : AnEdit) → IsApplicable self.old edit (planned.DropDefinition plan) → self.new.grammar ≡ after self.old.grammar edit }
+        ensures { (edit : AnEdit) → IsApplicable self.old edit (planned.DropDefinition plan) → self.new.grammar ≡ after_edit self.old.grammar edit }
     {
         let OldDefinition { name, number } = plan;
         drop_definition(&mut self.definitions, number);
@@ -75,7 +75,7 @@ impl Grammar {
     /// Adds the edit to the history.
     pub fn apply(&mut self, ready: Ready)
         requires { (edit : AnEdit) × IsReadyFor self.old edit ready }
-        ensures { (edit : AnEdit) → IsReadyFor self.old edit ready → self.new.grammar ≡ after self.old.grammar edit }
+        ensures { (edit : AnEdit) → IsReadyFor self.old edit ready → self.new.grammar ≡ after_edit self.old.grammar edit }
     {
         let Ready { plan, .. } = ready;
         match plan {

@@ -3,8 +3,8 @@
 ghost use Rattle.std.specs.Prelude.{◌≡◌, ◌+◌, ◌<◌, ◌≤◌, ◌^◌, ◌++◌, [], length, map, position, IfOk, OnOk};
 ghost use Rattle.std.specs.List.{AllByRecursion, list_any};
 ghost use Rattle.edit_log.specs.Live.{is_literal};
-ghost use Rattle.grammar_text.specs.Sameness.{symbol_eq};
-ghost use Rattle.edit_log.specs.Replicas.{ArePositionsOfSymbol, IsFresh, symbols_in};
+ghost use Rattle.grammar_text.specs.Sameness.{spelling_eq};
+ghost use Rattle.edit_log.specs.Replicas.{ArePositionsOfSymbol, IsFreshSymbol, symbols_in};
 ghost use Rattle.edit_log.specs.Sizes.{IsSized};
 ghost use Rattle.edit_log.specs.Symbols.{number_of, with_symbol, with_symbols, numbered};
 ghost use Rattle.grammar_text.specs.declared.symbol.Symbol.TheVariants.{Named as named};
@@ -43,7 +43,7 @@ fn positions_of(alloc: Global, symbol: &Symbol) -> Result<Option<Positions>, All
 fn fresh(alloc: Global, symbol: &Symbol) -> Result<FreshSymbol, AllocError>
     requires { IsSized symbol.now }
     ensures symbol { IfOk result (λ one. one.symbol ≡ symbol.now) }
-    ensures fresh { IfOk result IsFresh }
+    ensures fresh { IfOk result IsFreshSymbol }
 {
     Ok(FreshSymbol {
         symbol: symbol.clone()?,
@@ -54,7 +54,7 @@ fn fresh(alloc: Global, symbol: &Symbol) -> Result<FreshSymbol, AllocError>
 
 /// The place of the symbol among those that are fresh.
 fn place_in(fresh: &[FreshSymbol], symbol: &Symbol) -> Option<usize>
-    ensures { result ≡ position (symbol_eq symbol.now) (symbols_in fresh.now) }
+    ensures { result ≡ position (spelling_eq symbol.now) (symbols_in fresh.now) }
 {
     for place in 0..fresh.len() {
         if fresh[place].symbol == *symbol {
@@ -75,7 +75,7 @@ pub(crate) fn number_in(
     requires room { length known.now.keys + length fresh.old.items < 2 ^ 32 }
     ensures grown { OnOk result (known.now.keys ++ symbols_in fresh.new.items ≡ with_symbol (known.now.keys ++ symbols_in fresh.old.items) symbol.now) }
     ensures few { OnOk result (length fresh.new.items ≤ length fresh.old.items + 1) }
-    ensures fresh { AllByRecursion IsFresh fresh.old.items → AllByRecursion IsFresh fresh.new.items }
+    ensures fresh { AllByRecursion IsFreshSymbol fresh.old.items → AllByRecursion IsFreshSymbol fresh.new.items }
     ensures number { IfOk result (λ number. number ≡ number_of (known.now.keys ++ symbols_in fresh.new.items) symbol.now) }
 {
     if let Some(place) = known.get_index_of(symbol) {
@@ -100,7 +100,7 @@ fn numbers_in(
     requires room { length known.now.keys + length fresh.old.items + length symbols.now < 2 ^ 32 }
     ensures grown { OnOk result (known.now.keys ++ symbols_in fresh.new.items ≡ with_symbols (known.now.keys ++ symbols_in fresh.old.items) symbols.now) }
     ensures few { OnOk result (length fresh.new.items ≤ length fresh.old.items + length symbols.now) }
-    ensures fresh { AllByRecursion IsFresh fresh.old.items → AllByRecursion IsFresh fresh.new.items }
+    ensures fresh { AllByRecursion IsFreshSymbol fresh.old.items → AllByRecursion IsFreshSymbol fresh.new.items }
     ensures numbers { IfOk result (λ numbers. numbers.items ≡ map (number_of (known.now.keys ++ symbols_in fresh.new.items)) symbols.now) }
 {
     let mut numbers = Vec::with_capacity(alloc, symbols.len())?;
@@ -123,7 +123,7 @@ pub(crate) fn rule_in(
     requires room { length known.now.keys + 1 + length text.now.right < 2 ^ 32 }
     ensures grown { OnOk result (known.now.keys ++ symbols_in fresh.new.items ≡ with_symbols known.now.keys (named text.now.left ∷ text.now.right)) }
     ensures few { OnOk result (length fresh.new.items ≤ 1 + length text.now.right) }
-    ensures fresh { OnOk result (AllByRecursion IsFresh fresh.new.items) }
+    ensures fresh { OnOk result (AllByRecursion IsFreshSymbol fresh.new.items) }
     ensures numbered { IfOk result (λ live. live ≡ numbered (known.now.keys ++ symbols_in fresh.new.items) number.0 text.now) }
 {
     let left = number_in(alloc, known, fresh, &Symbol::Named(text.left.clone()?))?;

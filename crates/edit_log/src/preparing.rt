@@ -5,7 +5,7 @@ ghost use Rattle.grammar_text.specs.declared.edit.Edit.{Edit as AnEdit};
 ghost use Rattle.grammar_text.specs.declared.edit.Edit.TheVariants as edit;
 ghost use Rattle.edit_log.specs.declared.ready.Ready.{Ready as IsReady};
 ghost use Rattle.edit_entry.specs.Entries.{entry_of};
-ghost use Rattle.edit_log.specs.Replicas.{IsReadyFor, IsPlanFor, IsNoMoreThan, HasRoom, HasRoomAt, symbols_in, adds, drops};
+ghost use Rattle.edit_log.specs.Replicas.{IsReadyFor, IsPlanFor, IsNoMoreThan, HasSpare, HasRoomAt, symbols_in, adds, drops};
 ghost use Rattle.std.specs.List.{list_any};
 ghost use Rattle.edit_log.specs.Live.{is_literal};
 ghost use Rattle.edit_log.specs.Lists.{Wakes};
@@ -45,7 +45,7 @@ impl Grammar {
     fn reserve(&mut self) -> Result<(), AllocError>
         ensures grammar { self.new.grammar ≡ self.old.grammar }
         ensures grows { IsNoMoreThan self.old.room self.new.room }
-        ensures room { OnOk result (HasRoom self.new.room) }
+        ensures room { OnOk result (HasSpare self.new.room) }
     {
         self.table.reserve(NEW_LIMIT)?;
         self.live.reserve(NEW_LIMIT)?;

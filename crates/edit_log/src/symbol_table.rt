@@ -5,7 +5,7 @@ ghost use Rattle.std.specs.Prelude.{Vec as AVec};
 ghost use Rattle.std.specs.declared.alloc.Global.{Global as AGlobal};
 ghost use Rattle.forest.specs.declared.rules.RuleId.{RuleId as ARuleId};
 ghost use Rattle.forest.specs.Distinct.{IsDistinct};
-ghost use Rattle.grammar_text.specs.Sameness.{symbol_eq};
+ghost use Rattle.grammar_text.specs.Sameness.{spelling_eq};
 ghost use Rattle.grammar_text.specs.declared.symbol.Symbol.TheVariants as symbol;
 ghost use Rattle.indexmap.specs.IndexSet.{spare};
 ghost use Rattle.edit_log.specs.Kept.{live_literal};
@@ -55,7 +55,7 @@ pub(crate) fn live_literal(rows: &[Row], symbol: SymbolId) -> Option<&Positions>
 
 /// Puts the symbol last.
 fn push_symbol(symbols: &mut IndexSet<Symbol>, symbol: Symbol)
-    requires new { position (symbol_eq symbol) symbols.old.keys ≡ None }
+    requires new { position (spelling_eq symbol) symbols.old.keys ≡ None }
     requires room { 0 < spare symbols.old }
     ensures keys { symbols.new.keys ≡ symbols.old.keys ++ symbol ∷ [] }
     ensures room { spare symbols.old ≤ spare symbols.new + 1 }

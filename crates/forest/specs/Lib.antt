@@ -5,3 +5,4 @@ pub mod SplitStores
 pub mod Forests
 pub mod Equality
 pub mod Distinct
+pub mod Numbers

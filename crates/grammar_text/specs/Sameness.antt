@@ -12,23 +12,23 @@ use Rattle.grammar_text.specs.declared.symbol.Symbol.TheVariants.{Named, Literal
 use Rattle.grammar_text.specs.declared.edit.RuleText.{RuleText}
 use Rattle.grammar_text.specs.declared.edit.DefText.{DefText}
 
-abbrev pub symbol_eq : Symbol → Symbol → Bool
-symbol_eq (Named a) (Named b) = bytes_eq a b
-symbol_eq (Named a) (Literal b) = false
-symbol_eq (Literal a) (Named b) = false
-symbol_eq (Literal a) (Literal b) = bytes_eq a b
+abbrev pub spelling_eq : Symbol → Symbol → Bool
+spelling_eq (Named a) (Named b) = bytes_eq a b
+spelling_eq (Named a) (Literal b) = false
+spelling_eq (Literal a) (Named b) = false
+spelling_eq (Literal a) (Literal b) = bytes_eq a b
 
-pub symbol_eq-decides : (a b : Symbol) → Decides (symbol_eq a b) (a ≡ b)
-symbol_eq-decides (Named a) (Named b) = let d = bytes_eq-Decides a b in (λ e. ap (λ n. Named n) (d.0 e), λ e. d.1 (let same : a ≡ b = cc in same))
-symbol_eq-decides (Named a) (Literal b) = (λ e. absurd cc, λ e. absurd cc)
-symbol_eq-decides (Literal a) (Named b) = (λ e. absurd cc, λ e. absurd cc)
-symbol_eq-decides (Literal a) (Literal b) = let d = bytes_eq-Decides a b in (λ e. ap (λ n. Literal n) (d.0 e), λ e. d.1 (let same : a ≡ b = cc in same))
+pub spelling_eq-decides : (a b : Symbol) → Decides (spelling_eq a b) (a ≡ b)
+spelling_eq-decides (Named a) (Named b) = let d = bytes_eq-Decides a b in (λ e. ap (λ n. Named n) (d.0 e), λ e. d.1 (let same : a ≡ b = cc in same))
+spelling_eq-decides (Named a) (Literal b) = (λ e. absurd cc, λ e. absurd cc)
+spelling_eq-decides (Literal a) (Named b) = (λ e. absurd cc, λ e. absurd cc)
+spelling_eq-decides (Literal a) (Literal b) = let d = bytes_eq-Decides a b in (λ e. ap (λ n. Literal n) (d.0 e), λ e. d.1 (let same : a ≡ b = cc in same))
 
 abbrev pub symbols_eq : List Symbol → List Symbol → Bool
-symbols_eq = pointwise symbol_eq
+symbols_eq = pointwise spelling_eq
 
 pub symbols_eq-decides : (a b : List Symbol) → Decides (symbols_eq a b) (a ≡ b)
-symbols_eq-decides a b = slice_eq-Decides symbol_eq-decides a b (symbols_eq a b) refl
+symbols_eq-decides a b = slice_eq-Decides spelling_eq-decides a b (symbols_eq a b) refl
 
 abbrev pub rule_eq : RuleText → RuleText → Bool
 rule_eq a b = bytes_eq a.left b.left && symbols_eq a.right b.right
@@ -68,4 +68,4 @@ symbol_fed (Named name) = fed.u8 0 ++ fed.slice fed.u8 name
 symbol_fed (Literal bytes) = fed.u8 1 ++ fed.slice fed.u8 bytes
 
 -- each test says exactly whether the two are equal
-pub ruleset sameness = (bytes_eq-Decides, symbol_eq-decides, symbols_eq-decides, rule_eq-decides, definition_eq-decides)
+pub ruleset sameness = (bytes_eq-Decides, spelling_eq-decides, symbols_eq-decides, rule_eq-decides, definition_eq-decides)

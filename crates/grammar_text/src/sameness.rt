@@ -5,7 +5,7 @@ ghost use Rattle.std.specs.Str.{bytes_eq};
 ghost use Rattle.std.specs.Cmp.{decided, partial_equiv_from_equiv};
 ghost use Rattle.std.specs.Hash as fed;
 ghost use Rattle.std.proofs.lemmas.Slice.Eq.{bytes_eq-Decides};
-ghost use Rattle.grammar_text.specs.Sameness.{symbol_eq, symbol_eq-decides, symbols_eq, symbols_eq-decides, rule_eq, rule_eq-decides, definition_eq};
+ghost use Rattle.grammar_text.specs.Sameness.{spelling_eq, spelling_eq-decides, symbols_eq, symbols_eq-decides, rule_eq, rule_eq-decides, definition_eq};
 ghost use Rattle.grammar_text.specs.Sameness.{definition_eq-decides, symbol_fed};
 
 use crate::edit::{DefText, RuleText};
@@ -63,9 +63,9 @@ impl Hash for Text {
 }
 
 impl PartialEq for Symbol {
-    ghost eq = { symbol_eq };
+    ghost eq = { spelling_eq };
 
-    ghost laws = { partial_equiv_from_equiv (decided symbol_eq symbol_eq-decides) };
+    ghost laws = { partial_equiv_from_equiv (decided spelling_eq spelling_eq-decides) };
 
     fn eq(&self, other: &Symbol) -> bool {
         match (self, other) {
@@ -77,13 +77,13 @@ impl PartialEq for Symbol {
 }
 
 impl Eq for Symbol {
-    ghost laws = { decided symbol_eq symbol_eq-decides };
+    ghost laws = { decided spelling_eq spelling_eq-decides };
 }
 
 impl Hash for Symbol {
     ghost hash_input = { symbol_fed };
 
-    ghost respects_eq = { (fed.same_Alike symbol_fed symbol_eq-decides).fed };
+    ghost respects_eq = { (fed.same_Alike symbol_fed spelling_eq-decides).fed };
 
     fn hash<H: Hasher>(&self, state: &mut H) {
         match self {

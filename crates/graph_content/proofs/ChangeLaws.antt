@@ -2,7 +2,7 @@
 use Rattle.std.proofs.Common.{◌≡◌, ◌⊎◌, inl, inr, List, Some, sym, subst, IsTrue, Contains}
 use Rattle.grammar_text.specs.declared.edit.Edit.{Edit}
 use Rattle.edit_log.specs.declared.touch.Touch.{Touch}
-use Rattle.edit_log.specs.History.{Grammar, after, grammar_of}
+use Rattle.edit_log.specs.History.{Grammar, after_edit, grammar_of}
 use Rattle.edit_log.specs.Facts.{IsWellFormed}
 use Rattle.edit_log.specs.Verdict.{IsAccepted, IsHistory}
 use Rattle.edit_log.specs.Touches.{IsTouchOf}
@@ -42,9 +42,9 @@ items_touched g touch items (names_gone {item = item} c e) = inl (item, c, e)
 items_touched g touch items (moves_on_left {left = left} e m) = inr (left, e, m)
 
 untouched : (g : Grammar) (edit : Edit) (touch : Touch) (key : Key) → IsTaken g edit touch → IsKey g key → (IsTouched g touch key → ⊥)
-    → IsUnaffected g (after g edit) key
+    → IsUnaffected g (after_edit g edit) key
 untouched g edit touch (kernel items) t is none =
-    let both = untouched_items g.rules (after g edit).rules touch items (rule_change g edit touch t.well t.accepted t.touches) is.1
+    let both = untouched_items g.rules (after_edit g edit).rules touch items (rule_change g edit touch t.well t.accepted t.touches) is.1
     (λ w. none (items_touched g touch items w)) in
     record { stays = (is.0, both.0); same = both.1 }
 untouched g edit touch (scan Start) t is none = record { stays = tt; same = untouched_start g edit touch t.well t.accepted t.touches none }
@@ -52,9 +52,11 @@ untouched g edit touch (scan (Set marks)) t is none =
     let both = untouched_set g edit touch t.well t.accepted t.touches marks is.1 (λ m c gone. none (m, c, gone)) in
     record { stays = (is.0, both.0); same = both.1 }
 
-touched : (g : Grammar) (edit : Edit) (touch : Touch) (key : Key) → IsTaken g edit touch → IsKey g key → IsTouched g touch key → IsAffected g (after g edit) key
+touched : (g : Grammar) (edit : Edit) (touch : Touch) (key : Key) → IsTaken g edit touch → IsKey g key → IsTouched g touch key
+    → IsAffected g (after_edit g edit) key
 touched g edit touch (kernel items) t is w =
-    elim (touched_items g.rules (after g edit).rules touch items (rule_change g edit touch t.well t.accepted t.touches) is.1 (touches_items g touch items w)) [
+    elim (touched_items g.rules (after_edit g edit).rules touch items (rule_change g edit touch t.well t.accepted t.touches) is.1
+        (touches_items g touch items w)) [
       | inl gone ↦ inl (λ stays. gone stays.1)
       | inr differs ↦ inr differs
     ]

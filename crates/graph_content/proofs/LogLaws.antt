@@ -6,7 +6,7 @@ use Rattle.std.proofs.lemmas.List.Sums.{fold-append}
 use Rattle.grammar_text.specs.declared.edit.Edit.{Edit}
 use Rattle.edit_entry.specs.Entries.{entry_of}
 use Rattle.edit_entry.proofs.EntryLaws.{one_entry}
-use Rattle.edit_log.specs.History.{Grammar, empty_grammar, after, grammar_of}
+use Rattle.edit_log.specs.History.{Grammar, empty_grammar, after_edit, grammar_of}
 use Rattle.edit_log.specs.Verdict.{AreAccepted, IsAccepted, IsHistory}
 use Rattle.pin_rule.specs.declared.content.Entry.{Entry}
 use Rattle.graph_content.specs.Contents.{IsLogOf, IsLogOfGrammar}
@@ -25,25 +25,25 @@ same_edits g h [] (y ∷ ys) p q e = absurd cc
 same_edits g h (x ∷ xs) [] p q e = absurd cc
 same_edits g h (x ∷ xs) (y ∷ ys) p q e =
     let first : x ≡ y = one_entry x y p.0.proper.0 q.0.proper.0 (same_heads e) in
-    let others : xs ≡ ys = same_edits (after g x) (after h y) xs ys p.1 q.1 (same_tails e) in
+    let others : xs ≡ ys = same_edits (after_edit g x) (after_edit h y) xs ys p.1 q.1 (same_tails e) in
     ap (λ z. z ∷ xs) first ∙ ap (λ zs. y ∷ zs) others
 
-pub accepted_push : (g : Grammar) (edits : List Edit) (edit : Edit) → AreAccepted g edits → IsAccepted (fold after g edits) edit
+pub accepted_push : (g : Grammar) (edits : List Edit) (edit : Edit) → AreAccepted g edits → IsAccepted (fold after_edit g edits) edit
     → AreAccepted g (edits ++ edit ∷ [])
 accepted_push g [] edit are is = (is, tt)
-accepted_push g (first ∷ edits) edit are is = (are.0, accepted_push (after g first) edits edit are.1 is)
+accepted_push g (first ∷ edits) edit are is = (are.0, accepted_push (after_edit g first) edits edit are.1 is)
 
 pub accepted_front : (g : Grammar) (edits others : List Edit) → AreAccepted g (edits ++ others) → AreAccepted g edits
 accepted_front g [] others are = tt
-accepted_front g (first ∷ edits) others are = (are.0, accepted_front (after g first) edits others are.1)
+accepted_front g (first ∷ edits) others are = (are.0, accepted_front (after_edit g first) edits others are.1)
 
 pub accepted_next : (g : Grammar) (edits : List Edit) (edit : Edit) (others : List Edit) → AreAccepted g (edits ++ edit ∷ others)
-    → IsAccepted (fold after g edits) edit
+    → IsAccepted (fold after_edit g edits) edit
 accepted_next g [] edit others are = are.0
-accepted_next g (first ∷ edits) edit others are = accepted_next (after g first) edits edit others are.1
+accepted_next g (first ∷ edits) edit others are = accepted_next (after_edit g first) edits edit others are.1
 
-pub grammar_push : (edits : List Edit) (edit : Edit) → grammar_of (edits ++ edit ∷ []) ≡ after (grammar_of edits) edit
-grammar_push edits edit = fold-append after empty_grammar edits (edit ∷ [])
+pub grammar_push : (edits : List Edit) (edit : Edit) → grammar_of (edits ++ edit ∷ []) ≡ after_edit (grammar_of edits) edit
+grammar_push edits edit = fold-append after_edit empty_grammar edits (edit ∷ [])
 
 -- ---- logs
 

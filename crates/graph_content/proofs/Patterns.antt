@@ -16,7 +16,7 @@ use Rattle.forest.specs.declared.rules.Rule.{Rule}
 use Rattle.edit_log.specs.declared.definitions.DefId.{DefId}
 use Rattle.edit_log.specs.declared.definitions.DefId.TheVariants.{Literal as literal, Named as named}
 use Rattle.edit_log.specs.Symbols.{symbol_at, symbols_of, with_symbols}
-use Rattle.edit_log.specs.History.{Definition, Grammar, after, defined}
+use Rattle.edit_log.specs.History.{Definition, Grammar, after_edit, defined}
 use Rattle.edit_log.specs.Facts.{IsWellFormed, IsNumber}
 use Rattle.edit_log.specs.Verdict.{IsAccepted, definition_found}
 use Rattle.edit_log.specs.Live.{IsLive, definition_of}
@@ -32,17 +32,17 @@ use Rattle.isg_states.specs.Patterns.{Pattern, bytes, expression, IsPatternOf, H
 
 -- ---- symbols
 
-pub symbols_after : (g : Grammar) (edit : Edit) → (after g edit).symbols ≡ with_symbols g.symbols (symbols_of edit)
-unfolding after
+pub symbols_after : (g : Grammar) (edit : Edit) → (after_edit g edit).symbols ≡ with_symbols g.symbols (symbols_of edit)
+unfolding after_edit
 symbols_after g edit = refl
 
 -- a live literal is the same symbol after an edit
 pub literal_same : (g : Grammar) (edit : Edit) (s : SymbolId) → IsWellFormed g → IsLive g (literal s)
-    → symbol_at (after g edit).symbols s ≡ symbol_at g.symbols s
+    → symbol_at (after_edit g edit).symbols s ≡ symbol_at g.symbols s
 literal_same g edit s well live =
     let grown = with_symbols-grown g.symbols (symbols_of edit) in
     let used = ((live_literal g s).0 live).1 in
-    symbol_kept g.symbols (after g edit).symbols grown.more s (symbols_after g edit ∙ grown.is) (counted_within g.symbols g.rules s well.rights used)
+    symbol_kept g.symbols (after_edit g edit).symbols grown.more s (symbols_after g edit ∙ grown.is) (counted_within g.symbols g.rules s well.rights used)
 
 -- ---- tokens and skips
 
@@ -50,16 +50,16 @@ literal_same g edit s well live =
 abbrev IsSameAt : Grammar → Grammar → RuleId → Type 0
 IsSameAt g next n = definition_of next n ≡ definition_of g n
 
-rule_added_same : (g : Grammar) (r : RuleText) (n : RuleId) → IsSameAt g (after g (AddRule r)) n
-unfolding after
+rule_added_same : (g : Grammar) (r : RuleText) (n : RuleId) → IsSameAt g (after_edit g (AddRule r)) n
+unfolding after_edit
 rule_added_same g r n = refl
 
-rule_dropped_same : (g : Grammar) (r : RuleText) (n : RuleId) → IsSameAt g (after g (DropRule r)) n
-unfolding after
+rule_dropped_same : (g : Grammar) (r : RuleText) (n : RuleId) → IsSameAt g (after_edit g (DropRule r)) n
+unfolding after_edit
 rule_dropped_same g r n = refl
 
-added_same : (g : Grammar) (skip : Bool) (d : DefText) (n : RuleId) → n.0 ≤ g.version → IsSameAt g (after g (adds skip d)) n
-unfolding after
+added_same : (g : Grammar) (skip : Bool) (d : DefText) (n : RuleId) → n.0 ≤ g.version → IsSameAt g (after_edit g (adds skip d)) n
+unfolding after_edit
 added_same g true d n old =
     find_push-first (λ (live : Definition). live.number.0 == n.0) g.definitions
     (defined (with_symbols g.symbols (symbols_of (AddSkip d))) (g.version + 1) true d)
@@ -71,7 +71,7 @@ added_same g false d n old =
 
 dropped_same : (g : Grammar) (skip : Bool) (name : List ℕ) (gone : Definition) (n : RuleId) → IsWellFormed g → IsAccepted g (drops skip name)
     → definition_found g skip name ≡ Some gone
-    → (n.0 ≡ gone.number.0 → ⊥) → IsSameAt g (after g (drops skip name)) n
+    → (n.0 ≡ gone.number.0 → ⊥) → IsSameAt g (after_edit g (drops skip name)) n
 dropped_same g skip name gone n well accepted found other =
     let test = λ (live : Definition). live.number.0 == n.0 in
     let kept = λ (live : Definition). not (live.number.0 == gone.number.0) in
@@ -83,14 +83,14 @@ dropped_same g skip name gone n well accepted found other =
 -- the dropped one is not live then
 dropped_gone : (g : Grammar) (skip : Bool) (name : List ℕ) (gone : Definition) (n : RuleId) → IsWellFormed g → IsAccepted g (drops skip name)
     → definition_found g skip name ≡ Some gone
-    → IsLive (after g (drops skip name)) (named n) → n.0 ≡ gone.number.0 → ⊥
+    → IsLive (after_edit g (drops skip name)) (named n) → n.0 ≡ gone.number.0 → ⊥
 dropped_gone g skip name gone n well accepted found live e =
     let known = (live_dropped g skip name gone well accepted found (named n)).0 live in
     known.1 (ap (λ k. named (let r : RuleId = record { 0 = k } in r)) e)
 
 -- a definition that stays live is the same
-pub definition_same : (g : Grammar) (edit : Edit) (n : RuleId) → IsWellFormed g → IsAccepted g edit → IsLive g (named n) → IsLive (after g edit) (named n)
-    → IsSameAt g (after g edit) n
+pub definition_same : (g : Grammar) (edit : Edit) (n : RuleId) → IsWellFormed g → IsAccepted g edit → IsLive g (named n) → IsLive (after_edit g edit) (named n)
+    → IsSameAt g (after_edit g edit) n
 definition_same g (AddRule r) n well accepted live stays = rule_added_same g r n
 definition_same g (DropRule r) n well accepted live stays = rule_dropped_same g r n
 definition_same g (AddToken d) n well accepted live stays =
@@ -106,21 +106,21 @@ definition_same g (DropSkip name) n well accepted live stays =
 
 -- ---- patterns
 
-pub pattern_kept : (g : Grammar) (edit : Edit) (d : DefId) (p : Pattern) → IsWellFormed g → IsAccepted g edit → IsLive (after g edit) d → HasPattern g d p
-    → HasPattern (after g edit) d p
+pub pattern_kept : (g : Grammar) (edit : Edit) (d : DefId) (p : Pattern) → IsWellFormed g → IsAccepted g edit → IsLive (after_edit g edit) d → HasPattern g d p
+    → HasPattern (after_edit g edit) d p
 pattern_kept g edit d p well accepted stays has = record { live = stays; is = by d p stays has.live has.is }
   where
-    by : (d : DefId) (p : Pattern) → IsLive (after g edit) d → IsLive g d → IsPatternOf g d p → IsPatternOf (after g edit) d p
+    by : (d : DefId) (p : Pattern) → IsLive (after_edit g edit) d → IsLive g d → IsPatternOf g d p → IsPatternOf (after_edit g edit) d p
     by (literal s) (bytes text) stays live is = literal_same g edit s well live ∙ is
     by (literal s) (expression e) stays live is = absurd is
     by (named n) (bytes text) stays live is = absurd is
     by (named n) (expression e) stays live is = (is.0, definition_same g edit n well accepted live stays ∙ is.1, is.2)
 
-pub pattern_back : (g : Grammar) (edit : Edit) (d : DefId) (p : Pattern) → IsWellFormed g → IsAccepted g edit → IsLive g d → HasPattern (after g edit) d p
+pub pattern_back : (g : Grammar) (edit : Edit) (d : DefId) (p : Pattern) → IsWellFormed g → IsAccepted g edit → IsLive g d → HasPattern (after_edit g edit) d p
     → HasPattern g d p
 pattern_back g edit d p well accepted live has = record { live = live; is = by d p has.live live has.is }
   where
-    by : (d : DefId) (p : Pattern) → IsLive (after g edit) d → IsLive g d → IsPatternOf (after g edit) d p → IsPatternOf g d p
+    by : (d : DefId) (p : Pattern) → IsLive (after_edit g edit) d → IsLive g d → IsPatternOf (after_edit g edit) d p → IsPatternOf g d p
     by (literal s) (bytes text) stays live is = sym (literal_same g edit s well live) ∙ is
     by (literal s) (expression e) stays live is = absurd is
     by (named n) (bytes text) stays live is = absurd is

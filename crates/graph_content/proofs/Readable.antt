@@ -15,7 +15,7 @@ use Rattle.regex_ast.specs.Refusals.{SpellsWithinLimits}
 use Rattle.edit_log.specs.declared.definitions.DefId.{DefId}
 use Rattle.edit_log.specs.declared.definitions.DefId.TheVariants.{Literal as literal, Named as named}
 use Rattle.edit_log.specs.Symbols.{symbol_at, symbols_of, with_symbols}
-use Rattle.edit_log.specs.History.{Definition, Grammar, empty_grammar, after, grammar_of, defined}
+use Rattle.edit_log.specs.History.{Definition, Grammar, empty_grammar, after_edit, grammar_of, defined}
 use Rattle.edit_log.specs.Verdict.{AreAccepted, IsAccepted, IsHistory}
 use Rattle.edit_log.specs.Live.{IsLive, is_literal, kind_of_definition, definition_of}
 use Rattle.edit_log.proofs.PlainLists.{all_contained, each_contained, all_push, all_filter}
@@ -50,8 +50,8 @@ symbols_read symbols these old new =
     let more : AllByRecursion IsSolid grown.more = all_contained IsSolid grown.more (λ s c. each_contained IsSolid these s new (grown.known s c)) in
     subst (AllByRecursion IsSolid) (sym grown.is) (joined IsSolid symbols grown.more old more)
 
-readable_after : (g : Grammar) (edit : Edit) → IsReadable g → IsAccepted g edit → IsReadable (after g edit)
-unfolding after
+readable_after : (g : Grammar) (edit : Edit) → IsReadable g → IsAccepted g edit → IsReadable (after_edit g edit)
+unfolding after_edit
 readable_after g (AddRule r) read accepted =
     record { symbols = symbols_read g.symbols (symbols_of (AddRule r)) read.symbols (solid_edit (AddRule r) accepted.proper.0); definitions = read.definitions }
 readable_after g (DropRule r) read accepted =
@@ -77,14 +77,14 @@ readable_after g (DropSkip name) read accepted = record {
   definitions = all_filter IsSpelled _ g.definitions read.definitions;
 }
 
-along : (g : Grammar) (edits : List Edit) → IsReadable g → AreAccepted g edits → IsReadable (fold after g edits)
+along : (g : Grammar) (edits : List Edit) → IsReadable g → AreAccepted g edits → IsReadable (fold after_edit g edits)
 along g [] read accepted = read
-along g (edit ∷ edits) read accepted = along (after g edit) edits (readable_after g edit read accepted.0) accepted.1
+along g (edit ∷ edits) read accepted = along (after_edit g edit) edits (readable_after g edit read accepted.0) accepted.1
 
 pub readable_always : (history : List Edit) → IsHistory history → IsReadable (grammar_of history)
 readable_always history accepted = along empty_grammar history (record { symbols = (tt, tt); definitions = tt }) accepted
 
-pub readable_next : (g : Grammar) (edit : Edit) → IsReadable g → IsAccepted g edit → IsReadable (after g edit)
+pub readable_next : (g : Grammar) (edit : Edit) → IsReadable g → IsAccepted g edit → IsReadable (after_edit g edit)
 readable_next g edit read accepted = readable_after g edit read accepted
 
 -- ---- a first position

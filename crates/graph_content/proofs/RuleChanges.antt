@@ -16,7 +16,7 @@ use Rattle.forest.specs.declared.rules.RuleId.{RuleId}
 use Rattle.forest.specs.declared.rules.Rule.{Rule}
 use Rattle.edit_log.specs.declared.touch.Touch.{Touch}
 use Rattle.edit_log.specs.Symbols.{numbered, number_of, symbol_at, symbol_bytes, symbols_of, text_of, with_symbols}
-use Rattle.edit_log.specs.History.{Grammar, after, reads}
+use Rattle.edit_log.specs.History.{Grammar, after_edit, reads}
 use Rattle.edit_log.specs.Facts.{IsWellFormed, IsNamed, IsNumber}
 use Rattle.edit_log.specs.Verdict.{IsAccepted, rule_found}
 use Rattle.edit_log.specs.Touches.{IsTouchOf}
@@ -53,12 +53,12 @@ numbers_differ g well = record {
 -- ---- one more
 
 with_new : (g : Grammar) (r : RuleText) → IsWellFormed g → IsAccepted g (AddRule r)
-    → IsWith g.rules (numbered (with_symbols g.symbols (symbols_of (AddRule r))) (g.version + 1) r) (after g (AddRule r)).rules
-unfolding after
+    → IsWith g.rules (numbered (with_symbols g.symbols (symbols_of (AddRule r))) (g.version + 1) r) (after_edit g (AddRule r)).rules
+unfolding after_edit
 with_new g r well accepted =
     let rule = numbered (with_symbols g.symbols (symbols_of (AddRule r))) (g.version + 1) r in
     record {
-      numbered = numbers_differ (after g (AddRule r)) (well_formed_after g (AddRule r) well accepted);
+      numbered = numbers_differ (after_edit g (AddRule r)) (well_formed_after g (AddRule r) well accepted);
       has = Contains-push g.rules rule;
       kept = λ q c. Contains-append_left g.rules (rule ∷ []) q c;
       only = λ q c. elim (Contains-push_cases g.rules rule q c) [ inl d ↦ inl d | inr e ↦ inr (sym e) ];
@@ -68,8 +68,8 @@ with_new g r well accepted =
     }
 
 added_left : (g : Grammar) (r : RuleText)
-    → number_of (after g (AddRule r)).symbols (Named r.left) ≡ (numbered (with_symbols g.symbols (symbols_of (AddRule r))) (g.version + 1) r).left
-unfolding after
+    → number_of (after_edit g (AddRule r)).symbols (Named r.left) ≡ (numbered (with_symbols g.symbols (symbols_of (AddRule r))) (g.version + 1) r).left
+unfolding after_edit
 added_left g r = refl
 
 -- ---- one less
@@ -122,24 +122,24 @@ dropped_left g r live well found =
 
 -- ---- each edit
 
-pub rules_stay : (g : Grammar) (skip : Bool) (d : DefText) → (after g (adds skip d)).rules ≡ g.rules
-unfolding after
+pub rules_stay : (g : Grammar) (skip : Bool) (d : DefText) → (after_edit g (adds skip d)).rules ≡ g.rules
+unfolding after_edit
 rules_stay g true d = refl
 rules_stay g false d = refl
 
-pub rules_remain : (g : Grammar) (skip : Bool) (name : List ℕ) → (after g (drops skip name)).rules ≡ g.rules
-unfolding after
+pub rules_remain : (g : Grammar) (skip : Bool) (name : List ℕ) → (after_edit g (drops skip name)).rules ≡ g.rules
+unfolding after_edit
 rules_remain g true name = refl
 rules_remain g false name = refl
 
 pub rule_change : (g : Grammar) (edit : Edit) (touch : Touch) → IsWellFormed g → IsAccepted g edit → IsTouchOf g edit touch
-    → RuleChange g.rules (after g edit).rules touch
+    → RuleChange g.rules (after_edit g edit).rules touch
 rule_change g (AddRule r) touch well accepted touches = one_more (with_new g r well accepted) (touches.left ∙ ap Some (added_left g r)) touches.gone_rule
 rule_change g (DropRule r) touch well accepted touches =
     let (live, found) = rule_there g r (free g (DropRule r) accepted.taken).lack in
     let there = (found_there (reads g.symbols r) g.rules live found).0 in
     let less = with_old g.rules live (numbers_differ g well) there in
-    let left : number_of (after g (DropRule r)).symbols (Named r.left) ≡ live.left =
+    let left : number_of (after_edit g (DropRule r)).symbols (Named r.left) ≡ live.left =
     ap (λ symbols. number_of symbols (Named r.left)) (symbols_stay_rule g r well accepted) ∙ sym (dropped_left g r live well found) in
     one_less (subst (λ rules. IsWith rules live g.rules) (sym (rules_dropped g r live well accepted found)) less) (touches.left ∙ ap Some left)
     (touches.gone_rule ∙ ap (option_map (λ (x : Rule). x.number)) found)

@@ -3,7 +3,7 @@ use Rattle.std.specs.Prelude.{◌≡◌, ◌⊎◌, List, Some, IsTrue, Contains
 use Rattle.grammar_text.specs.declared.edit.Edit.{Edit}
 use Rattle.forest.specs.declared.symbols.SymbolId.{SymbolId}
 use Rattle.edit_log.specs.declared.touch.Touch.{Touch}
-use Rattle.edit_log.specs.History.{Grammar, after, grammar_of}
+use Rattle.edit_log.specs.History.{Grammar, after_edit, grammar_of}
 use Rattle.edit_log.specs.Verdict.{IsAccepted, IsHistory}
 use Rattle.edit_log.specs.Touches.{IsTouchOf}
 use Rattle.item_sets.specs.declared.item.Item.{Item}
@@ -20,7 +20,7 @@ pub record IsChange (grammar : Grammar) (touch : Touch) (next : Grammar) : Type 
   pub edit : Edit
   pub accepted : IsAccepted grammar edit
   pub touches : IsTouchOf grammar edit touch
-  pub leads : next ≡ after grammar edit
+  pub leads : next ≡ after_edit grammar edit
 
 -- one of the items is of the rule that ends
 abbrev pub NamesEnded : Touch → List Item → Type 0

@@ -43,15 +43,15 @@ pub record LeadsByEdit (grammar : Grammar) (touch : Touch) (first next : List En
   pub longer : next ≡ first ++ entry ∷ []
 
 -- the row is that of a key which an edit with this touch does not affect
-pub record IsLeft (grammar : Grammar) (touch : Touch) (row : List ℕ) : Type 0 where
+pub record IsUntouched (grammar : Grammar) (touch : Touch) (row : List ℕ) : Type 0 where
   pub key : Key
   pub is : IsRowOf grammar key row
   pub unaffected : (next : Grammar) → IsChange grammar touch next → IsUnaffected grammar next key
 
 -- between these logs the rows are chosen
-abbrev pub Leads : Modification → List Entry → List Entry → Type 0
-Leads m = LeadsByEdit m.grammar m.touch
+abbrev pub LeadsByTouch : Modification → List Entry → List Entry → Type 0
+LeadsByTouch m = LeadsByEdit m.grammar m.touch
 
 -- this row is kept
-abbrev pub Keeps : Modification → List ℕ → Type 0
-Keeps m = IsLeft m.grammar m.touch
+abbrev pub KeepsRow : Modification → List ℕ → Type 0
+KeepsRow m = IsUntouched m.grammar m.touch

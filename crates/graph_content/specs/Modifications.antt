@@ -13,11 +13,11 @@ pub record Modification : Type 0 where
   pub scan : ℕ
 
 -- one more, up to the last number of 32 bits, where the count stands still
-abbrev pub one_more : ℕ → ℕ
-one_more count = min (count + 1) 4294967295
+abbrev pub counted_on : ℕ → ℕ
+counted_on count = min (count + 1) 4294967295
 
 -- the counts after a row of this kind, which was kept or not
 abbrev pub after_row : Modification → Kind → (kept : Bool) → Modification
 after_row m kind true = m
-after_row m Items false = record { grammar = m.grammar; touch = m.touch; items = one_more m.items; scan = m.scan }
-after_row m Scan false = record { grammar = m.grammar; touch = m.touch; items = m.items; scan = one_more m.scan }
+after_row m Items false = record { grammar = m.grammar; touch = m.touch; items = counted_on m.items; scan = m.scan }
+after_row m Scan false = record { grammar = m.grammar; touch = m.touch; items = m.items; scan = counted_on m.scan }

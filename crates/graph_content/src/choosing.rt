@@ -5,11 +5,11 @@ use crate::modify::Modify;
 use pin_rule::choosers::Chooser;
 
 impl Chooser<GraphRows> for Modify<'_> {
-    ghost use Rattle.graph_content.specs.Contents.{Leads, Keeps};
+    ghost use Rattle.graph_content.specs.Contents.{LeadsByTouch, KeepsRow};
 
-    ghost leads = { Leads };
+    ghost leads = { LeadsByTouch };
 
-    ghost keeps = { Keeps };
+    ghost keeps = { KeepsRow };
 
     fn keep(&mut self, row: &[u64]) -> bool {
         self.keep(row)

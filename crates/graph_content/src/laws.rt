@@ -10,7 +10,7 @@ ghost use Rattle.row_coding.specs.Rows.{Key, FitsKey};
 ghost use Rattle.graph_content.specs.Affected.{IsKey, IsAffected, IsUnaffected};
 ghost use Rattle.graph_content.specs.Changes.{IsChange, IsTouched};
 ghost use Rattle.graph_content.specs.Rows.{IsRowOf};
-ghost use Rattle.graph_content.specs.Contents.{IsLogOf, IsLeft};
+ghost use Rattle.graph_content.specs.Contents.{IsLogOf, IsUntouched};
 
 /// An edit affects the keys that it touches. With [`untouched_is_unaffected`] it affects exactly these.
 pub fn touched_is_affected()
@@ -37,5 +37,5 @@ pub fn keys_fit()
 /// The rows that an edit leaves are those of the keys that it does not affect, whichever edit with this touch it is.
 pub fn kept_is_unaffected()
     ensures { (grammar next : Grammar) (touch : Touch) (key : Key) (row : List ℕ) → IsChange grammar touch next → IsRowOf grammar key row
-        → IsLeft grammar touch row ↔ IsUnaffected grammar next key }
+        → IsUntouched grammar touch row ↔ IsUnaffected grammar next key }
 {}

@@ -6,7 +6,7 @@ ghost use Rattle.row_coding.specs.Rows.{Key, kind_of_key};
 ghost use Rattle.graph_content.specs.Affected.{IsUnaffected, IsAffected};
 ghost use Rattle.graph_content.specs.Changes.{IsChange};
 ghost use Rattle.graph_content.specs.Rows.{Fits, IsRowOf};
-ghost use Rattle.graph_content.specs.Modifications.{Modification, after_row, one_more};
+ghost use Rattle.graph_content.specs.Modifications.{Modification, after_row, counted_on};
 
 use crate::touching::is_touched;
 use edit_log::{Grammar, Touch};
@@ -34,8 +34,8 @@ impl<'g> Model for Modify<'g> {
 }
 
 /// One more, but for the last number, which stays.
-fn one_more(count: u32) -> u32
-    ensures { result ≡ one_more count }
+fn counted_on(count: u32) -> u32
+    ensures { result ≡ counted_on count }
 {
     count.saturating_add(1)
 }
@@ -76,8 +76,8 @@ impl<'g> Modify<'g> {
         ensures { self.new ≡ after_row self.old kind false }
     {
         match kind {
-            Kind::Items => self.items = one_more(self.items),
-            Kind::Scan => self.scan = one_more(self.scan),
+            Kind::Items => self.items = counted_on(self.items),
+            Kind::Scan => self.scan = counted_on(self.scan),
         }
     }
 

@@ -8,14 +8,14 @@ use Rattle.gss.specs.declared.stack_graph.Edge.{Edge}
 use Rattle.gss.specs.declared.rows.LinkRow.{LinkRow}
 use Rattle.gss.specs.Numbers.{IsGreatest}
 use Rattle.gss.specs.PlaceGraphs.{LeadsToBy}
-use Rattle.gss.specs.Chains.{none, IsKey, IsEarlier, AreOlders, TellsGreatest, greatest, no_greatest}
+use Rattle.gss.specs.Chains.{none, IsKeyAt, IsEarlier, AreOlders, TellsGreatest, greatest, no_greatest}
 use Rattle.gss.specs.Rows.{edges, lowers, olders}
 use Rattle.gss.proofs.Chains.{cases_same}
 use Rattle.gss.proofs.Columns.{to_column, read_column}
 
 -- where a search stands: at a link down to the node, or at none, with no link that is looked for behind it
 pub record IsAbove (links : List LinkRow) (lower : ℕ) (symbol : SymbolId) (from r : ℕ) : Type 0 where
-  pub is : (r ≡ none) ⊎ IsKey (lowers (edges links)) lower r
+  pub is : (r ≡ none) ⊎ IsKeyAt (lowers (edges links)) lower r
   pub rest : (k : ℕ) → LeadsToBy (edges links) lower symbol from k → (k ≤ r) × (r ≡ none → ⊥)
 
 -- how far it has to go
@@ -30,7 +30,7 @@ left_less a b some (inr less) = elim (cases_same a none) [
 ]
 
 module _ (links : List LinkRow) (lower from : ℕ) (symbol : SymbolId) where
-  pub key_within : (l : ℕ) → IsKey (lowers (edges links)) lower l → l < length links
+  pub key_within : (l : ℕ) → IsKeyAt (lowers (edges links)) lower l → l < length links
   key_within l key = omega (
     arith,
     slice_get_within (lowers (edges links)) l lower key,
@@ -38,10 +38,10 @@ module _ (links : List LinkRow) (lower from : ℕ) (symbol : SymbolId) where
     length-map links (λ (r : LinkRow). r.edge),
   )
 
-  leads_key : (k : ℕ) → LeadsToBy (edges links) lower symbol from k → IsKey (lowers (edges links)) lower k
+  leads_key : (k : ℕ) → LeadsToBy (edges links) lower symbol from k → IsKeyAt (lowers (edges links)) lower k
   leads_key k (order, link, at, low, by) = to_column (λ (e : Edge). e.lower) (edges links) k link at ∙ ap (λ n. Some n) low
 
-  pub above_start : (r : ℕ) → TellsGreatest (IsKey (lowers (edges links)) lower) r → IsAbove links lower symbol from r
+  pub above_start : (r : ℕ) → TellsGreatest (IsKeyAt (lowers (edges links)) lower) r → IsAbove links lower symbol from r
   above_start r (greatest small is) = record {
     is = inr is.is;
     rest = λ k leads. (
@@ -51,7 +51,7 @@ module _ (links : List LinkRow) (lower from : ℕ) (symbol : SymbolId) where
   }
   above_start r (no_greatest e nothing) = record { is = inl e; rest = λ k leads. absurd (nothing k (leads_key k leads)) }
 
-  module _ (are : AreOlders (lowers (edges links)) (olders links)) (r : ℕ) (d : LinkRow) (key : IsKey (lowers (edges links)) lower r) where
+  module _ (are : AreOlders (lowers (edges links)) (olders links)) (r : ℕ) (d : LinkRow) (key : IsKeyAt (lowers (edges links)) lower r) where
     tells : TellsGreatest (IsEarlier (lowers (edges links)) lower r) (get_or links r d).older
     tells = are r (get_or links r d).older lower (read_column (λ (w : LinkRow). w.older) links r d (key_within r key)) key
 

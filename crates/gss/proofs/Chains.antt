@@ -6,8 +6,8 @@ use Rattle.std.proofs.lemmas.List.{get_or-replicate, length-replicate}
 use Rattle.std.proofs.lemmas.Option.{slice_get_within, get_or_from_slice_get, same_Some}
 use Rattle.std.proofs.lemmas.Bool.{cases_lt}
 use Rattle.gss.specs.Numbers.{IsGreatest, HasNone}
-use Rattle.gss.specs.Chains.{none, TellsLeast, least, no_least, TellsGreatest, greatest, no_greatest, IsKey, IsLater, IsEarlier, AreBelow, AreFirsts, AreLasts}
-use Rattle.gss.specs.Chains.{AreNexts, AreOlders}
+use Rattle.gss.specs.Chains.{none, TellsLeast, least, no_least, TellsGreatest, greatest, no_greatest, IsKeyAt, IsKeyBehind, IsEarlier, AreBelow}
+use Rattle.gss.specs.Chains.{AreFirsts, AreLasts, AreNexts, AreOlders}
 
 -- ---- places of lists
 
@@ -96,120 +96,124 @@ module _ (keys : List ℕ) (key m : ℕ) (size : m ≡ length keys) where
   more : List ℕ
   more = keys ++ key ∷ []
 
-  left : (k l : ℕ) → IsKey keys k l → IsKey (keys ++ key ∷ []) k l
+  left : (k l : ℕ) → IsKeyAt keys k l → IsKeyAt (keys ++ key ∷ []) k l
   left k l at = get_left keys (key ∷ []) l k at
 
-  here : IsKey (keys ++ key ∷ []) key m
+  here : IsKeyAt (keys ++ key ∷ []) key m
   here = subst (λ n. slice_get (keys ++ key ∷ []) n ≡ Some key) (sym size) (get_new keys key)
 
-  below : (k l : ℕ) → IsKey keys k l → l < m
+  below : (k l : ℕ) → IsKeyAt keys k l → l < m
   below k l at = omega (arith, slice_get_within keys l k at, size)
 
-  cases : (k l : ℕ) → IsKey (keys ++ key ∷ []) k l → IsKey keys k l ⊎ ((l ≡ m) × (key ≡ k))
+  cases : (k l : ℕ) → IsKeyAt (keys ++ key ∷ []) k l → IsKeyAt keys k l ⊎ ((l ≡ m) × (key ≡ k))
   cases k l at = elim (get_last keys key k l at) [ inl old ↦ inl old | inr new ↦ inr (omega (arith, new.0, size), new.1) ]
 
   -- a place before the new one has the key that it had
-  old : (k l : ℕ) → l < m → IsKey (keys ++ key ∷ []) k l → IsKey keys k l
+  old : (k l : ℕ) → l < m → IsKeyAt (keys ++ key ∷ []) k l → IsKeyAt keys k l
   old k l within at = elim (cases k l at) [ inl before ↦ before | inr new ↦ absurd (omega (arith, within, new.0)) ]
 
   -- a place of another key is an old one
-  other : (k l : ℕ) → (key ≡ k → ⊥) → IsKey (keys ++ key ∷ []) k l → IsKey keys k l
+  other : (k l : ℕ) → (key ≡ k → ⊥) → IsKeyAt (keys ++ key ∷ []) k l → IsKeyAt keys k l
   other k l differs at = elim (cases k l at) [ inl before ↦ before | inr new ↦ absurd (differs new.1) ]
 
   pub lasts_more : (lasts : List ℕ) → m < none → AreLasts keys lasts → AreLasts (keys ++ key ∷ []) (set lasts key m)
   lasts_more lasts small are k r at = elim (get_set lasts key m k r at) [
     | inl now ↦ greatest (omega (arith, now.1, small)) (record {
-      is = subst (λ l. IsKey (keys ++ key ∷ []) k l) now.1 (subst (λ n. IsKey (keys ++ key ∷ []) n m) (sym now.0) here);
+      is = subst (λ l. IsKeyAt (keys ++ key ∷ []) k l) now.1 (subst (λ n. IsKeyAt (keys ++ key ∷ []) n m) (sym now.0) here);
       greatest = λ l above has. elim (cases k l has) [
         | inl before ↦ omega (arith, below k l before, above, now.1)
         | inr new ↦ omega (arith, new.0, above, now.1)
       ];
     })
-    | inr rest ↦ greatest_same (IsKey keys k) (IsKey (keys ++ key ∷ []) k) r (left k) (λ l has. other k l (λ e. rest.0 (sym e)) has) (are k r rest.1)
+    | inr rest ↦ greatest_same (IsKeyAt keys k) (IsKeyAt (keys ++ key ∷ []) k) r (left k) (λ l has. other k l (λ e. rest.0 (sym e)) has) (are k r rest.1)
   ]
 
   -- the key had no place
-  pub firsts_more : (firsts : List ℕ) → m < none → HasNone (IsKey keys key) → AreFirsts keys firsts → AreFirsts (keys ++ key ∷ []) (set firsts key m)
+  pub firsts_more : (firsts : List ℕ) → m < none → HasNone (IsKeyAt keys key) → AreFirsts keys firsts → AreFirsts (keys ++ key ∷ []) (set firsts key m)
   firsts_more firsts small nothing are k r at = elim (get_set firsts key m k r at) [
     | inl now ↦ least (omega (arith, now.1, small)) (record {
-      is = subst (λ l. IsKey (keys ++ key ∷ []) k l) now.1 (subst (λ n. IsKey (keys ++ key ∷ []) n m) (sym now.0) here);
-      least = λ l before has. nothing l (subst (λ n. IsKey keys n l) now.0 (old k l (omega (arith, before, now.1)) has));
+      is = subst (λ l. IsKeyAt (keys ++ key ∷ []) k l) now.1 (subst (λ n. IsKeyAt (keys ++ key ∷ []) n m) (sym now.0) here);
+      least = λ l before has. nothing l (subst (λ n. IsKeyAt keys n l) now.0 (old k l (omega (arith, before, now.1)) has));
     })
-    | inr rest ↦ least_same (IsKey keys k) (IsKey (keys ++ key ∷ []) k) r (left k) (λ l has. other k l (λ e. rest.0 (sym e)) has) (are k r rest.1)
+    | inr rest ↦ least_same (IsKeyAt keys k) (IsKeyAt (keys ++ key ∷ []) k) r (left k) (λ l has. other k l (λ e. rest.0 (sym e)) has) (are k r rest.1)
   ]
 
   -- the key had a place
-  pub firsts_kept : (firsts : List ℕ) (n : ℕ) → IsKey keys key n → AreFirsts keys firsts → AreFirsts (keys ++ key ∷ []) firsts
+  pub firsts_kept : (firsts : List ℕ) (n : ℕ) → IsKeyAt keys key n → AreFirsts keys firsts → AreFirsts (keys ++ key ∷ []) firsts
   firsts_kept firsts n has are k r at = elim (cases_same key k) [
     | inl same ↦ by_first k r same (are k r at)
-    | inr differs ↦ least_same (IsKey keys k) (IsKey (keys ++ key ∷ []) k) r (left k) (λ l is. other k l differs is) (are k r at)
+    | inr differs ↦ least_same (IsKeyAt keys k) (IsKeyAt (keys ++ key ∷ []) k) r (left k) (λ l is. other k l differs is) (are k r at)
   ]
     where
-      by_first : (k r : ℕ) → key ≡ k → TellsLeast (IsKey keys k) r → TellsLeast (IsKey (keys ++ key ∷ []) k) r
+      by_first : (k r : ℕ) → key ≡ k → TellsLeast (IsKeyAt keys k) r → TellsLeast (IsKeyAt (keys ++ key ∷ []) k) r
       by_first k r same (least small is) = least small (record {
         is = left k r is.is;
         least = λ l before at. is.least l before (old k l (omega (arith, before, below k r is.is)) at);
       })
-      by_first k r same (no_least e nothing) = absurd (nothing n (subst (λ q. IsKey keys q n) same has))
+      by_first k r same (no_least e nothing) = absurd (nothing n (subst (λ q. IsKeyAt keys q n) same has))
 
   -- no place is behind the new one
-  newest : (k : ℕ) → HasNone (IsLater (keys ++ key ∷ []) k m)
+  newest : (k : ℕ) → HasNone (IsKeyBehind (keys ++ key ∷ []) k m)
   newest k l later = elim (cases k l later.1) [
     | inl before ↦ omega (arith, later.0, below k l before)
     | inr new ↦ omega (arith, later.0, new.0)
   ]
 
   -- the chain of a key that had no place
-  pub nexts_more : (nexts : List ℕ) → length nexts ≡ m → HasNone (IsKey keys key) → AreNexts keys nexts → AreNexts (keys ++ key ∷ []) (nexts ++ none ∷ [])
+  pub nexts_more : (nexts : List ℕ) → length nexts ≡ m → HasNone (IsKeyAt keys key) → AreNexts keys nexts → AreNexts (keys ++ key ∷ []) (nexts ++ none ∷ [])
   nexts_more nexts long nothing are l r k at is = elim (get_last nexts none r l at) [
     | inl before ↦
         let within : l < m = omega (arith, slice_get_within nexts l r before, long) in
-        let was : IsKey keys k l = old k l within is in
-        let differs : key ≡ k → ⊥ = λ e. nothing l (subst (λ n. IsKey keys n l) (sym e) was) in
-        least_same (IsLater keys k l) (IsLater (keys ++ key ∷ []) k l) r (λ n later. (later.0, left k n later.1))
+        let was : IsKeyAt keys k l = old k l within is in
+        let differs : key ≡ k → ⊥ = λ e. nothing l (subst (λ n. IsKeyAt keys n l) (sym e) was) in
+        least_same (IsKeyBehind keys k l) (IsKeyBehind (keys ++ key ∷ []) k l) r (λ n later. (later.0, left k n later.1))
         (λ n later. (later.0, other k n differs later.1)) (are l r k before was)
     | inr new ↦ no_least (sym new.1) (λ n later. newest k n (omega (arith, later.0, new.0, long), later.1))
   ]
 
   -- the chain of a key whose last place was n
-  pub nexts_linked : (nexts : List ℕ) (n : ℕ) → length nexts ≡ m → m < none → IsGreatest (IsKey keys key) n → AreNexts keys nexts
+  pub nexts_linked : (nexts : List ℕ) (n : ℕ) → length nexts ≡ m → m < none → IsGreatest (IsKeyAt keys key) n → AreNexts keys nexts
       → AreNexts (keys ++ key ∷ []) (set (nexts ++ none ∷ []) n m)
   nexts_linked nexts n long small last are l r k at is = elim (get_set (nexts ++ none ∷ []) n m l r at) [
     | inl now ↦
-        let was : IsKey keys key l = subst (λ q. IsKey keys key q) (sym now.0) last.is in
+        let was : IsKeyAt keys key l = subst (λ q. IsKeyAt keys key q) (sym now.0) last.is in
         let same : key ≡ k = same_Some key k (sym was ∙ old k l (below key l was) is) in
         least (omega (arith, now.1, small)) (record {
-          is = (omega (arith, below key l was, now.1), subst (λ q. IsKey (keys ++ key ∷ []) k q) now.1 (subst (λ q. IsKey (keys ++ key ∷ []) q m) same here));
+          is = (
+            omega (arith, below key l was, now.1),
+            subst (λ q. IsKeyAt (keys ++ key ∷ []) k q) now.1 (subst (λ q. IsKeyAt
+                (keys ++ key ∷ []) q m) same here),
+          );
           least = λ q before later. last.greatest q (omega (arith, later.0, now.0))
-              (subst (λ p. IsKey keys p q) (sym same) (old k q (omega (arith, before, now.1)) later.1));
+              (subst (λ p. IsKeyAt keys p q) (sym same) (old k q (omega (arith, before, now.1)) later.1));
         })
     | inr rest ↦ elim (get_last nexts none r l rest.1) [
       | inr new ↦ no_least (sym new.1) (λ q later. newest k q (omega (arith, later.0, new.0, long), later.1))
       | inl before ↦
           let within : l < m = omega (arith, slice_get_within nexts l r before, long) in
-          let was : IsKey keys k l = old k l within is in
+          let was : IsKeyAt keys k l = old k l within is in
           elim (cases_same key k) [
-            | inr differs ↦ least_same (IsLater keys k l) (IsLater (keys ++ key ∷ []) k l) r (λ q later. (later.0, left k q later.1))
+            | inr differs ↦ least_same (IsKeyBehind keys k l) (IsKeyBehind (keys ++ key ∷ []) k l) r (λ q later. (later.0, left k q later.1))
                 (λ q later. (later.0, other k q differs later.1)) (are l r k before was)
             | inl same ↦ by_next l r k same was rest.0 (are l r k before was)
           ]
     ]
   ]
     where
-      by_next : (l r k : ℕ) → key ≡ k → IsKey keys k l → (l ≡ n → ⊥) → TellsLeast (IsLater keys k l) r → TellsLeast (IsLater (keys ++ key ∷ []) k l) r
+      by_next : (l r k : ℕ) → key ≡ k → IsKeyAt keys k l → (l ≡ n → ⊥) → TellsLeast (IsKeyBehind keys k l) r → TellsLeast (IsKeyBehind (keys ++ key ∷ []) k l) r
       by_next l r k same was differs (least small is) = least small (record {
         is = (is.is.0, left k r is.is.1);
         least = λ q before later. is.least q before (later.0, old k q (omega (arith, before, below k r is.is.1)) later.1);
       })
       by_next l r k same was differs (no_least e nothing) =
-          let mine : IsKey keys key l = subst (λ p. IsKey keys p l) (sym same) was in
+          let mine : IsKeyAt keys key l = subst (λ p. IsKeyAt keys p l) (sym same) was in
           let before : l < n = elim (cases_lt l n) [
             | inl less ↦ less
             | inr above ↦ elim (cases_lt n l) [ inl more ↦ absurd (last.greatest l more mine) | inr equal ↦ absurd (differs (omega (arith, above, equal))) ]
           ] in
-          absurd (nothing n (before, subst (λ p. IsKey keys p n) same last.is))
+          absurd (nothing n (before, subst (λ p. IsKeyAt keys p n) same last.is))
 
-  pub olders_more : (olders : List ℕ) (r : ℕ) → length olders ≡ m → TellsGreatest (IsKey keys key) r → AreOlders keys olders
+  pub olders_more : (olders : List ℕ) (r : ℕ) → length olders ≡ m → TellsGreatest (IsKeyAt keys key) r → AreOlders keys olders
       → AreOlders (keys ++ key ∷ []) (olders ++ r ∷ [])
   olders_more olders r long tells are l s k at is = elim (get_last olders r s l at) [
     | inl before ↦
@@ -220,7 +224,7 @@ module _ (keys : List ℕ) (key m : ℕ) (size : m ≡ length keys) where
         let now : l ≡ m = omega (arith, new.0, long) in
         let same : key ≡ k = elim (cases k l is) [ inl before ↦ absurd (omega (arith, below k l before, now)) | inr this ↦ this.1 ] in
         subst (λ p. TellsGreatest (IsEarlier (keys ++ key ∷ []) p l) s) same (subst (λ p. TellsGreatest (IsEarlier (keys ++ key ∷ []) key l) p) new.1
-        (greatest_same (IsKey keys key) (IsEarlier (keys ++ key ∷ []) key l) r (λ q has. (omega (arith, below key q has, now), left key q has))
+        (greatest_same (IsKeyAt keys key) (IsEarlier (keys ++ key ∷ []) key l) r (λ q has. (omega (arith, below key q has, now), left key q has))
         (λ q earlier. old key q (omega (arith, earlier.0, now)) earlier.1) tells))
   ]
 

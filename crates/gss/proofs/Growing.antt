@@ -9,8 +9,8 @@ use Rattle.gss.specs.declared.stack_graph.Edge.{Edge}
 use Rattle.gss.specs.declared.rows.NodeRow.{NodeRow}
 use Rattle.gss.specs.declared.rows.LinkRow.{LinkRow}
 use Rattle.gss.specs.PlaceGraphs.{HasNode}
-use Rattle.gss.specs.Chains.{none, IsKey, AreBelow, AreFirsts, AreLasts, AreNexts, AreOlders, TellsGreatest}
-use Rattle.gss.specs.Rows.{states, uppers, lowers, places, firsts, lasts, aboves, edges, nexts, olders, AreFound, AreLinked, PutsAbove, PutsBelow}
+use Rattle.gss.specs.Chains.{none, IsKeyAt, AreBelow, AreFirsts, AreLasts, AreNexts, AreOlders, TellsGreatest}
+use Rattle.gss.specs.Rows.{states, uppers, lowers, places, first_links, last_links, aboves, edges, nexts, olders, AreFound, AreLinked, PutsAbove, PutsBelow}
 use Rattle.gss.proofs.Chains.{get_last, told_none, told_some, lasts_more, firsts_more, firsts_kept, nexts_more, nexts_linked, olders_more, below_more}
 use Rattle.gss.proofs.Chains.{firsts_padded, lasts_padded}
 
@@ -73,10 +73,10 @@ linked_node nodes links node are =
       uppers_within = λ l key at. omega (arith, are.uppers_within l key at, size);
       lowers_within = λ l key at. omega (arith, are.lowers_within l key at, size);
       first = subst (λ c. AreFirsts (uppers (edges links)) c) (sym (map-append (λ (r : NodeRow). r.first) nodes (row ∷ [])))
-          (firsts_padded (uppers (edges links)) (firsts nodes) 1
+          (firsts_padded (uppers (edges links)) (first_links nodes) 1
           (λ l key at. omega (arith, are.uppers_within l key at, length-map nodes (λ (r : NodeRow). r.first))) are.first);
       last = subst (λ c. AreLasts (uppers (edges links)) c) (sym (map-append (λ (r : NodeRow). r.last) nodes (row ∷ [])))
-          (lasts_padded (uppers (edges links)) (lasts nodes) 1
+          (lasts_padded (uppers (edges links)) (last_links nodes) 1
           (λ l key at. omega (arith, are.uppers_within l key at, length-map nodes (λ (r : NodeRow). r.last))) are.last);
       next = are.next;
       above = subst (λ c. AreLasts (lowers (edges links)) c) (sym (map-append (λ (r : NodeRow). r.above) nodes (row ∷ [])))
@@ -88,14 +88,14 @@ linked_node nodes links node are =
 -- ---- a link more
 
 -- the last link of a node is one that is there
-pub last_within : (nodes : List NodeRow) (links : List LinkRow) (n last : ℕ) → AreLinked nodes links → slice_get (lasts nodes) n ≡ Some last
+pub last_within : (nodes : List NodeRow) (links : List LinkRow) (n last : ℕ) → AreLinked nodes links → slice_get (last_links nodes) n ≡ Some last
     → (last ≡ none) ⊎ (last < length links)
 last_within nodes links n last are at = by last (are.last n last at)
   where
     long : length (uppers (edges links)) ≡ length links
     long = length-map (edges links) (λ (e : Edge). e.upper) ∙ length-map links (λ (r : LinkRow). r.edge)
 
-    by : (r : ℕ) → TellsGreatest (IsKey (uppers (edges links)) n) r → (r ≡ none) ⊎ (r < length links)
+    by : (r : ℕ) → TellsGreatest (IsKeyAt (uppers (edges links)) n) r → (r ≡ none) ⊎ (r < length links)
     by r (TellsGreatest.greatest small is) = inr (omega (arith, slice_get_within (uppers (edges links)) r n is.is, long))
     by r (TellsGreatest.no_greatest e nothing) = inl e
 
@@ -142,18 +142,18 @@ module _ (nodes : List NodeRow) (links : List LinkRow) (edge : Edge) (above m : 
   olders_are : olders new_links ≡ olders links ++ above ∷ []
   olders_are = b.older ∙ ap olders pushed_is ∙ map-append (λ (r : LinkRow). r.older) links (record { edge = edge; next = none; older = above } ∷ [])
 
-  was_last : slice_get (lasts nodes) edge.upper ≡ Some b.was
+  was_last : slice_get (last_links nodes) edge.upper ≡ Some b.was
   was_last = subst (λ c. slice_get c edge.upper ≡ Some b.was) a.last b.was_last
 
-  tells : TellsGreatest (IsKey (uppers (edges links)) edge.upper) b.was
+  tells : TellsGreatest (IsKeyAt (uppers (edges links)) edge.upper) b.was
   tells = are.last edge.upper b.was was_last
 
-  first_is : AreFirsts (uppers (edges new_links)) (firsts new_nodes)
+  first_is : AreFirsts (uppers (edges new_links)) (first_links new_nodes)
   first_is = elim b.chain [
     | inl alone ↦ both AreFirsts _ _ _ _ uppers_are (alone.1 ∙ ap (λ c. set c edge.upper m) a.first)
-        (firsts_more (uppers (edges links)) edge.upper m uppers_long (firsts nodes) room (told_none _ b.was alone.0 tells) are.first)
+        (firsts_more (uppers (edges links)) edge.upper m uppers_long (first_links nodes) room (told_none _ b.was alone.0 tells) are.first)
     | inr more ↦ both AreFirsts _ _ _ _ uppers_are (more.1 ∙ a.first)
-        (firsts_kept (uppers (edges links)) edge.upper m uppers_long (firsts nodes) b.was (told_some _ b.was more.0 tells).is are.first)
+        (firsts_kept (uppers (edges links)) edge.upper m uppers_long (first_links nodes) b.was (told_some _ b.was more.0 tells).is are.first)
   ]
 
   next_is : AreNexts (uppers (edges new_links)) (nexts new_links)
@@ -181,7 +181,7 @@ module _ (nodes : List NodeRow) (links : List LinkRow) (edge : Edge) (above m : 
         (below_more (lowers (edges links)) edge.lower m lowers_long (length nodes) low are.lowers_within));
     first = first_is;
     last = both AreLasts _ _ _ _ uppers_are (b.last ∙ ap (λ c. set c edge.upper m) a.last)
-        (lasts_more (uppers (edges links)) edge.upper m uppers_long (lasts nodes) room are.last);
+        (lasts_more (uppers (edges links)) edge.upper m uppers_long (last_links nodes) room are.last);
     next = next_is;
     above = both AreLasts _ _ _ _ lowers_are (b.above ∙ a.above)
         (lasts_more (lowers (edges links)) edge.lower m lowers_long (aboves nodes) room are.above);

@@ -19,9 +19,10 @@ use Rattle.item_sets.specs.declared.item.Item.{Item}
 use Rattle.item_sets.specs.Orders.{item_eq}
 use Rattle.item_sets.specs.Prefixes.{item_at}
 use Rattle.gss.specs.declared.stack_graph.Place.{Place}
-use Rattle.gss.specs.PlaceGraphs.{HasNode, place_of}
+use Rattle.gss.specs.PlaceGraphs.{HasNode, place_with}
 use Rattle.gss.specs.KernelGraphs.{KernelPlace, kernel_at, IsThere}
-use Rattle.gss.specs.Views.{kernel_place, nodes_in, AreKernelsDistinct, KeepsNumbers, AreNumbered}
+use Rattle.forest.specs.Numbers.{KeepsNumbers}
+use Rattle.gss.specs.Views.{kernel_place, nodes_in, AreKernelsDistinct, AreNumbered}
 use Rattle.gss.proofs.Chains.{get_new, get_last}
 use Rattle.gss.proofs.Columns.{to_column, from_column}
 
@@ -105,24 +106,24 @@ module _ (kernels more : List (List Item)) (keeps : KeepsNumbers kernels more) w
   }
 
 module _ (kernels : List (List Item)) (nodes : List Place) (state at : ℕ) (kernel : List Item) (is : slice_get kernels state ≡ Some kernel) where
-  kernel_is : kernel_place kernels (place_of state at) ≡ kernel_at kernel at
+  kernel_is : kernel_place kernels (place_with state at) ≡ kernel_at kernel at
   kernel_is = ap (λ (k : List Item). kernel_at k at) (get_or_from_slice_get kernels state kernel [] is)
 
   -- the node of the state and position is that of the kernel and position
-  pub node_there : (n : ℕ) → slice_get nodes n ≡ Some (place_of state at) → slice_get (nodes_in kernels nodes) n ≡ Some (kernel_at kernel at)
-  node_there n here = to_column (kernel_place kernels) nodes n (place_of state at) here ∙ ap (λ (q : KernelPlace). Some q) kernel_is
+  pub node_there : (n : ℕ) → slice_get nodes n ≡ Some (place_with state at) → slice_get (nodes_in kernels nodes) n ≡ Some (kernel_at kernel at)
+  node_there n here = to_column (kernel_place kernels) nodes n (place_with state at) here ∙ ap (λ (q : KernelPlace). Some q) kernel_is
 
-  pub numbered_more : AreNumbered kernels nodes → AreNumbered kernels (nodes ++ place_of state at ∷ [])
+  pub numbered_more : AreNumbered kernels nodes → AreNumbered kernels (nodes ++ place_with state at ∷ [])
   numbered_more are = record {
     distinct = are.distinct;
-    within = λ n node here. elim (get_last nodes (place_of state at) node n here) [
+    within = λ n node here. elim (get_last nodes (place_with state at) node n here) [
       | inl old ↦ are.within n node old
       | inr new ↦ subst (λ (p : Place). p.state < length kernels) new.1 (slice_get_within kernels state kernel is)
     ];
   }
 
-  pub nodes_more : nodes_in kernels (nodes ++ place_of state at ∷ []) ≡ nodes_in kernels nodes ++ kernel_at kernel at ∷ []
-  nodes_more = map-append (kernel_place kernels) nodes (place_of state at ∷ [])
+  pub nodes_more : nodes_in kernels (nodes ++ place_with state at ∷ []) ≡ nodes_in kernels nodes ++ kernel_at kernel at ∷ []
+  nodes_more = map-append (kernel_place kernels) nodes (place_with state at ∷ [])
       ∙ ap (λ (q : KernelPlace). nodes_in kernels nodes ++ q ∷ []) kernel_is
 
   -- no node of the state and position is none of the kernel and position
@@ -136,7 +137,7 @@ module _ (kernels : List (List Item)) (nodes : List Place) (state at : ℕ) (ker
       let its : slice_get kernels node.state ≡ Some kernel =
       slice_get-get_or kernels node.state [] (are.within n node at_n) ∙ ap (λ (k : List Item). Some k) its_kernel in
       let its_state : node.state ≡ state = are.distinct node.state state kernel its is in
-      let node_is : node ≡ place_of state at = ap (λ s. place_of s node.at) its_state ∙ ap (λ p. place_of state p) its_at in
+      let node_is : node ≡ place_with state at = ap (λ s. place_with s node.at) its_state ∙ ap (λ p. place_with state p) its_at in
       none (n, at_n ∙ ap (λ (p : Place). Some p) node_is)
 
 -- ---- what a call for a node leaves
@@ -148,7 +149,7 @@ on_err (Err e) p = p
 module _ (kernels more : List (List Item)) (nodes : List Place) (state at : ℕ) (kernel : List Item) (are : AreNumbered kernels nodes)
     (keeps : KeepsNumbers kernels more) (distinct : AreKernelsDistinct more) (is : slice_get more state ≡ Some kernel) where
   -- the node was there
-  pub there_before : (n : ℕ) → slice_get nodes n ≡ Some (place_of state at) → IsThere (nodes_in kernels nodes) (nodes_in more nodes) (kernel_at kernel at)
+  pub there_before : (n : ℕ) → slice_get nodes n ≡ Some (place_with state at) → IsThere (nodes_in kernels nodes) (nodes_in more nodes) (kernel_at kernel at)
   there_before n here =
       let same : nodes_in more nodes ≡ nodes_in kernels nodes = same_nodes kernels more keeps nodes are.within in
       inr (
@@ -158,7 +159,7 @@ module _ (kernels more : List (List Item)) (nodes : List Place) (state at : ℕ)
       )
 
   -- the node is new
-  pub there_now : (new : List Place) → new ≡ nodes ++ place_of state at ∷ [] → (HasNode nodes state at → ⊥)
+  pub there_now : (new : List Place) → new ≡ nodes ++ place_with state at ∷ [] → (HasNode nodes state at → ⊥)
       → IsThere (nodes_in kernels nodes) (nodes_in more new) (kernel_at kernel at)
   there_now new new_is none =
       let same : nodes_in more nodes ≡ nodes_in kernels nodes = same_nodes kernels more keeps nodes are.within in
@@ -168,12 +169,12 @@ module _ (kernels more : List (List Item)) (nodes : List Place) (state at : ℕ)
         ap (nodes_in more) new_is ∙ nodes_more more nodes state at kernel is ∙ ap (λ (qs : List KernelPlace). qs ++ kernel_at kernel at ∷ []) same,
       )
 
-  pub numbered_now : (new : List Place) → new ≡ nodes ++ place_of state at ∷ [] → AreNumbered more new
+  pub numbered_now : (new : List Place) → new ≡ nodes ++ place_with state at ∷ [] → AreNumbered more new
   numbered_now new new_is = subst (λ (ps : List Place). AreNumbered more ps) (sym new_is)
       (numbered_more more nodes state at kernel is (still_numbered kernels more keeps nodes are distinct))
 
-  pub last_there : (new : List Place) (n : ℕ) → new ≡ nodes ++ place_of state at ∷ [] → n ≡ length nodes
+  pub last_there : (new : List Place) (n : ℕ) → new ≡ nodes ++ place_with state at ∷ [] → n ≡ length nodes
       → slice_get (nodes_in more new) n ≡ Some (kernel_at kernel at)
   last_there new n new_is size = node_there more new state at kernel is n
-      (subst (λ (ps : List Place). slice_get ps n ≡ Some (place_of state at)) (sym new_is)
-      (subst (λ m. slice_get (nodes ++ place_of state at ∷ []) m ≡ Some (place_of state at)) (sym size) (get_new nodes (place_of state at))))
+      (subst (λ (ps : List Place). slice_get ps n ≡ Some (place_with state at)) (sym new_is)
+      (subst (λ m. slice_get (nodes ++ place_with state at ∷ []) m ≡ Some (place_with state at)) (sym size) (get_new nodes (place_with state at))))

@@ -4,14 +4,14 @@ use Rattle.std.proofs.Common.{ap, ◌∙◌, subst, arith}
 use Rattle.std.proofs.lemmas.Bool.{cases_lt}
 use Rattle.std.proofs.lemmas.Option.{slice_get_within, slice_get-get_or, same_Some}
 use Rattle.std.proofs.lemmas.List.Elements.{Contains-append_left, Contains-append_right, Contains-push_cases}
-use Rattle.forest.specs.Distinct.{IsDistinct}
+use Rattle.forest.specs.Distinct.{IsDistinct, AreAll}
 use Rattle.forest.proofs.Ascending.{contains_here, contains_there}
 use Rattle.forest.specs.declared.symbols.SymbolId.{SymbolId}
 use Rattle.gss.specs.declared.stack_graph.Edge.{Edge}
 use Rattle.gss.specs.Numbers.{IsLeast, HasNone}
-use Rattle.gss.specs.PlaceGraphs.{LeadsFrom, LeadsFromSame}
+use Rattle.gss.specs.PlaceGraphs.{LeadsDownFrom, LeadsFromSame}
 use Rattle.gss.specs.KernelGraphs.{Link, link_of}
-use Rattle.gss.specs.Paths.{node_id, Leads, AreAll}
+use Rattle.gss.specs.Paths.{node_id, Leads}
 use Rattle.gss.specs.Views.{link_in, links_in, IsEdge, IsToCome, AddsNew}
 use Rattle.gss.proofs.Columns.{to_column, from_column}
 
@@ -22,32 +22,32 @@ left_of links (Some next) = length links - next
 
 -- the walk stands at a link down from the node
 pub record IsOnWay (links : List Edge) (node : ℕ) (next : Option ℕ) : Type 0 where
-  pub is : IfSome next (LeadsFrom links node)
+  pub is : IfSome next (LeadsDownFrom links node)
 
-pub leads_within : (links : List Edge) (node l : ℕ) → LeadsFrom links node l → l < length links
+pub leads_within : (links : List Edge) (node l : ℕ) → LeadsDownFrom links node l → l < length links
 leads_within links node l (link, at, is) = slice_get_within links l link at
 
 module _ (links : List Edge) (node : ℕ) where
-  pub starts : (next : Option ℕ) → IfSome next (IsLeast (LeadsFrom links node)) → IsOnWay links node next
+  pub starts : (next : Option ℕ) → IfSome next (IsLeast (LeadsDownFrom links node)) → IsOnWay links node next
   starts None first = record { is = tt }
   starts (Some l) first = record { is = first.is }
 
   -- at first all are to come
-  pub all_to_come : (next : Option ℕ) → IfSome next (IsLeast (LeadsFrom links node)) → IfNone next (HasNone (LeadsFrom links node))
-      → (k : ℕ) → LeadsFrom links node k → IsToCome next k
+  pub all_to_come : (next : Option ℕ) → IfSome next (IsLeast (LeadsDownFrom links node)) → IfNone next (HasNone (LeadsDownFrom links node))
+      → (k : ℕ) → LeadsDownFrom links node k → IsToCome next k
   all_to_come None first none k leads = none k leads
   all_to_come (Some l) first none k leads = elim (cases_lt k l) [ inl less ↦ absurd (first.least k less leads) | inr le ↦ le ]
 
-  module _ (link : ℕ) (edge : Edge) (at : slice_get links link ≡ Some edge) (here : LeadsFrom links node link) where
+  module _ (link : ℕ) (edge : Edge) (at : slice_get links link ≡ Some edge) (here : LeadsDownFrom links node link) where
     same_upper : edge.upper ≡ node
     same_upper = ap (λ (e : Edge). e.upper) (same_Some _ _ (sym at ∙ here.1)) ∙ here.2
 
-    from_same : (l : ℕ) → LeadsFromSame links link l → LeadsFrom links node l
+    from_same : (l : ℕ) → LeadsFromSame links link l → LeadsDownFrom links node l
     from_same l (behind, e, at_e, leads) =
         let is : e.upper ≡ node = ap (λ (f : Edge). f.upper) (same_Some _ _ (sym at_e ∙ at)) ∙ same_upper in
         (leads.0, leads.1, leads.2 ∙ is)
 
-    to_same : (l : ℕ) → link < l → LeadsFrom links node l → LeadsFromSame links link l
+    to_same : (l : ℕ) → link < l → LeadsDownFrom links node l → LeadsFromSame links link l
     to_same l behind leads = (behind, edge, at, (leads.0, leads.1, leads.2 ∙ sym same_upper))
 
     pub goes_on : (next : Option ℕ) → IfSome next (IsLeast (LeadsFromSame links link)) → IsOnWay links node next
@@ -55,7 +55,7 @@ module _ (links : List Edge) (node : ℕ) where
     goes_on (Some l) first = record { is = from_same l first.is }
 
     later : (next : Option ℕ) → IfSome next (IsLeast (LeadsFromSame links link)) → IfNone next (HasNone (LeadsFromSame links link))
-        → (k : ℕ) → link < k → LeadsFrom links node k → IsToCome next k
+        → (k : ℕ) → link < k → LeadsDownFrom links node k → IsToCome next k
     later None first none k behind leads = none k (to_same k behind leads)
     later (Some l) first none k behind leads = elim (cases_lt k l) [
       | inl less ↦ absurd (first.least k less (to_same k behind leads))
@@ -64,7 +64,7 @@ module _ (links : List Edge) (node : ℕ) where
 
     -- what was to come is this link, or is to come yet
     pub came : (next : Option ℕ) → IfSome next (IsLeast (LeadsFromSame links link)) → IfNone next (HasNone (LeadsFromSame links link))
-        → (k : ℕ) → LeadsFrom links node k → link ≤ k → (k ≡ link) ⊎ IsToCome next k
+        → (k : ℕ) → LeadsDownFrom links node k → link ≤ k → (k ≡ link) ⊎ IsToCome next k
     came next first none k leads le = elim (cases_lt link k) [
       | inl behind ↦ inr (later next first none k behind leads)
       | inr above ↦ inl (omega (arith, above, le))
@@ -102,7 +102,7 @@ distinct_push (y ∷ ys) x d n = (
 )
 
 module _ (links : List Edge) (node : ℕ) where
-  pub below_none : (next : Option ℕ) → IfSome next (IsLeast (LeadsFrom links node)) → IfNone next (HasNone (LeadsFrom links node))
+  pub below_none : (next : Option ℕ) → IfSome next (IsLeast (LeadsDownFrom links node)) → IfNone next (HasNone (LeadsDownFrom links node))
       → AreBelowSoFar links node next []
   below_none next first none = record {
     on_way = starts links node next first;
@@ -172,10 +172,10 @@ pub record IsNotFound (links : List Edge) (link : Link) (next : Option ℕ) : Ty
   pub rest : (k : ℕ) → IsEdge links link k → IsToCome next k
 
 module _ (links : List Edge) (link : Link) where
-  edge_leads : (k : ℕ) → IsEdge links link k → LeadsFrom links link.upper k
+  edge_leads : (k : ℕ) → IsEdge links link k → LeadsDownFrom links link.upper k
   edge_leads k is = let edge = from_column link_in links k link is in (edge.0, edge.1, ap (λ (q : Link). q.upper) edge.2)
 
-  pub not_found_first : (next : Option ℕ) → IfSome next (IsLeast (LeadsFrom links link.upper)) → IfNone next (HasNone (LeadsFrom links link.upper))
+  pub not_found_first : (next : Option ℕ) → IfSome next (IsLeast (LeadsDownFrom links link.upper)) → IfNone next (HasNone (LeadsDownFrom links link.upper))
       → IsNotFound links link next
   not_found_first next first none = record {
     on_way = starts links link.upper next first;
@@ -202,7 +202,7 @@ module _ (links : List Edge) (link : Link) where
   pub not_there : IsNotFound links link None → Contains (links_in links) link → ⊥
   not_there so_far (k, within, is) = so_far.rest k (slice_get-get_or (links_in links) k link within ∙ ap (λ q. Some q) is)
 
-pub found_edge : (links : List Edge) (upper lower l : ℕ) (symbol : SymbolId) (edge : Edge) → slice_get links l ≡ Some edge → LeadsFrom links upper l
+pub found_edge : (links : List Edge) (upper lower l : ℕ) (symbol : SymbolId) (edge : Edge) → slice_get links l ≡ Some edge → LeadsDownFrom links upper l
     → edge.lower ≡ lower → edge.symbol.0 ≡ symbol.0 → IsEdge links (link_of upper symbol lower) l
 found_edge links upper lower l symbol edge at leads low by =
     let up : edge.upper ≡ upper = same_upper links upper l edge at leads in

@@ -3,7 +3,7 @@ use Rattle.std.proofs.Common.{◌≡◌, inl, inr, ℕ, zero, suc, ◌+◌, ◌<
 use Rattle.std.proofs.Common.{sym, ap, ◌∙◌, subst, arith, add-one, length-append}
 use Rattle.std.proofs.lemmas.List.Elements.{Contains-append_cases, Contains-append_left, Contains-append_right, Contains-push, Contains-push_cases}
 use Rattle.std.proofs.lemmas.Option.{same_Some}
-use Rattle.forest.specs.Distinct.{IsDistinct}
+use Rattle.forest.specs.Distinct.{IsDistinct, AreAll}
 use Rattle.forest.proofs.Ascending.{contains_here, contains_there, contains_cases}
 use Rattle.item_sets.proofs.DistinctLists.{distinct_append}
 use Rattle.gss.specs.declared.stack_graph.Edge.{Edge}
@@ -11,7 +11,7 @@ use Rattle.gss.specs.declared.stacks.NodeId.{NodeId}
 use Rattle.gss.specs.declared.stacks.LinkId.{LinkId}
 use Rattle.gss.specs.declared.paths.Path.{Path}
 use Rattle.gss.specs.KernelGraphs.{Link}
-use Rattle.gss.specs.Paths.{node_id, Leads, IsPathDown, HasStep, IsPathOf, AreAll}
+use Rattle.gss.specs.Paths.{node_id, Leads, IsPathDown, HasStep, IsPathOf}
 use Rattle.gss.specs.Views.{link_in, links_in, with_node, HasBelow, AreLonger}
 use Rattle.gss.proofs.Columns.{to_column}
 

@@ -7,8 +7,8 @@ use Rattle.gss.specs.declared.stack_graph.Edge.{Edge}
 use Rattle.gss.specs.declared.rows.NodeRow.{NodeRow}
 use Rattle.gss.specs.declared.rows.LinkRow.{LinkRow}
 use Rattle.gss.specs.Numbers.{IsLeast, IsGreatest, HasNone}
-use Rattle.gss.specs.PlaceGraphs.{IsOfState, LeadsFrom, LeadsToBy, LeadsFromSame, AreEndsNodes}
-use Rattle.gss.specs.Chains.{none, IsKey, IsLater, TellsLeast, least, no_least, TellsGreatest, greatest, no_greatest}
+use Rattle.gss.specs.PlaceGraphs.{IsOfState, LeadsDownFrom, LeadsToBy, LeadsFromSame, AreEndsNodes}
+use Rattle.gss.specs.Chains.{none, IsKeyAt, IsKeyBehind, TellsLeast, least, no_least, TellsGreatest, greatest, no_greatest}
 use Rattle.gss.specs.Rows.{states, uppers, lowers, places, edges, AreFound, AreLinked}
 use Rattle.gss.proofs.Columns.{to_column, from_column, row_column}
 
@@ -34,13 +34,13 @@ module _ (P Q : ℕ → Type 0) (r : ℕ) (to : (l : ℕ) → P l → Q l) (back
 
 -- ---- nodes by their state
 
-state_key : (nodes : List Place) (state n : ℕ) → IsOfState nodes state n → IsKey (states nodes) state n
+state_key : (nodes : List Place) (state n : ℕ) → IsOfState nodes state n → IsKeyAt (states nodes) state n
 state_key nodes state n (node, at, is) = to_column (λ (p : Place). p.state) nodes n node at ∙ ap (λ k. Some k) is
 
 pub newest_told : (nodes : List Place) (newest : List ℕ) (state r : ℕ) (o : Option ℕ) → AreFound nodes newest → state < length newest
     → r ≡ get_or newest state r → IsTold r o → IfSome o (IsGreatest (IsOfState nodes state)) × IfNone o (HasNone (IsOfState nodes state))
 newest_told nodes newest state r o are within is told =
-    told_greatest (IsKey (states nodes) state) (IsOfState nodes state) r (λ l key. from_column (λ (p : Place). p.state) nodes l state key)
+    told_greatest (IsKeyAt (states nodes) state) (IsOfState nodes state) r (λ l key. from_column (λ (p : Place). p.state) nodes l state key)
     (state_key nodes state) o told (are.of_state state r (slice_get_read newest (length newest) state r refl within is))
 
 pub no_newest : (nodes : List Place) (newest : List ℕ) (state : ℕ) → AreFound nodes newest → length newest ≤ state → HasNone (IsOfState nodes state)
@@ -48,27 +48,27 @@ no_newest nodes newest state are past k of = let within : state < length newest 
 
 -- ---- links by their ends
 
-upper_key : (links : List Edge) (node l : ℕ) → LeadsFrom links node l → IsKey (uppers links) node l
+upper_key : (links : List Edge) (node l : ℕ) → LeadsDownFrom links node l → IsKeyAt (uppers links) node l
 upper_key links node l (link, at, is) = to_column (λ (e : Edge). e.upper) links l link at ∙ ap (λ k. Some k) is
 
-lower_key : (links : List Edge) (l : ℕ) (link : Edge) → slice_get links l ≡ Some link → IsKey (lowers links) link.lower l
+lower_key : (links : List Edge) (l : ℕ) (link : Edge) → slice_get links l ≡ Some link → IsKeyAt (lowers links) link.lower l
 lower_key links l link at = to_column (λ (e : Edge). e.lower) links l link at
 
 module _ (nodes : List NodeRow) (links : List LinkRow) (are : AreLinked nodes links) where
   pub first_told : (node : ℕ) (row : NodeRow) (o : Option ℕ) → node < length nodes → row ≡ get_or nodes node row → IsTold row.first o
-      → IfSome o (IsLeast (LeadsFrom (edges links) node)) × IfNone o (HasNone (LeadsFrom (edges links) node))
+      → IfSome o (IsLeast (LeadsDownFrom (edges links) node)) × IfNone o (HasNone (LeadsDownFrom (edges links) node))
   first_told node row o within is told =
-      told_least (IsKey (uppers (edges links)) node) (LeadsFrom (edges links) node) row.first
+      told_least (IsKeyAt (uppers (edges links)) node) (LeadsDownFrom (edges links) node) row.first
       (λ l key. from_column (λ (e : Edge). e.upper) (edges links) l node key) (upper_key (edges links) node) o told
       (are.first node row.first (row_column (λ (r : NodeRow). r.first) nodes node row within is))
 
-  pub no_first : (node : ℕ) → length nodes ≤ node → HasNone (LeadsFrom (edges links) node)
+  pub no_first : (node : ℕ) → length nodes ≤ node → HasNone (LeadsDownFrom (edges links) node)
   no_first node past l leads = let within : node < length nodes = are.uppers_within l node (upper_key (edges links) node l leads) in omega (arith, within, past)
 
   pub next_told : (link : ℕ) (row : LinkRow) (o : Option ℕ) → link < length links → row ≡ get_or links link row → IsTold row.next o
       → IfSome o (IsLeast (LeadsFromSame (edges links) link)) × IfNone o (HasNone (LeadsFromSame (edges links) link))
   next_told link row o within is told =
-      told_least (IsLater (uppers (edges links)) row.edge.upper link) (LeadsFromSame (edges links) link) row.next
+      told_least (IsKeyBehind (uppers (edges links)) row.edge.upper link) (LeadsFromSame (edges links) link) row.next
       (λ l later. (later.0, row.edge, here, from_column (λ (e : Edge). e.upper) (edges links) l row.edge.upper later.1))
       (λ l same. (same.0, back l same)) o told
       (are.next link row.next row.edge.upper (row_column (λ (r : LinkRow). r.next) links link row within is)
@@ -77,13 +77,13 @@ module _ (nodes : List NodeRow) (links : List LinkRow) (are : AreLinked nodes li
       here : slice_get (edges links) link ≡ Some row.edge
       here = row_column (λ (r : LinkRow). r.edge) links link row within is
 
-      back : (l : ℕ) → LeadsFromSame (edges links) link l → IsKey (uppers (edges links)) row.edge.upper l
+      back : (l : ℕ) → LeadsFromSame (edges links) link l → IsKeyAt (uppers (edges links)) row.edge.upper l
       back l (behind, edge, at, leads) =
           let same : edge ≡ row.edge = same_Some _ _ (sym at ∙ here) in
-          upper_key (edges links) row.edge.upper l (subst (λ (e : Edge). LeadsFrom (edges links) e.upper l) same leads)
+          upper_key (edges links) row.edge.upper l (subst (λ (e : Edge). LeadsDownFrom (edges links) e.upper l) same leads)
 
   pub above_told : (node : ℕ) (row : NodeRow) → node < length nodes → row ≡ get_or nodes node row
-      → TellsGreatest (IsKey (lowers (edges links)) node) row.above
+      → TellsGreatest (IsKeyAt (lowers (edges links)) node) row.above
   above_told node row within is = are.above node row.above (row_column (λ (r : NodeRow). r.above) nodes node row within is)
 
   pub no_above : (node from : ℕ) (symbol : _) → length nodes ≤ node → HasNone (LeadsToBy (edges links) node symbol from)

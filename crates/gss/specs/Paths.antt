@@ -1,6 +1,5 @@
 -- Paths of links downwards.
-use Rattle.std.specs.Prelude.{◌≡◌, ℕ, zero, suc, ◌+◌, List, [], ◌∷◌, Contains, slice_get, Option, None, Some}
-use Rattle.forest.specs.Distinct.{IsDistinct}
+use Rattle.std.specs.Prelude.{◌≡◌, ℕ, zero, suc, ◌+◌, List, [], ◌∷◌, slice_get, Option, None, Some}
 use Rattle.gss.specs.declared.stacks.NodeId.{NodeId}
 use Rattle.gss.specs.declared.stacks.LinkId.{LinkId}
 use Rattle.gss.specs.declared.paths.Path.{Path}
@@ -31,9 +30,3 @@ GoesThrough links (Some through) path = (link : Link) × (slice_get links throug
 pub record IsPathOf (links : List Link) (node : NodeId) (n : ℕ) (through : Option LinkId) (path : Path) : Type 0 where
   pub down : IsPathDown links node n path.nodes
   pub passes : GoesThrough links through path.nodes
-
--- the list has exactly the values with the property, each once
-pub record AreAll {X : Type 0} (P : X → Type 0) (xs : List X) : Type 0 where
-  pub distinct : IsDistinct xs
-  pub within : (x : X) → Contains xs x → P x
-  pub all : (x : X) → P x → Contains xs x

@@ -9,27 +9,27 @@ pub record PlaceGraph : Type 0 where
   pub nodes : List Place
   pub links : List Edge
 
-abbrev pub place_of : ℕ → ℕ → Place
-place_of state at = record { state = state; at = at }
+abbrev pub place_with : ℕ → ℕ → Place
+place_with state at = record { state = state; at = at }
 
 abbrev pub edge_of : ℕ → SymbolId → ℕ → ℕ → Edge
 edge_of upper symbol lower label = record { upper = upper; symbol = symbol; lower = lower; label = label }
 
 -- some node is of this state and position
 abbrev pub HasNode : List Place → ℕ → ℕ → Type 0
-HasNode nodes state at = (n : ℕ) × (slice_get nodes n ≡ Some (place_of state at))
+HasNode nodes state at = (n : ℕ) × (slice_get nodes n ≡ Some (place_with state at))
 
 -- node n is of this state
 abbrev pub IsOfState : List Place → ℕ → ℕ → Type 0
 IsOfState nodes state n = (node : Place) × (slice_get nodes n ≡ Some node) × (node.state ≡ state)
 
 -- link l leads down from this node
-abbrev pub LeadsFrom : List Edge → ℕ → ℕ → Type 0
-LeadsFrom links upper l = (link : Edge) × (slice_get links l ≡ Some link) × (link.upper ≡ upper)
+abbrev pub LeadsDownFrom : List Edge → ℕ → ℕ → Type 0
+LeadsDownFrom links upper l = (link : Edge) × (slice_get links l ≡ Some link) × (link.upper ≡ upper)
 
 -- link l leads down to this node
-abbrev pub LeadsTo : List Edge → ℕ → ℕ → Type 0
-LeadsTo links lower l = (link : Edge) × (slice_get links l ≡ Some link) × (link.lower ≡ lower)
+abbrev pub LeadsDownTo : List Edge → ℕ → ℕ → Type 0
+LeadsDownTo links lower l = (link : Edge) × (slice_get links l ≡ Some link) × (link.lower ≡ lower)
 
 -- link l, not before this one, leads down to the node by the symbol
 abbrev pub LeadsToBy : List Edge → ℕ → SymbolId → ℕ → ℕ → Type 0
@@ -37,7 +37,7 @@ LeadsToBy links lower symbol from l = (from ≤ l) × (link : Edge) × (slice_ge
 
 -- link l is behind this one and leads down from the same node
 abbrev pub LeadsFromSame : List Edge → ℕ → ℕ → Type 0
-LeadsFromSame links before l = (before < l) × (link : Edge) × (slice_get links before ≡ Some link) × LeadsFrom links link.upper l
+LeadsFromSame links before l = (before < l) × (link : Edge) × (slice_get links before ≡ Some link) × LeadsDownFrom links link.upper l
 
 -- no two nodes have the same state and position
 abbrev pub AreNodesDistinct : List Place → Type 0

@@ -21,11 +21,11 @@ lowers links = map (λ link. link.lower) links
 abbrev pub places : List NodeRow → List Place
 places nodes = map (λ row. row.place) nodes
 
-abbrev pub firsts : List NodeRow → List ℕ
-firsts nodes = map (λ row. row.first) nodes
+abbrev pub first_links : List NodeRow → List ℕ
+first_links nodes = map (λ row. row.first) nodes
 
-abbrev pub lasts : List NodeRow → List ℕ
-lasts nodes = map (λ row. row.last) nodes
+abbrev pub last_links : List NodeRow → List ℕ
+last_links nodes = map (λ row. row.last) nodes
 
 abbrev pub aboves : List NodeRow → List ℕ
 aboves nodes = map (λ row. row.above) nodes
@@ -52,8 +52,8 @@ pub record AreLinked (nodes : List NodeRow) (links : List LinkRow) : Type 0 wher
   pub few : length links < 2 ^ 32
   pub uppers_within : AreBelow (uppers (edges links)) (length nodes)
   pub lowers_within : AreBelow (lowers (edges links)) (length nodes)
-  pub first : AreFirsts (uppers (edges links)) (firsts nodes)
-  pub last : AreLasts (uppers (edges links)) (lasts nodes)
+  pub first : AreFirsts (uppers (edges links)) (first_links nodes)
+  pub last : AreLasts (uppers (edges links)) (last_links nodes)
   pub next : AreNexts (uppers (edges links)) (nexts links)
   pub above : AreLasts (lowers (edges links)) (aboves nodes)
   pub older : AreOlders (lowers (edges links)) (olders links)
@@ -61,20 +61,20 @@ pub record AreLinked (nodes : List NodeRow) (links : List LinkRow) : Type 0 wher
 -- one column of one node is another number
 pub record PutsAbove (old new : List NodeRow) (node link : ℕ) : Type 0 where
   pub place : places new ≡ places old
-  pub first : firsts new ≡ firsts old
-  pub last : lasts new ≡ lasts old
+  pub first : first_links new ≡ first_links old
+  pub last : last_links new ≡ last_links old
   pub above : aboves new ≡ set (aboves old) node link
 
 pub record PutsLast (old new : List NodeRow) (node link : ℕ) : Type 0 where
   pub place : places new ≡ places old
-  pub first : firsts new ≡ firsts old
-  pub last : lasts new ≡ set (lasts old) node link
+  pub first : first_links new ≡ first_links old
+  pub last : last_links new ≡ set (last_links old) node link
   pub above : aboves new ≡ aboves old
 
 pub record PutsFirst (old new : List NodeRow) (node link : ℕ) : Type 0 where
   pub place : places new ≡ places old
-  pub first : firsts new ≡ set (firsts old) node link
-  pub last : lasts new ≡ lasts old
+  pub first : first_links new ≡ set (first_links old) node link
+  pub last : last_links new ≡ last_links old
   pub above : aboves new ≡ aboves old
 
 -- one link has another next one
@@ -86,11 +86,11 @@ pub record PutsNext (old new : List LinkRow) (before link : ℕ) : Type 0 where
 -- the link is the last one down from the node, behind the one that was the last
 pub record PutsBelow (old new : List NodeRow) (old_links new_links : List LinkRow) (node link : ℕ) : Type 0 where
   pub place : places new ≡ places old
-  pub last : lasts new ≡ set (lasts old) node link
+  pub last : last_links new ≡ set (last_links old) node link
   pub above : aboves new ≡ aboves old
   pub edge : edges new_links ≡ edges old_links
   pub older : olders new_links ≡ olders old_links
   pub was : ℕ
-  pub was_last : slice_get (lasts old) node ≡ Some was
-  pub chain : ((was ≡ none) × (firsts new ≡ set (firsts old) node link) × (nexts new_links ≡ nexts old_links))
-      ⊎ ((was ≡ none → ⊥) × (firsts new ≡ firsts old) × (nexts new_links ≡ set (nexts old_links) was link))
+  pub was_last : slice_get (last_links old) node ≡ Some was
+  pub chain : ((was ≡ none) × (first_links new ≡ set (first_links old) node link) × (nexts new_links ≡ nexts old_links))
+      ⊎ ((was ≡ none → ⊥) × (first_links new ≡ first_links old) × (nexts new_links ≡ set (nexts old_links) was link))

@@ -25,10 +25,6 @@ links_in edges = map link_in edges
 abbrev pub AreKernelsDistinct : List (List Item) → Type 0
 AreKernelsDistinct kernels = (n m : ℕ) (kernel : List Item) → slice_get kernels n ≡ Some kernel → slice_get kernels m ≡ Some kernel → n ≡ m
 
--- each kernel keeps its number
-abbrev pub KeepsNumbers : List (List Item) → List (List Item) → Type 0
-KeepsNumbers old new = (n : ℕ) (kernel : List Item) → slice_get old n ≡ Some kernel → slice_get new n ≡ Some kernel
-
 -- kernels have one number each, and states are such numbers
 pub record AreNumbered (kernels : List (List Item)) (nodes : List Place) : Type 0 where
   pub distinct : AreKernelsDistinct kernels

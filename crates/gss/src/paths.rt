@@ -1,9 +1,9 @@
 //! Paths of links downwards.
 
 ghost use Rattle.std.specs.Prelude.{◌≡◌, ◌<◌, ◌↔◌, ℕ, map, Contains, IfSome, IfOk, OnOk, IsTrue, [], ◌∷◌, ◌++◌, length};
-ghost use Rattle.forest.specs.Distinct.{IsDistinct};
+ghost use Rattle.forest.specs.Distinct.{IsDistinct, AreAll};
 ghost use Rattle.gss.specs.declared.paths.Path.{Path};
-ghost use Rattle.gss.specs.Paths.{node_id, Leads, IsPathDown, HasStep, IsPathOf, AreAll};
+ghost use Rattle.gss.specs.Paths.{node_id, Leads, IsPathDown, HasStep, IsPathOf};
 ghost use Rattle.gss.specs.Views.{links_in, with_node, AddsNew, AreLonger};
 
 use crate::NoMemory;

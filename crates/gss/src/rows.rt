@@ -3,9 +3,9 @@
 ghost use Rattle.std.specs.Prelude.{◌≡◌, ◌-◌, ◌^◌, ◌<◌, ◌⊎◌, ℕ, List, [], ◌∷◌, ◌++◌, IfSome, IfNone, IfOk, OnOk, OnErr, Some, length, slice_get};
 ghost use Rattle.gss.specs.declared.stack_graph.Place.{Place};
 ghost use Rattle.gss.specs.Numbers.{IsGreatest, HasNone};
-ghost use Rattle.gss.specs.PlaceGraphs.{HasNode, LeadsToBy, place_of};
-ghost use Rattle.gss.specs.Chains.{none, IsKey, TellsGreatest, AreOlders};
-ghost use Rattle.gss.specs.Rows.{lasts, edges, lowers, olders, places, AreFound, AreLinked, PutsAbove, PutsLast, PutsFirst, PutsNext, PutsBelow};
+ghost use Rattle.gss.specs.PlaceGraphs.{HasNode, LeadsToBy, place_with};
+ghost use Rattle.gss.specs.Chains.{none, IsKeyAt, TellsGreatest, AreOlders};
+ghost use Rattle.gss.specs.Rows.{last_links, edges, lowers, olders, places, AreFound, AreLinked, PutsAbove, PutsLast, PutsFirst, PutsNext, PutsBelow};
 
 use crate::NoMemory;
 use crate::stack_graph::{Edge, Place};
@@ -86,7 +86,7 @@ fn put_next(links: &mut Vec<LinkRow>, before: u32, link: u32)
 /// Puts the link at the end of the list of those down from the node.
 fn put_below(nodes: &mut Vec<NodeRow>, links: &mut Vec<LinkRow>, node: u32, link: u32)
     requires node { node < length nodes.old.items }
-    requires last { (last : ℕ) → slice_get (lasts nodes.old.items) node ≡ Some last → (last ≡ none) ⊎ (last < length links.old.items) }
+    requires last { (last : ℕ) → slice_get (last_links nodes.old.items) node ≡ Some last → (last ≡ none) ⊎ (last < length links.old.items) }
     ensures { PutsBelow nodes.old.items nodes.new.items links.old.items links.new.items node link }
 {
     let last = nodes[node as usize].last;
@@ -158,7 +158,7 @@ pub(crate) fn add_place(
 /// The number of the node of the state and position.
 pub(crate) fn find_place(nodes: &[NodeRow], state: u32, at: u32) -> Option<u32>
     requires { length nodes.now < 2 ^ 32 }
-    ensures found { IfSome result (λ n. slice_get (places nodes.now) n ≡ Some (place_of state at)) }
+    ensures found { IfSome result (λ n. slice_get (places nodes.now) n ≡ Some (place_with state at)) }
     ensures none { IfNone result (HasNode (places nodes.now) state at → ⊥) }
 {
     for (number, row) in nodes.iter().enumerate() {
@@ -178,7 +178,7 @@ pub(crate) fn find_above(
     _lower: u32,
 ) -> Option<u32>
     requires older { AreOlders (lowers (edges links.now)) (olders links.now) }
-    requires newest { TellsGreatest (IsKey (lowers (edges links.now)) _lower) newest }
+    requires newest { TellsGreatest (IsKeyAt (lowers (edges links.now)) _lower) newest }
     ensures newest { IfSome result (IsGreatest (LeadsToBy (edges links.now) _lower symbol from)) }
     ensures none { IfNone result (HasNone (LeadsToBy (edges links.now) _lower symbol from)) }
 {

@@ -2,7 +2,7 @@
 
 ghost use Rattle.std.specs.Prelude.{◌≡◌, ◌-◌, ◌^◌, ◌<◌, [], ◌∷◌, ◌++◌, IfSome, IfNone, IfOk, OnOk, OnErr, Some, length, slice_get};
 ghost use Rattle.gss.specs.Numbers.{IsLeast, IsGreatest, HasNone};
-ghost use Rattle.gss.specs.PlaceGraphs.{place_of, edge_of, HasNode, IsOfState, LeadsFrom, LeadsToBy, LeadsFromSame, AreNodesDistinct, AreEndsNodes};
+ghost use Rattle.gss.specs.PlaceGraphs.{place_with, edge_of, HasNode, IsOfState, LeadsDownFrom, LeadsToBy, LeadsFromSame, AreNodesDistinct, AreEndsNodes};
 
 use crate::NoMemory;
 use crate::rows::{LinkRow, NodeRow, add_edge, add_place, find_above, find_place, told};
@@ -125,7 +125,7 @@ impl StackGraph {
 
     /// The node of the state and position, by a search over all nodes.
     pub fn find_node(&self, state: u32, at: u32) -> Option<u32>
-        ensures found { IfSome result (λ n. slice_get self.now.nodes n ≡ Some (place_of state at)) }
+        ensures found { IfSome result (λ n. slice_get self.now.nodes n ≡ Some (place_with state at)) }
         ensures none { IfNone result (HasNode self.now.nodes state at → ⊥) }
     {
         find_place(&self.nodes, state, at)
@@ -136,7 +136,7 @@ impl StackGraph {
         requires new { HasNode self.old.nodes state at → ⊥ }
         requires room { length self.old.nodes < 2 ^ 32 - 1 }
         ensures number { IfOk result (λ n. n ≡ length self.old.nodes) }
-        ensures nodes { OnOk result (self.new.nodes ≡ self.old.nodes ++ place_of state at ∷ []) }
+        ensures nodes { OnOk result (self.new.nodes ≡ self.old.nodes ++ place_with state at ∷ []) }
         ensures links { self.new.links ≡ self.old.links }
         ensures refused { OnErr result (self.new ≡ self.old) }
     {
@@ -160,8 +160,8 @@ impl StackGraph {
     /// The oldest link down from the node.
     #[inline]
     pub fn first_link(&self, node: u32) -> Option<u32>
-        ensures first { IfSome result (IsLeast (LeadsFrom self.now.links node)) }
-        ensures none { IfNone result (HasNone (LeadsFrom self.now.links node)) }
+        ensures first { IfSome result (IsLeast (LeadsDownFrom self.now.links node)) }
+        ensures none { IfNone result (HasNone (LeadsDownFrom self.now.links node)) }
     {
         if node as usize >= self.nodes.len() {
             return None;

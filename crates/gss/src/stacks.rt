@@ -2,8 +2,10 @@
 
 ghost use Rattle.std.specs.Prelude.{◌≡◌, ◌-◌, ◌^◌, ◌<◌, [], ◌∷◌, ◌++◌, Contains, IfSome, IfNone, IfOk, OnOk, OnErr, Some, length, slice_get};
 ghost use Rattle.gss.specs.KernelGraphs.{kernel_at, link_of, IsAdded, IsThere, IsNumberIn};
-ghost use Rattle.gss.specs.Paths.{IsPathOf, AreAll};
-ghost use Rattle.gss.specs.Views.{nodes_in, links_in, IsEdge, AreKernelsDistinct, KeepsNumbers, AreNumbered};
+ghost use Rattle.forest.specs.Distinct.{AreAll};
+ghost use Rattle.gss.specs.Paths.{IsPathOf};
+ghost use Rattle.forest.specs.Numbers.{KeepsNumbers};
+ghost use Rattle.gss.specs.Views.{nodes_in, links_in, IsEdge, AreKernelsDistinct, AreNumbered};
 
 use crate::NoMemory;
 use crate::paths::{Path, paths_through};

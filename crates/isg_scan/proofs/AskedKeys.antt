@@ -2,10 +2,10 @@
 use Rattle.std.proofs.Common.{◌≡◌, inl, inr, ◌⊎◌, ℕ, List, [], ◌∷◌, Contains, refl, sym, ◌∙◌, subst}
 use Rattle.std.proofs.lemmas.List.Elements.{Contains-push, Contains-push_cases, Contains-append_left}
 use Rattle.isg_states.specs.declared.scan_key.ScanKey.{ScanKey}
-use Rattle.live_graph.specs.Meaning.{Meaning}
+use Rattle.live_graph.specs.Meaning.{GraphMeaning}
 use Rattle.live_graph.specs.Asking.{Joins, AsksScan}
 use Rattle.live_graph.proofs.Rises.{scan_rises, rise_none, rise_join}
-use Rattle.isg_scan.specs.Asked.{Stands, AsksOnly}
+use Rattle.isg_scan.specs.Asked.{StandsButScans, AsksOnly}
 
 module _ {Key : Type 0} (old : List Key) (key : Key) (new : List Key) (joins : Joins old key new) where
   pub joined : Contains new key
@@ -30,10 +30,10 @@ module _ {Key : Type 0} (old : List Key) (key : Key) (new : List Key) (joins : J
 -- ---- asks for wanted states alone
 
 module _ {Base : Type 0} where
-  pub asks_none : (Wanted : ScanKey → Type 0) (graph : Meaning Base) (steps : ℕ) → AsksOnly Wanted graph graph steps steps
+  pub asks_none : (Wanted : ScanKey → Type 0) (graph : GraphMeaning Base) (steps : ℕ) → AsksOnly Wanted graph graph steps steps
   asks_none Wanted graph steps = record { kept = λ key has. has; within = λ key has. inl has; rises = rise_none graph steps }
 
-  pub asks_one : (Wanted : ScanKey → Type 0) (old new : Meaning Base) (key : ScanKey) (before after : ℕ) → Wanted key → AsksScan old key new before after
+  pub asks_one : (Wanted : ScanKey → Type 0) (old new : GraphMeaning Base) (key : ScanKey) (before after : ℕ) → Wanted key → AsksScan old key new before after
       → AsksOnly Wanted old new before after
   asks_one Wanted old new key before after wanted asks = record {
     kept = joined_kept old.scans.keys key new.scans.keys asks.asks.joins;
@@ -45,7 +45,7 @@ module _ {Base : Type 0} where
     rises = scan_rises old new key before after asks;
   }
 
-  pub asks_join : (First Second Wanted : ScanKey → Type 0) (old middle new : Meaning Base) (before between after : ℕ) → ((key : ScanKey) → First key
+  pub asks_join : (First Second Wanted : ScanKey → Type 0) (old middle new : GraphMeaning Base) (before between after : ℕ) → ((key : ScanKey) → First key
       → Wanted key) → ((key : ScanKey) → Second key → Wanted key)
       → AsksOnly First old middle before between → AsksOnly Second middle new between after → AsksOnly Wanted old new before after
   asks_join First Second Wanted old middle new before between after one two first second = record {
@@ -57,10 +57,10 @@ module _ {Base : Type 0} where
     rises = rise_join old middle new before between after first.rises second.rises;
   }
 
-  pub stands_same : (graph : Meaning Base) → Stands graph graph
+  pub stands_same : (graph : GraphMeaning Base) → StandsButScans graph graph
   stands_same graph = record { grammar = refl; base = refl; kernels = refl }
 
-  pub stands_join : (old middle new : Meaning Base) → Stands old middle → Stands middle new → Stands old new
+  pub stands_join : (old middle new : GraphMeaning Base) → StandsButScans old middle → StandsButScans middle new → StandsButScans old new
   stands_join old middle new first second = record {
     grammar = second.grammar ∙ first.grammar;
     base = second.base ∙ first.base;

@@ -15,7 +15,7 @@ use Rattle.edit_log.specs.Tokens.{IsMatched, IsWinner, IsLongest, Scan, tokens, 
 use Rattle.edit_log.specs.Tokens.{skipped, full, more, Tokenizes}
 use Rattle.isg_states.specs.declared.scan_key.ScanKey.{ScanKey}
 use Rattle.isg_states.specs.declared.scan_key.ScanKey.TheVariants.{Start, Set}
-use Rattle.isg_scan.specs.Reach.{ComesTo, here, past_skip, past_token, Begins, Meets, ReachesScan}
+use Rattle.isg_scan.specs.Reach.{ComesTo, here, past_skip, past_token, BeginsPiece, MeetsState, ReachesScan}
 use Rattle.isg_scan.proofs.Pieces.{comes_none, comes_past_skip, comes_past_token, comes_full}
 
 -- the tokens before those of a scan
@@ -48,12 +48,12 @@ pub record IsScannedTo (grammar : Grammar) (text : List ℕ) (offset : ℕ) (fou
   pub within : offset ≤ length text
   pub few : length found ≤ TOKEN_LIMIT
   pub goes_on : (rest : Scan) → TokenizesFrom grammar offset (room_after found) (drop offset text) rest → Tokenizes grammar text (before_all found rest)
-  pub comes : (left : List ℕ) → ComesTo grammar (room_after found) (drop offset text) left → Begins grammar text left
+  pub comes : (left : List ℕ) → ComesTo grammar (room_after found) (drop offset text) left → BeginsPiece grammar text left
 
 -- the states that are still to be asked for are those that the rest of the scan reaches
 abbrev pub IsAskedTo : Grammar → List ℕ → List ScanKey → (room : ℕ) → List ℕ → Type 0
 IsAskedTo grammar text asked room ahead = (key : ScanKey) → ReachesScan grammar text key → Contains asked key ⊎ ((left : List ℕ) × ComesTo grammar room
-    ahead left × Meets grammar left key)
+    ahead left × MeetsState grammar left key)
 
 pub scanned_none : (grammar : Grammar) (text : List ℕ) → IsScannedTo grammar text 0 []
 scanned_none grammar text = record { within = omega arith; few = omega arith; goes_on = λ rest is. is; comes = λ left is. is }
@@ -63,7 +63,7 @@ asked_none grammar text asked = λ key reaches. inr (reaches.left, reaches.begin
 
 -- what the piece meets is reached
 pub meets_reached : (grammar : Grammar) (text : List ℕ) (offset : ℕ) (found : List Token) → IsScannedTo grammar text offset found → (key : ScanKey)
-    → Meets grammar (drop offset text) key → ReachesScan grammar text key
+    → MeetsState grammar (drop offset text) key → ReachesScan grammar text key
 meets_reached grammar text offset found is key meets = record { left = drop offset text; begins = is.comes (drop offset text) here; meets = meets }
 
 module _ (grammar : Grammar) (text : List ℕ) (offset : ℕ) (found : List Token) (is : IsScannedTo grammar text offset found) where
@@ -126,14 +126,14 @@ module _ (grammar : Grammar) (text : List ℕ) (offset : ℕ) (found : List Toke
 
 module _ (grammar : Grammar) (text : List ℕ) (offset : ℕ) (found : List Token) (asked more_asked : List ScanKey) (whole : IsAskedTo grammar text asked
     (room_after found) (drop offset text))
-    (kept : (key : ScanKey) → Contains asked key → Contains more_asked key) (met : (key : ScanKey) → Meets grammar (drop offset text) key
+    (kept : (key : ScanKey) → Contains asked key → Contains more_asked key) (met : (key : ScanKey) → MeetsState grammar (drop offset text) key
     → Contains more_asked key) where
   -- the rest of the scan comes no further
   asked_here : ((left : List ℕ) → ComesTo grammar (room_after found) (drop offset text) left → left ≡ drop offset text) → (key : ScanKey)
       → ReachesScan grammar text key → Contains more_asked key
   asked_here only key reaches = elim (whole key reaches) [
     | inl has ↦ kept key has
-    | inr ahead ↦ met key (subst (λ left. Meets grammar left key) (only ahead.0 ahead.1) ahead.2)
+    | inr ahead ↦ met key (subst (λ left. MeetsState grammar left key) (only ahead.0 ahead.1) ahead.2)
   ]
 
   pub asked_stop : ((piece rest : List ℕ) → drop offset text ≡ piece ++ rest → IsMatched grammar piece → ⊥) → (key : ScanKey)
@@ -146,7 +146,7 @@ module _ (grammar : Grammar) (text : List ℕ) (offset : ℕ) (found : List Toke
   asked_past room rest further = λ key reaches. elim (whole key reaches) [
     | inl has ↦ inl (kept key has)
     | inr ahead ↦ elim (further ahead.0 ahead.1) [
-      | inl same ↦ inl (met key (subst (λ left. Meets grammar left key) same ahead.2))
+      | inl same ↦ inl (met key (subst (λ left. MeetsState grammar left key) same ahead.2))
       | inr comes ↦ inr (ahead.0, comes, ahead.2)
     ]
   ]
@@ -174,7 +174,7 @@ module _ (grammar : Grammar) (text : List ℕ) (offset : ℕ) (found : List Toke
         (arith, all)) longest wins kind_is comes)
 
 -- nothing is met in no text
-none_met : (grammar : Grammar) (key : ScanKey) → Meets grammar [] key → ⊥
+none_met : (grammar : Grammar) (key : ScanKey) → MeetsState grammar [] key → ⊥
 none_met grammar Start meets = absurd (omega (arith, meets))
 none_met grammar (Set marks) meets = absurd (omega (arith, ap length meets.begins, length-append meets.part meets.rest, meets.nonempty))
 
@@ -192,7 +192,7 @@ asked_all grammar text offset room asked whole past key reaches = elim (whole ke
         length-append piece rest,
         matched.some,
       )) comes in
-      absurd (none_met grammar key (subst (λ left. Meets grammar left key) same ahead.2))
+      absurd (none_met grammar key (subst (λ left. MeetsState grammar left key) same ahead.2))
 ]
 
 -- ---- the rest of a slice

@@ -8,12 +8,12 @@ use Rattle.edit_log.specs.declared.definitions.DefKind.TheVariants.{Token as tok
 use Rattle.edit_log.specs.declared.limits.TheConstants.{TOKEN_LIMIT}
 use Rattle.edit_log.specs.Tokens.{tokens, no_token, too_many, token_at, Tokenizes}
 use Rattle.isg_states.specs.declared.scan_key.ScanKey.{ScanKey}
-use Rattle.live_graph.specs.Meaning.{Meaning}
-use Rattle.isg_scan.specs.Reach.{Meets, ReachesScan}
-use Rattle.isg_scan.specs.Asked.{Stands, AsksOnly}
-use Rattle.isg_scan.specs.States.{Knows}
+use Rattle.live_graph.specs.Meaning.{GraphMeaning}
+use Rattle.isg_scan.specs.Reach.{MeetsState, ReachesScan}
+use Rattle.isg_scan.specs.Asked.{StandsButScans, AsksOnly}
+use Rattle.isg_scan.specs.States.{KnowsStates}
 use Rattle.isg_scan.specs.Taken.{IsTaken}
-use Rattle.isg_scan.specs.Walks.{IsBest, IsWalked}
+use Rattle.isg_scan.specs.Walks.{IsBest, IsPieceWalked}
 use Rattle.isg_scan.proofs.AskedKeys.{asks_none, asks_join, stands_same, stands_join}
 use Rattle.isg_scan.proofs.Pieces.{none_is, longest_is, size_is, size_some}
 use Rattle.isg_scan.proofs.ScannedTexts.{IsScannedTo, IsAskedTo, room_after, scanned_none, asked_none, meets_reached, scanned_stop, scanned_all}
@@ -21,26 +21,27 @@ use Rattle.isg_scan.proofs.ScannedTexts.{scanned_skip, scanned_token, scanned_fu
 use Rattle.isg_scan.proofs.ScannedTexts.{asked_all}
 
 -- so far the text was scanned, for which the graph was asked for states that the scan reaches alone
-pub record IsScanning {Base : Type 0} (old now : Meaning Base) (keys : List ScanKey) (accepted : List (Option DefKind)) (table text : List ℕ) (offset : ℕ)
+pub record IsScanning {Base : Type 0} (old now : GraphMeaning Base) (keys : List ScanKey) (accepted : List (Option DefKind)) (table text : List ℕ) (offset : ℕ)
     (found : List Token) (before after : ℕ) : Type 0 where
-  pub knows : Knows now.grammar now.scans.keys keys accepted table
+  pub knows : KnowsStates now.grammar now.scans.keys keys accepted table
   pub scanned : IsScannedTo old.grammar text offset found
   pub asked : IsAskedTo old.grammar text now.scans.keys (room_after found) (drop offset text)
   pub asks : AsksOnly (ReachesScan old.grammar text) old now before after
-  pub stands : Stands old now
+  pub stands : StandsButScans old now
   pub never_back : before ≤ after
 
 -- all states that the scan reaches were asked for, and no others
-abbrev pub AsksReached : {Base : Type 0} → (old new : Meaning Base) → List ℕ → Type 0
+abbrev pub AsksReached : {Base : Type 0} → (old new : GraphMeaning Base) → List ℕ → Type 0
 AsksReached old new text = (key : ScanKey) → Contains new.scans.keys key ↔ (Contains old.scans.keys key ⊎ ReachesScan old.grammar text key)
 
-module _ {Base : Type 0} (old : Meaning Base) (text : List ℕ) where
-  asks_reached : (new : Meaning Base) (before after : ℕ) → AsksOnly (ReachesScan old.grammar text) old new before after → ((key : ScanKey)
+module _ {Base : Type 0} (old : GraphMeaning Base) (text : List ℕ) where
+  asks_reached : (new : GraphMeaning Base) (before after : ℕ) → AsksOnly (ReachesScan old.grammar text) old new before after → ((key : ScanKey)
       → ReachesScan old.grammar text key → Contains new.scans.keys key)
       → AsksReached old new text
   asks_reached new before after asks whole = λ key. (asks.within key, λ either. elim either [ inl has ↦ asks.kept key has | inr reaches ↦ whole key reaches ])
 
-  pub scan_start : (keys : List ScanKey) (accepted : List (Option DefKind)) (table : List ℕ) (steps : ℕ) → Knows old.grammar old.scans.keys keys accepted table
+  pub scan_start : (keys : List ScanKey) (accepted : List (Option DefKind)) (table : List ℕ) (steps : ℕ)
+      → KnowsStates old.grammar old.scans.keys keys accepted table
       → IsScanning old old keys accepted table text 0 [] steps steps
   scan_start keys accepted table steps knows = record {
     knows = knows;
@@ -51,7 +52,8 @@ module _ {Base : Type 0} (old : Meaning Base) (text : List ℕ) where
     never_back = omega arith;
   }
 
-  module _ (now : Meaning Base) (keys : List ScanKey) (accepted : List (Option DefKind)) (table : List ℕ) (offset : ℕ) (found : List Token) (before between : ℕ)
+  module _ (now : GraphMeaning Base) (keys : List ScanKey) (accepted : List (Option DefKind)) (table : List ℕ) (offset : ℕ) (found : List Token)
+      (before between : ℕ)
       (scanning : IsScanning old now keys accepted table text offset found before between) where
     pub scan_ends : length text ≤ offset → Tokenizes old.grammar text (tokens found) × AsksReached old now text
     scan_ends past = (
@@ -59,21 +61,21 @@ module _ {Base : Type 0} (old : Meaning Base) (text : List ℕ) where
       asks_reached now before between scanning.asks (asked_all old.grammar text offset (room_after found) now.scans.keys scanning.asked past),
     )
 
-    module _ (new : Meaning Base) (after : ℕ) (best : Option (ℕ × DefKind)) (walked : IsWalked new.grammar new.scans.keys (drop offset text) best)
-        (asks : AsksOnly (Meets now.grammar (drop offset text)) now new between after) (stands : Stands now new) (on : between ≤ after) where
-      pub all_stands : Stands old new
+    module _ (new : GraphMeaning Base) (after : ℕ) (best : Option (ℕ × DefKind)) (walked : IsPieceWalked new.grammar new.scans.keys (drop offset text) best)
+        (asks : AsksOnly (MeetsState now.grammar (drop offset text)) now new between after) (stands : StandsButScans now new) (on : between ≤ after) where
+      pub all_stands : StandsButScans old new
       all_stands = stands_join old now new scanning.stands stands
 
       best_here : IsBest old.grammar (drop offset text) (length (drop offset text)) best
       best_here = subst (λ grammar. IsBest grammar (drop offset text) (length (drop offset text)) best) all_stands.grammar walked.best_is
 
-      met_here : (key : ScanKey) → Meets old.grammar (drop offset text) key → Contains new.scans.keys key
-      met_here key meets = walked.met_asked key (subst (λ grammar. Meets grammar (drop offset text) key) (sym all_stands.grammar) meets)
+      met_here : (key : ScanKey) → MeetsState old.grammar (drop offset text) key → Contains new.scans.keys key
+      met_here key meets = walked.met_asked key (subst (λ grammar. MeetsState grammar (drop offset text) key) (sym all_stands.grammar) meets)
 
       pub all_asks : AsksOnly (ReachesScan old.grammar text) old new before after
-      all_asks = asks_join (ReachesScan old.grammar text) (Meets now.grammar (drop offset text)) (ReachesScan old.grammar text) old now new before between
+      all_asks = asks_join (ReachesScan old.grammar text) (MeetsState now.grammar (drop offset text)) (ReachesScan old.grammar text) old now new before between
           after (λ key reaches. reaches)
-          (λ key meets. meets_reached old.grammar text offset found scanning.scanned key (subst (λ grammar. Meets grammar (drop offset text) key)
+          (λ key meets. meets_reached old.grammar text offset found scanning.scanned key (subst (λ grammar. MeetsState grammar (drop offset text) key)
           scanning.stands.grammar meets))
           scanning.asks asks
 
@@ -108,7 +110,8 @@ module _ {Base : Type 0} (old : Meaning Base) (text : List ℕ) where
                   symbol own all),
             )
 
-        module _ (others : List ScanKey) (kinds : List (Option DefKind)) (rows : List ℕ) (knows : Knows new.grammar new.scans.keys others kinds rows) where
+        module _ (others : List ScanKey) (kinds : List (Option DefKind)) (rows : List ℕ)
+            (knows : KnowsStates new.grammar new.scans.keys others kinds rows) where
           scan_on : (more : List Token) → IsScannedTo old.grammar text (offset + size) more
               → IsAskedTo old.grammar text new.scans.keys (room_after more) (drop (offset + size) text)
               → IsScanning old new others kinds rows text (offset + size) more before after

@@ -16,7 +16,8 @@ use Rattle.isg_states.specs.declared.mark.Mark.{Mark}
 use Rattle.isg_states.specs.declared.scan_key.ScanKey.{ScanKey}
 use Rattle.isg_states.specs.declared.scan_key.ScanKey.TheVariants.{Start, Set}
 use Rattle.isg_states.specs.Expansion.{Range, AreMarks, LeadsTo}
-use Rattle.isg_scan.specs.States.{IsAccepted, TellsEntry, IsTable, AreStates, Knows, KnowsNothingYet, KeepsNumbers, LeadsToState, IsFilled, IsLedRange, IsLed}
+use Rattle.forest.specs.Numbers.{KeepsNumbers}
+use Rattle.isg_scan.specs.States.{IsWinnerKind, TellsEntry, IsScanTable, AreStates, KnowsStates, KnowsNothingYet, LeadsToState, IsFilled, IsLedRange, IsLed}
 
 -- ---- lists
 
@@ -71,7 +72,7 @@ told_more grammar keys others asked more key byte entry keeps grows tells = reco
 
 -- more was asked for
 pub table_asked : (grammar : Grammar) (keys asked more : List ScanKey) (table : List ℕ) → ((k : ScanKey) → Contains asked k → Contains more k)
-    → IsTable grammar keys asked table → IsTable grammar keys more table
+    → IsScanTable grammar keys asked table → IsScanTable grammar keys more table
 table_asked grammar keys asked more table grows is = record {
   size = is.size;
   tells = λ number byte entry key at small there. told_more grammar keys keys asked more key byte entry (λ n k here. here) grows (is.tells number byte
@@ -79,8 +80,8 @@ table_asked grammar keys asked more table grows is = record {
 }
 
 -- a row more, of a state of which nothing is known
-pub table_row : (grammar : Grammar) (keys asked : List ScanKey) (key : ScanKey) (table : List ℕ) → IsTable grammar keys asked table
-    → IsTable grammar (keys ++ key ∷ []) asked (table ++ replicate 256 0)
+pub table_row : (grammar : Grammar) (keys asked : List ScanKey) (key : ScanKey) (table : List ℕ) → IsScanTable grammar keys asked table
+    → IsScanTable grammar (keys ++ key ∷ []) asked (table ++ replicate 256 0)
 table_row grammar keys asked key table is = record {
   size = omega (arith, length-append table (replicate 256 0), length-append keys (key ∷ []), is.size, length-replicate {A = ℕ} 256 0);
   tells = λ number byte entry other at small there. elim (slice_get_parts table (replicate 256 0) (256 * number + byte) entry there) [
@@ -95,9 +96,9 @@ table_row grammar keys asked key table is = record {
 }
 
 pub table_filled : (grammar : Grammar) (keys asked : List ScanKey) (old new : List ℕ) (state low high entry : ℕ) (key : ScanKey)
-    → IsTable grammar keys asked old → slice_get keys state ≡ Some key → high < 256
+    → IsScanTable grammar keys asked old → slice_get keys state ≡ Some key → high < 256
     → IsFilled old new (256 * state + low) (256 * state + high) entry → ((byte : ℕ) → low ≤ byte → byte ≤ high
-    → TellsEntry grammar keys asked key byte entry) → IsTable grammar keys asked new
+    → TellsEntry grammar keys asked key byte entry) → IsScanTable grammar keys asked new
 table_filled grammar keys asked old new state low high entry key is own small filled told = record {
   size = filled.size ∙ is.size;
   tells = λ number byte found other at less there. elim (cases_lt byte low) [
@@ -156,7 +157,7 @@ table_filled grammar keys asked old new state low high entry key is own small fi
 -- ---- states
 
 pub state_more : (grammar : Grammar) (keys : List ScanKey) (accepted : List (Option DefKind)) (key : ScanKey) (kind : Option DefKind)
-    → AreStates grammar keys accepted → AreMarks grammar key → IsAccepted grammar key kind
+    → AreStates grammar keys accepted → AreMarks grammar key → IsWinnerKind grammar key kind
     → AreStates grammar (keys ++ key ∷ []) (accepted ++ kind ∷ [])
 state_more grammar keys accepted key kind are marks accepts = record {
   start = slice_get-append keys (key ∷ []) 0 Start are.start;
@@ -169,7 +170,7 @@ state_more grammar keys accepted key kind are marks accepts = record {
     ]
     | inr last ↦ elim (slice_get_last accepted kind its number there) [
       | inl own ↦ absurd (omega (arith, slice_get_within accepted number its own, last.0, are.size))
-      | inr last' ↦ subst (λ k. IsAccepted grammar k its) last.1 (subst (IsAccepted grammar key) last'.1 accepts)
+      | inr last' ↦ subst (λ k. IsWinnerKind grammar k its) last.1 (subst (IsWinnerKind grammar key) last'.1 accepts)
     ]
   ];
 }
@@ -185,7 +186,7 @@ knows_start grammar asked = record {
         let first : number ≡ 0 = omega (arith, slice_get_within (Start ∷ []) number key at) in
         let key_is : Start ≡ key = same_Some Start key (subst (λ n. slice_get (Start ∷ []) n ≡ Some key) first at) in
         let kind_is : None ≡ kind = same_Some None kind (subst (λ n. slice_get (None ∷ []) n ≡ Some kind) first there) in
-        subst (λ k. IsAccepted grammar k kind) key_is (subst (IsAccepted grammar Start) kind_is (λ definition ends. ends));
+        subst (λ k. IsWinnerKind grammar k kind) key_is (subst (IsWinnerKind grammar Start) kind_is (λ definition ends. ends));
   };
   entries = record {
     size = length-replicate {A = ℕ} 256 0;
@@ -226,9 +227,9 @@ module _ (grammar : Grammar) (keys asked more : List ScanKey) (accepted : List (
     slice_get keys state ≡ Some key) (known : Contains more key)
     (grows : (k : ScanKey) → Contains asked k → Contains more k) where
   -- the byte leads nowhere
-  pub learned_none : Knows grammar asked keys accepted old → byte < 256 → ((mark : Mark) → LeadsTo grammar key byte mark → ⊥)
+  pub learned_none : KnowsStates grammar asked keys accepted old → byte < 256 → ((mark : Mark) → LeadsTo grammar key byte mark → ⊥)
       → IsFilled old new (256 * state + byte) (256 * state + byte) 1
-      → Knows grammar more keys accepted new
+      → KnowsStates grammar more keys accepted new
   learned_none knows small nowhere filled = record {
     states = knows.states;
     entries = table_filled grammar keys more old new state byte byte 1 key (table_asked grammar keys asked more old grows knows.entries) own small filled
@@ -240,11 +241,11 @@ module _ (grammar : Grammar) (keys asked more : List ScanKey) (accepted : List (
   }
 
   -- the bytes of a range lead to a state
-  pub learned_set : (range : Range) (others : List ScanKey) (kinds : List (Option DefKind)) (rows : List ℕ) (entry : ℕ) → IsTable grammar keys asked old
+  pub learned_set : (range : Range) (others : List ScanKey) (kinds : List (Option DefKind)) (rows : List ℕ) (entry : ℕ) → IsScanTable grammar keys asked old
       → KeepsNumbers keys others
-      → ((seen : List ScanKey) → IsTable grammar keys seen old → Knows grammar seen others kinds rows) → LeadsToState others range.2 entry
+      → ((seen : List ScanKey) → IsScanTable grammar keys seen old → KnowsStates grammar seen others kinds rows) → LeadsToState others range.2 entry
       → IsLedRange grammar key byte range
-      → IsFilled rows new (256 * state + range.0) (256 * state + range.1) entry → Knows grammar more others kinds new
+      → IsFilled rows new (256 * state + range.0) (256 * state + range.1) entry → KnowsStates grammar more others kinds new
   learned_set range others kinds rows entry is keeps knows to led filled =
       let after = knows more (table_asked grammar keys asked more old grows is) in
       record {

@@ -17,7 +17,7 @@ use Rattle.isg_states.specs.Expansion.{LeadsTo}
 use Rattle.isg_states.proofs.PositionsAfter.{from_first, to_first, from_longer, to_longer, from_match, from_accepts}
 use Rattle.isg_states.proofs.MarkLists.{relist, list_none, contains_none}
 use Rattle.isg_states.proofs.OneExpansion.{one_list}
-use Rattle.isg_scan.specs.States.{LeadsToSet, IsAccepted}
+use Rattle.isg_scan.specs.States.{LeadsToSet, IsWinnerKind}
 use Rattle.isg_scan.specs.Walks.{IsStateAfter}
 
 -- ---- bytes
@@ -87,13 +87,13 @@ dead_state grammar part (mark ∷ marks) state dead = dead mark ((state.1.member
 -- ---- what the state accepts
 
 pub accepted_none : (grammar : Grammar) (part : List ℕ) (marks : List Mark) → AreBytes part → IsStateAfter grammar part (Set marks)
-    → IsAccepted grammar (Set marks) None → IsMatched grammar part → ⊥
+    → IsWinnerKind grammar (Set marks) None → IsMatched grammar part → ⊥
 accepted_none grammar part marks small is none matched =
     let mark = from_match grammar part matched.definition matched.some small matched.live matched.matches in
     none matched.definition (mark.0, (is.1.members mark.0).1 mark.2, mark.1, mark.3)
 
 pub accepted_some : (grammar : Grammar) (part : List ℕ) (marks : List Mark) (kind : DefKind) → AreBytes part → IsStateAfter grammar part (Set marks)
-    → IsAccepted grammar (Set marks) (Some kind)
+    → IsWinnerKind grammar (Set marks) (Some kind)
     → (winner : DefId) × IsMatched grammar part × IsWinner grammar part winner × (kind_of grammar winner ≡ Some kind)
 accepted_some grammar part marks kind small is some =
     let wins = from_accepts grammar part marks is.0 small is.1 some.0 some.1 in

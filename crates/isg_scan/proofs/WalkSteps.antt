@@ -16,9 +16,10 @@ use Rattle.isg_states.specs.declared.scan_key.ScanKey.TheVariants.{Start, Set}
 use Rattle.isg_states.specs.After.{IsAfter}
 use Rattle.grammar_text.specs.Pieces.{AreBytes}
 use Rattle.isg_states.specs.Expansion.{LeadsTo}
-use Rattle.isg_scan.specs.Reach.{Meets}
-use Rattle.isg_scan.specs.States.{LeadsToSet, IsAccepted, KeepsNumbers}
-use Rattle.isg_scan.specs.Walks.{IsStateAfter, NoneMatched, IsBest, best_with, IsWalk, IsWalked}
+use Rattle.isg_scan.specs.Reach.{MeetsState}
+use Rattle.forest.specs.Numbers.{KeepsNumbers}
+use Rattle.isg_scan.specs.States.{LeadsToSet, IsWinnerKind}
+use Rattle.isg_scan.specs.Walks.{IsStateAfter, NoneMatched, IsBest, best_with, IsPieceWalk, IsPieceWalked}
 use Rattle.isg_scan.proofs.StatesAfter.{taken_bytes, leads_after, next_state, one_state, IsDead, dead_more, dead_unmatched, dead_state, accepted_none}
 use Rattle.isg_scan.proofs.StatesAfter.{accepted_some}
 
@@ -84,7 +85,7 @@ best_all grammar text at (Some piece) within is others = (omega (arith, is.0, wi
 -- ---- steps of a walk
 
 module _ (grammar : Grammar) (asked keys : List ScanKey) (text : List ℕ) where
-  pub walk_start : slice_get keys 0 ≡ Some Start → IsWalk grammar asked keys text 0 0 None
+  pub walk_start : slice_get keys 0 ≡ Some Start → IsPieceWalk grammar asked keys text 0 0 None
   walk_start start = record {
     within = omega arith;
     key = Start;
@@ -94,9 +95,9 @@ module _ (grammar : Grammar) (asked keys : List ScanKey) (text : List ℕ) where
     left_asked = λ size other less. absurd (omega (arith, less));
   }
 
-  module _ (small : AreBytes text) (at state : ℕ) (best : Option (ℕ × DefKind)) (walk : IsWalk grammar asked keys text at state best) where
+  module _ (small : AreBytes text) (at state : ℕ) (best : Option (ℕ × DefKind)) (walk : IsPieceWalk grammar asked keys text at state best) where
     accepted_best : (marks : List Mark) (accepted : Option DefKind) → at + 1 ≤ length text → IsStateAfter grammar (take (at + 1) text) (Set marks)
-        → IsAccepted grammar (Set marks) accepted
+        → IsWinnerKind grammar (Set marks) accepted
         → IsBest grammar text (at + 1) (best_with best (at + 1) accepted)
     accepted_best marks None within is none = best_same grammar text at best walk.best_is (accepted_none grammar (take (at + 1) text) marks (taken_bytes
         (at + 1) text small) is none)
@@ -116,7 +117,8 @@ module _ (grammar : Grammar) (asked keys : List ScanKey) (text : List ℕ) where
 
     pub walk_more : (byte number : ℕ) (marks : List Mark) (accepted : Option DefKind) → slice_get text at ≡ Some byte
         → slice_get keys number ≡ Some (Set marks) → LeadsToSet grammar walk.key byte marks
-        → Contains asked walk.key → IsAccepted grammar (Set marks) accepted → IsWalk grammar asked keys text (at + 1) number (best_with best (at + 1) accepted)
+        → Contains asked walk.key → IsWinnerKind grammar (Set marks) accepted → IsPieceWalk grammar asked keys text (at + 1) number (best_with best
+            (at + 1) accepted)
     walk_more byte number marks accepted here there leads known is =
         let within : at < length text = slice_get_within text at byte here in
         let next : IsStateAfter grammar (take (at + 1) text) (Set marks) =
@@ -135,7 +137,7 @@ module _ (grammar : Grammar) (asked keys : List ScanKey) (text : List ℕ) where
     met_from_left : (last : ℕ) → ((size : ℕ) (other : ScanKey) → size < last → IsStateAfter grammar (take size text) other → Contains asked other)
         → ((part rest : List ℕ) (marks : List Mark) → text ≡ part ++ rest → 0 < length rest → IsStateAfter grammar part (Set marks) → length part < last)
         → (0 < length text → 0 < last)
-        → (key : ScanKey) → Meets grammar text key → Contains asked key
+        → (key : ScanKey) → MeetsState grammar text key → Contains asked key
     met_from_left last left short some Start meets = left 0 Start (some meets) refl
     met_from_left last left short some (Set marks) meets =
         let state : IsStateAfter grammar meets.part (Set marks) = (meets.nonempty, meets.positions, meets.some) in
@@ -143,7 +145,7 @@ module _ (grammar : Grammar) (asked keys : List ScanKey) (text : List ℕ) where
         (subst (λ part. IsStateAfter grammar part (Set marks)) (sym (take_part text meets.part meets.rest meets.begins)) state)
 
     -- the text has ended
-    pub walk_ends : at ≡ length text → IsWalked grammar asked text best
+    pub walk_ends : at ≡ length text → IsPieceWalked grammar asked text best
     walk_ends ended = record {
       best_is = subst (λ n. IsBest grammar text n best) ended walk.best_is;
       met_asked = met_from_left at walk.left_asked
@@ -166,7 +168,7 @@ module _ (grammar : Grammar) (asked keys : List ScanKey) (text : List ℕ) where
 
     -- the byte leads nowhere
     pub walk_stops : (byte : ℕ) → slice_get text at ≡ Some byte → ((mark : Mark) → LeadsTo grammar walk.key byte mark → ⊥) → Contains asked walk.key
-        → IsWalked grammar asked text best
+        → IsPieceWalked grammar asked text best
     walk_stops byte here nowhere known = record {
       best_is = best_all grammar text at best walk.within walk.best_is
           (λ size above upto. dead_unmatched grammar (take size text) (taken_bytes size text small) (dead_longer byte here nowhere size above upto));
@@ -185,7 +187,7 @@ module _ (grammar : Grammar) (asked keys : List ScanKey) (text : List ℕ) where
 -- more was asked for, and more states have numbers
 pub walk_asked : (grammar : Grammar) (asked more keys others : List ScanKey) (text : List ℕ) (at state : ℕ) (best : Option (ℕ × DefKind))
     → ((key : ScanKey) → Contains asked key → Contains more key)
-    → KeepsNumbers keys others → IsWalk grammar asked keys text at state best → IsWalk grammar more others text at state best
+    → KeepsNumbers keys others → IsPieceWalk grammar asked keys text at state best → IsPieceWalk grammar more others text at state best
 walk_asked grammar asked more keys others text at state best grows keeps walk = record {
   within = walk.within;
   key = walk.key;
@@ -197,7 +199,7 @@ walk_asked grammar asked more keys others text at state best grows keeps walk = 
 
 -- the state is met where a byte follows
 pub state_met : (grammar : Grammar) (text : List ℕ) (at : ℕ) (key : ScanKey) → at < length text → IsStateAfter grammar (take at text) key
-    → Meets grammar text key
+    → MeetsState grammar text key
 state_met grammar text at Start within after = omega (arith, within)
 state_met grammar text at (Set marks) within after = record {
   part = take at text;

@@ -6,14 +6,14 @@ use Rattle.isg_scan.specs.declared.scan_error.ScanError.{ScanError}
 use Rattle.isg_scan.specs.declared.scan_error.ScanError.TheVariants.{NoToken, TooManyTokens, NoMemory}
 
 -- how the scan of the text ends, where it is refused
-abbrev pub EndsWith : Grammar → List ℕ → ScanError → Type 0
-EndsWith grammar text (NoToken offset) = Tokenizes grammar text (no_token offset)
-EndsWith grammar text (TooManyTokens offset) = Tokenizes grammar text (too_many offset)
-EndsWith grammar text NoMemory = Unit {0}
+abbrev pub IsScanEnd : Grammar → List ℕ → ScanError → Type 0
+IsScanEnd grammar text (NoToken offset) = Tokenizes grammar text (no_token offset)
+IsScanEnd grammar text (TooManyTokens offset) = Tokenizes grammar text (too_many offset)
+IsScanEnd grammar text NoMemory = Unit {0}
 
 -- P holds, unless memory ran out
-abbrev pub UnlessNoMemory : {X : Type 0} → Result X ScanError → Type 0 → Type 0
-UnlessNoMemory (Ok tokens) P = P
-UnlessNoMemory (Err (NoToken offset)) P = P
-UnlessNoMemory (Err (TooManyTokens offset)) P = P
-UnlessNoMemory (Err NoMemory) P = Unit {0}
+abbrev pub UnlessScanNoMemory : {X : Type 0} → Result X ScanError → Type 0 → Type 0
+UnlessScanNoMemory (Ok tokens) P = P
+UnlessScanNoMemory (Err (NoToken offset)) P = P
+UnlessScanNoMemory (Err (TooManyTokens offset)) P = P
+UnlessScanNoMemory (Err NoMemory) P = Unit {0}

@@ -23,8 +23,8 @@ pub data ComesTo (grammar : Grammar) : (room : ℕ) → (text left : List ℕ) �
       → kind_of grammar winner ≡ Some (token_of kind) → ComesTo grammar room rest left → ComesTo grammar (room + 1) text left
 
 -- the scan of the text comes to the offset where this much of it is left
-abbrev pub Begins : Grammar → (text left : List ℕ) → Type 0
-Begins grammar text left = ComesTo grammar TOKEN_LIMIT text left
+abbrev pub BeginsPiece : Grammar → (text left : List ℕ) → Type 0
+BeginsPiece grammar text left = ComesTo grammar TOKEN_LIMIT text left
 
 -- the text begins with a part that is not empty and that a byte follows, and these are the positions after the part, of which there are some
 pub record IsMetSet (grammar : Grammar) (text : List ℕ) (marks : List Mark) : Type 0 where
@@ -37,12 +37,12 @@ pub record IsMetSet (grammar : Grammar) (text : List ℕ) (marks : List Mark) : 
   pub some : 0 < length marks
 
 -- the states in which a byte of the text is read where a piece begins with the text
-abbrev pub Meets : Grammar → List ℕ → ScanKey → Type 0
-Meets grammar text Start = 0 < length text
-Meets grammar text (Set marks) = IsMetSet grammar text marks
+abbrev pub MeetsState : Grammar → List ℕ → ScanKey → Type 0
+MeetsState grammar text Start = 0 < length text
+MeetsState grammar text (Set marks) = IsMetSet grammar text marks
 
 -- the states that a scan of the text asks for
 pub record ReachesScan (grammar : Grammar) (text : List ℕ) (key : ScanKey) : Type 0 where
   pub left : List ℕ
-  pub begins : Begins grammar text left
-  pub meets : Meets grammar left key
+  pub begins : BeginsPiece grammar text left
+  pub meets : MeetsState grammar left key

@@ -12,8 +12,8 @@ use Rattle.isg_states.specs.Expansion.{Range, AreMarks, LeadsTo}
 use Rattle.isg_states.specs.Winners.{HasLast, Accepts}
 
 -- what a piece that ends in the state is: what its winner is, or nothing where no definition matches it
-abbrev pub IsAccepted : Grammar → ScanKey → Option DefKind → Type 0
-IsAccepted grammar key accepted = MatchOption accepted ((definition : DefId) → HasLast grammar key definition → ⊥)
+abbrev pub IsWinnerKind : Grammar → ScanKey → Option DefKind → Type 0
+IsWinnerKind grammar key accepted = MatchOption accepted ((definition : DefId) → HasLast grammar key definition → ⊥)
     (λ kind. (winner : DefId) × Accepts grammar key winner × (kind_of grammar winner ≡ Some kind))
 
 -- the byte leads from the state to exactly these marks, of which there are some
@@ -29,7 +29,7 @@ pub record TellsEntry (grammar : Grammar) (keys asked : List ScanKey) (key : Sca
   pub known : 0 < entry → Contains asked key
 
 -- the table has 256 entries for each state, and they tell where the bytes lead
-pub record IsTable (grammar : Grammar) (keys asked : List ScanKey) (table : List ℕ) : Type 0 where
+pub record IsScanTable (grammar : Grammar) (keys asked : List ScanKey) (table : List ℕ) : Type 0 where
   pub size : length table ≡ 256 * length keys
   pub tells : (number byte entry : ℕ) (key : ScanKey) → slice_get keys number ≡ Some key → byte < 256 → slice_get table (256 * number + byte) ≡ Some entry
       → TellsEntry grammar keys asked key byte entry
@@ -40,20 +40,16 @@ pub record AreStates (grammar : Grammar) (keys : List ScanKey) (accepted : List 
   pub marks : (key : ScanKey) → Contains keys key → AreMarks grammar key
   pub size : length accepted ≡ length keys
   pub accepts : (number : ℕ) (key : ScanKey) (kind : Option DefKind) → slice_get keys number ≡ Some key → slice_get accepted number ≡ Some kind
-      → IsAccepted grammar key kind
+      → IsWinnerKind grammar key kind
 
 -- the states with what they accept and where their bytes lead, by what the graph was asked for
-pub record Knows (grammar : Grammar) (asked keys : List ScanKey) (accepted : List (Option DefKind)) (table : List ℕ) : Type 0 where
+pub record KnowsStates (grammar : Grammar) (asked keys : List ScanKey) (accepted : List (Option DefKind)) (table : List ℕ) : Type 0 where
   pub states : AreStates grammar keys accepted
-  pub entries : IsTable grammar keys asked table
+  pub entries : IsScanTable grammar keys asked table
 
 -- this much is known before anything was asked, whatever the grammar is
 abbrev pub KnowsNothingYet : (keys : List ScanKey) → List (Option DefKind) → List ℕ → Type 0
-KnowsNothingYet keys accepted table = (grammar : Grammar) (asked : List ScanKey) → Knows grammar asked keys accepted table
-
--- each state keeps its number
-abbrev pub KeepsNumbers : List ScanKey → List ScanKey → Type 0
-KeepsNumbers old new = (number : ℕ) (key : ScanKey) → slice_get old number ≡ Some key → slice_get new number ≡ Some key
+KnowsNothingYet keys accepted table = (grammar : Grammar) (asked : List ScanKey) → KnowsStates grammar asked keys accepted table
 
 -- the entry leads to the state
 abbrev pub LeadsToState : List ScanKey → ScanKey → ℕ → Type 0
@@ -66,14 +62,14 @@ pub record IsFilled (old new : List ℕ) (from to entry : ℕ) : Type 0 where
   pub left : (place : ℕ) → (from ≤ place → place ≤ to → ⊥) → slice_get new place ≡ slice_get old place
 
 -- the byte is one of those of the range
-abbrev pub HasByte : Range → ℕ → Type 0
-HasByte range byte = (range.0 ≤ byte) × (byte ≤ range.1)
+abbrev pub IsInRange : Range → ℕ → Type 0
+IsInRange range byte = (range.0 ≤ byte) × (byte ≤ range.1)
 
 -- the byte is one of those from the first number to the second, and all of them lead to the marks of the key
 pub record IsLedRange (grammar : Grammar) (key : ScanKey) (byte : ℕ) (range : Range) : Type 0 where
   pub marks : List Mark
   pub is : range.2 ≡ Set marks
-  pub has_byte : HasByte range byte
+  pub has_byte : IsInRange range byte
   pub bytes : range.1 < 256
   pub leads : (other : ℕ) → range.0 ≤ other → other ≤ range.1 → LeadsToSet grammar key other marks
   pub target : AreMarks grammar range.2

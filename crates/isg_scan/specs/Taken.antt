@@ -15,7 +15,7 @@ IsTaken skip from to old new = new ≡ old
 IsTaken (token_of kind) from to old new = (length old < TOKEN_LIMIT) × (new ≡ old ++ token_at kind from to ∷ [])
 
 -- why it was not taken: it would be a token too many
-abbrev pub IsOneTooMany : DefKind → (from : ℕ) → List Token → ScanError → Type 0
-IsOneTooMany kind from old (NoToken offset) = ⊥
-IsOneTooMany kind from old (TooManyTokens offset) = (symbol : SymbolId) × (kind ≡ token_of symbol) × (length old ≡ TOKEN_LIMIT) × (offset ≡ from)
-IsOneTooMany kind from old NoMemory = Unit {0}
+abbrev pub IsTokenTooMany : DefKind → (from : ℕ) → List Token → ScanError → Type 0
+IsTokenTooMany kind from old (NoToken offset) = ⊥
+IsTokenTooMany kind from old (TooManyTokens offset) = (symbol : SymbolId) × (kind ≡ token_of symbol) × (length old ≡ TOKEN_LIMIT) × (offset ≡ from)
+IsTokenTooMany kind from old NoMemory = Unit {0}

@@ -9,7 +9,7 @@ use Rattle.isg_states.specs.declared.scan_key.ScanKey.{ScanKey}
 use Rattle.isg_states.specs.declared.scan_key.ScanKey.TheVariants.{Start, Set}
 use Rattle.isg_states.specs.Marks.{ListsMarks}
 use Rattle.isg_states.specs.After.{IsAfter}
-use Rattle.isg_scan.specs.Reach.{Meets}
+use Rattle.isg_scan.specs.Reach.{MeetsState}
 
 -- the state after a part of a text: the start after none of it, and otherwise the positions after it, of which there are some
 abbrev pub IsStateAfter : Grammar → List ℕ → ScanKey → Type 0
@@ -39,7 +39,7 @@ best_with best at None = best
 best_with best at (Some kind) = Some (at, kind)
 
 -- so many bytes were read, which led to the state with this number, and the best piece among them is known; in each state that was left a byte was read
-pub record IsWalk (grammar : Grammar) (asked keys : List ScanKey) (text : List ℕ) (at state : ℕ) (best : Option (ℕ × DefKind)) : Type 0 where
+pub record IsPieceWalk (grammar : Grammar) (asked keys : List ScanKey) (text : List ℕ) (at state : ℕ) (best : Option (ℕ × DefKind)) : Type 0 where
   pub within : at ≤ length text
   pub key : ScanKey
   pub number : slice_get keys state ≡ Some key
@@ -48,6 +48,6 @@ pub record IsWalk (grammar : Grammar) (asked keys : List ScanKey) (text : List �
   pub left_asked : (size : ℕ) (other : ScanKey) → size < at → IsStateAfter grammar (take size text) other → Contains asked other
 
 -- the text was read as far as any definition goes on: the best piece is known, and all states in which a byte is read were asked for
-pub record IsWalked (grammar : Grammar) (asked : List ScanKey) (text : List ℕ) (best : Option (ℕ × DefKind)) : Type 0 where
+pub record IsPieceWalked (grammar : Grammar) (asked : List ScanKey) (text : List ℕ) (best : Option (ℕ × DefKind)) : Type 0 where
   pub best_is : IsBest grammar text (length text) best
-  pub met_asked : (key : ScanKey) → Meets grammar text key → Contains asked key
+  pub met_asked : (key : ScanKey) → MeetsState grammar text key → Contains asked key

@@ -4,8 +4,8 @@ ghost use Rattle.std.specs.Prelude.{◌≡◌, ◌≤◌, ◌<◌, ℕ, IfOk, On
 ghost use Rattle.isg_states.specs.declared.scan_key.ScanKey.{ScanKey};
 ghost use Rattle.isg_states.specs.Expansion.{Range, AreMarks};
 ghost use Rattle.live_graph.specs.Asking.{AsksScan};
-ghost use Rattle.isg_scan.specs.Asked.{Stands};
-ghost use Rattle.isg_scan.specs.States.{HasByte, IsLed};
+ghost use Rattle.isg_scan.specs.Asked.{StandsButScans};
+ghost use Rattle.isg_scan.specs.States.{IsInRange, IsLed};
 
 use isg_states::ScanKey;
 use live_graph::{Graph, NoMemory};
@@ -17,8 +17,8 @@ pub(crate) type Led = (u8, u8, ScanKey);
 
 /// The range that has the byte.
 fn range_of(ranges: &[Led], byte: u8) -> Option<&Led>
-    ensures { MatchOption result ((range : Range) → Contains ranges.now range → HasByte range byte → ⊥)
-        (λ found. Contains ranges.now found.now × HasByte found.now byte) }
+    ensures { MatchOption result ((range : Range) → Contains ranges.now range → IsInRange range byte → ⊥)
+        (λ found. Contains ranges.now found.now × IsInRange found.now byte) }
 {
     for range in ranges {
         if range.0 <= byte && byte <= range.1 {
@@ -38,7 +38,7 @@ pub(crate) fn led<G: Graph, L: Ledger>(
     requires { AreMarks (G.means graph.old).grammar key.now }
     ensures led { IfOk result (IsLed (G.means graph.old).grammar key.now byte) }
     ensures asks { OnOk result (AsksScan (G.means graph.old) key.now (G.means graph.new) steps.old steps.new) }
-    ensures stands { Stands (G.means graph.old) (G.means graph.new) }
+    ensures stands { StandsButScans (G.means graph.old) (G.means graph.new) }
     ensures never_back { steps.old ≤ steps.new }
 {
     let expansion = graph.scan(key, steps)?;

@@ -5,8 +5,8 @@ ghost use Rattle.edit_log.specs.Tokens.{Tokenizes, tokens};
 ghost use Rattle.isg_states.specs.declared.scan_key.ScanKey.{ScanKey};
 ghost use Rattle.live_graph.specs.Cost.{RisesAsCost};
 ghost use Rattle.isg_scan.specs.Reach.{ReachesScan};
-ghost use Rattle.isg_scan.specs.Answers.{EndsWith, UnlessNoMemory};
-ghost use Rattle.isg_scan.specs.Taken.{IsTaken, IsOneTooMany};
+ghost use Rattle.isg_scan.specs.Answers.{IsScanEnd, UnlessScanNoMemory};
+ghost use Rattle.isg_scan.specs.Taken.{IsTaken, IsTokenTooMany};
 
 use crate::scan_error::ScanError;
 use crate::states::States;
@@ -32,7 +32,7 @@ fn take_piece(
     requires order { from ≤ to }
     requires small { to < 2 ^ 32 }
     ensures taken { OnOk result (IsTaken kind from to tokens.old.items tokens.new.items) }
-    ensures refused { IfErr result (IsOneTooMany kind from tokens.old.items) }
+    ensures refused { IfErr result (IsTokenTooMany kind from tokens.old.items) }
 {
     let DefKind::Token(kind) = kind else {
         return Ok(());
@@ -62,13 +62,13 @@ pub fn scan<G: Graph, L: Ledger>(
 ) -> Result<Vec<Token>, ScanError>
     requires { length text.now ≤ SCAN_LIMIT }
     ensures tokens { IfOk result (λ found. Tokenizes (G.means graph.old).grammar text.now (tokens found.items)) }
-    ensures refused { IfErr result (EndsWith (G.means graph.old).grammar text.now) }
+    ensures refused { IfErr result (IsScanEnd (G.means graph.old).grammar text.now) }
     ensures grammar { (G.means graph.new).grammar ≡ (G.means graph.old).grammar }
     ensures base { (G.means graph.new).base ≡ (G.means graph.old).base }
     ensures kernels { (G.means graph.new).kernels ≡ (G.means graph.old).kernels }
-    ensures asked { UnlessNoMemory result ((key : ScanKey) → Contains (G.means graph.new).scans.keys key
+    ensures asked { UnlessScanNoMemory result ((key : ScanKey) → Contains (G.means graph.new).scans.keys key
         ↔ (Contains (G.means graph.old).scans.keys key ⊎ ReachesScan (G.means graph.old).grammar text.now key)) }
-    ensures steps { UnlessNoMemory result (RisesAsCost (G.means graph.old) (G.means graph.new) steps.old steps.new) }
+    ensures steps { UnlessScanNoMemory result (RisesAsCost (G.means graph.old) (G.means graph.new) steps.old steps.new) }
     ensures never_back { steps.old ≤ steps.new }
 {
     let mut states = States::new(alloc)?;

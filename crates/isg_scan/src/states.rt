@@ -4,9 +4,10 @@ ghost use Rattle.std.specs.Prelude.{◌≡◌, ◌≤◌, ◌<◌, ◌+◌, ◌*
 ghost use Rattle.isg_states.specs.declared.scan_key.ScanKey.{ScanKey};
 ghost use Rattle.isg_states.specs.Expansion.{AreMarks};
 ghost use Rattle.live_graph.specs.Asking.{AsksScan};
-ghost use Rattle.isg_scan.specs.Asked.{Stands, AsksOnly};
+ghost use Rattle.isg_scan.specs.Asked.{StandsButScans, AsksOnly};
 ghost use Rattle.isg_scan.specs.Knowing.{KnowsOf};
-ghost use Rattle.isg_scan.specs.States.{IsAccepted, IsTable, AreStates, KnowsNothingYet, Knows, KeepsNumbers, LeadsToState, IsFilled};
+ghost use Rattle.forest.specs.Numbers.{KeepsNumbers};
+ghost use Rattle.isg_scan.specs.States.{IsWinnerKind, IsScanTable, AreStates, KnowsNothingYet, KnowsStates, LeadsToState, IsFilled};
 
 use crate::leading::led;
 use edit_log::{DefKind, Grammar};
@@ -39,7 +40,7 @@ pub(crate) struct States {
 /// What a piece is that ends in the state.
 fn accepted_by(grammar: &Grammar, key: &ScanKey) -> Option<DefKind>
     requires { AreMarks grammar.now.grammar key.now }
-    ensures { IsAccepted grammar.now.grammar key.now result }
+    ensures { IsWinnerKind grammar.now.grammar key.now result }
 {
     match accepts(grammar, key) {
         Some(winner) => grammar.kind(winner),
@@ -93,8 +94,8 @@ impl States {
         requires marks { AreMarks grammar.now.grammar key }
         ensures entry { IfOk result (λ entry. LeadsToState self.new.keys.keys key entry) }
         ensures keeps { OnOk result (KeepsNumbers self.old.keys.keys self.new.keys.keys) }
-        ensures knows { OnOk result ((asked : List ScanKey) → IsTable grammar.now.grammar self.old.keys.keys asked self.old.table.items
-            → Knows grammar.now.grammar asked self.new.keys.keys self.new.accepted.items self.new.table.items) }
+        ensures knows { OnOk result ((asked : List ScanKey) → IsScanTable grammar.now.grammar self.old.keys.keys asked self.old.table.items
+            → KnowsStates grammar.now.grammar asked self.new.keys.keys self.new.accepted.items self.new.table.items) }
     {
         if let Some(number) = self.keys.get_index_of(&key) {
             return entry_to(number);
@@ -118,7 +119,7 @@ impl States {
         requires state { state < length self.old.keys.keys }
         ensures asks { OnOk result ((key : ScanKey) → slice_get self.old.keys.keys state ≡ Some key
             → AsksScan (G.means graph.old) key (G.means graph.new) steps.old steps.new) }
-        ensures stands { Stands (G.means graph.old) (G.means graph.new) }
+        ensures stands { StandsButScans (G.means graph.old) (G.means graph.new) }
         ensures never_back { steps.old ≤ steps.new }
         ensures keeps { OnOk result (KeepsNumbers self.old.keys.keys self.new.keys.keys) }
         ensures knows { OnOk result (KnowsOf (G.means graph.new) self.new) }
@@ -149,7 +150,7 @@ impl States {
         requires state { state < length self.old.keys.keys }
         ensures asks { OnOk result (AsksOnly (λ key. slice_get self.old.keys.keys state ≡ Some key)
             (G.means graph.old) (G.means graph.new) steps.old steps.new) }
-        ensures stands { Stands (G.means graph.old) (G.means graph.new) }
+        ensures stands { StandsButScans (G.means graph.old) (G.means graph.new) }
         ensures never_back { steps.old ≤ steps.new }
         ensures keeps { OnOk result (KeepsNumbers self.old.keys.keys self.new.keys.keys) }
         ensures knows { OnOk result (KnowsOf (G.means graph.new) self.new) }

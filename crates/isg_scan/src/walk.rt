@@ -1,10 +1,10 @@
 //! The longest piece that a definition matches.
 
 ghost use Rattle.std.specs.Prelude.{◌≡◌, ◌≤◌, ◌<◌, ◌+◌, ◌^◌, ℕ, IfOk, OnOk, length, slice_get, Option, Some};
-ghost use Rattle.isg_scan.specs.Asked.{Stands, AsksOnly};
-ghost use Rattle.isg_scan.specs.Reach.{Meets};
+ghost use Rattle.isg_scan.specs.Asked.{StandsButScans, AsksOnly};
+ghost use Rattle.isg_scan.specs.Reach.{MeetsState};
 ghost use Rattle.isg_scan.specs.Knowing.{KnowsOf};
-ghost use Rattle.isg_scan.specs.Walks.{IsWalk, IsWalked, best_with};
+ghost use Rattle.isg_scan.specs.Walks.{IsPieceWalk, IsPieceWalked, best_with};
 
 use crate::states::{NOWHERE, ROW, States};
 use edit_log::DefKind;
@@ -46,8 +46,8 @@ fn with_byte(accepted: &[Option<DefKind>], walk: Walk, state: usize) -> Walk
 /// graph has to be asked. The graph is there for the contract, which says what the table means.
 fn read_on<G: Graph>(_graph: &G, states: &States, text: &[u8], walk: Walk) -> Walk
     requires knows { KnowsOf (G.means _graph.now) states.now }
-    requires walk { IsWalk (G.means _graph.now).grammar (G.means _graph.now).scans.keys states.now.keys.keys text.now walk.at walk.state walk.best }
-    ensures walk { IsWalk (G.means _graph.now).grammar (G.means _graph.now).scans.keys states.now.keys.keys text.now result.at result.state result.best }
+    requires walk { IsPieceWalk (G.means _graph.now).grammar (G.means _graph.now).scans.keys states.now.keys.keys text.now walk.at walk.state walk.best }
+    ensures walk { IsPieceWalk (G.means _graph.now).grammar (G.means _graph.now).scans.keys states.now.keys.keys text.now result.at result.state result.best }
     ensures on { walk.at ≤ result.at }
 {
     let table = states.table.as_slice();
@@ -72,10 +72,10 @@ pub(crate) fn longest<G: Graph, L: Ledger>(
     steps: &mut Steps<L>,
 ) -> Result<Option<Piece>, NoMemory>
     requires knows { KnowsOf (G.means graph.old) states.old }
-    ensures walked { IfOk result (IsWalked (G.means graph.new).grammar (G.means graph.new).scans.keys text.now) }
+    ensures walked { IfOk result (IsPieceWalked (G.means graph.new).grammar (G.means graph.new).scans.keys text.now) }
     ensures knows { OnOk result (KnowsOf (G.means graph.new) states.new) }
-    ensures asks { OnOk result (AsksOnly (Meets (G.means graph.old).grammar text.now) (G.means graph.old) (G.means graph.new) steps.old steps.new) }
-    ensures stands { Stands (G.means graph.old) (G.means graph.new) }
+    ensures asks { OnOk result (AsksOnly (MeetsState (G.means graph.old).grammar text.now) (G.means graph.old) (G.means graph.new) steps.old steps.new) }
+    ensures stands { StandsButScans (G.means graph.old) (G.means graph.new) }
     ensures never_back { steps.old ≤ steps.new }
 {
     let mut walk = Walk {

@@ -5,12 +5,12 @@ use Rattle.edit_log.specs.History.{Grammar}
 use Rattle.isg_states.specs.declared.scan_key.ScanKey.{ScanKey}
 use Rattle.isg_states.specs.Expansion.{Range, AreMarks, IsScanExpansionOf}
 use Rattle.isg_states.proofs.Tables.{range_marks}
-use Rattle.live_graph.specs.Meaning.{Meaning}
+use Rattle.live_graph.specs.Meaning.{GraphMeaning}
 use Rattle.live_graph.specs.Asking.{AsksScan}
 use Rattle.isg_scan.proofs.Ranges.{on_ok}
 
 -- an ask that is answered leaves the grammar
-pub same_grammar : {Base X E : Type 0} (old new : Meaning Base) (key : ScanKey) (before after : ℕ) (result : Result X E) (value : X)
+pub same_grammar : {Base X E : Type 0} (old new : GraphMeaning Base) (key : ScanKey) (before after : ℕ) (result : Result X E) (value : X)
     → OnOk result (AsksScan old key new before after) → result ≡ Ok value → new.grammar ≡ old.grammar
 same_grammar old new key before after result value asks is = (on_ok result value (AsksScan old key new before after) is asks).grammar
 

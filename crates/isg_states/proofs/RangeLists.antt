@@ -11,7 +11,7 @@ use Rattle.isg_states.specs.declared.scan_key.ScanKey.{ScanKey}
 use Rattle.isg_states.specs.declared.scan_key.ScanKey.TheVariants.{Start, Set}
 use Rattle.isg_states.specs.Marks.{ListsMarks}
 use Rattle.isg_states.specs.Expansion.{Range, LeadsTo, AreApart, IsScanExpansionOf}
-use Rattle.isg_states.specs.Candidates.{GoesOn, IsWithByte, TellsRange, TellsBelow}
+use Rattle.isg_states.specs.Candidates.{Adjoins, IsWithByte, TellsRange, TellsBelow}
 use Rattle.isg_states.proofs.MarkLists.{each_of, all_of, contains_none}
 
 same_set : (a b : List Mark) (k : ScanKey) → k ≡ Set a → k ≡ Set b → a ≡ b
@@ -90,7 +90,7 @@ last_of (y ∷ z ∷ ranges) x e =
 -- the last range ends before the byte, and leads to a key
 pub goes_on_key : (ranges : List Range) (byte : ℕ) (last : Range) (key marks : List Mark) → slice_get ranges (length ranges - 1) ≡ Some last
     → last.2 ≡ Set key → last.1 + 1 ≡ byte
-    → (key ≡ marks → GoesOn ranges byte marks) × (GoesOn ranges byte marks → key ≡ marks)
+    → (key ≡ marks → Adjoins ranges byte marks) × (Adjoins ranges byte marks → key ≡ marks)
 goes_on_key ranges byte last key marks there is touch =
     let r = last_of ranges last there in (
       λ e. (r.0, last.0, last.1, r.1 ∙ ap (λ k. r.0 ++ (last.0, last.1, k) ∷ []) (is ∙ ap (λ m. Set m) e), touch),
@@ -99,7 +99,7 @@ goes_on_key ranges byte last key marks there is touch =
 
 -- it ends elsewhere
 pub goes_on_not : (ranges : List Range) (byte : ℕ) (last : Range) (marks : List Mark) → slice_get ranges (length ranges - 1) ≡ Some last
-    → (last.1 + 1 ≡ byte → ⊥) → GoesOn ranges byte marks → ⊥
+    → (last.1 + 1 ≡ byte → ⊥) → Adjoins ranges byte marks → ⊥
 goes_on_not ranges byte last marks there apart g =
     let r = last_of ranges last there in
     let ends = two_ends r.0 g.0 last (g.1, g.2, Set marks) (sym r.1 ∙ g.3) in
@@ -107,7 +107,7 @@ goes_on_not ranges byte last marks there apart g =
 
 -- it leads to no set
 pub goes_on_start : (ranges : List Range) (byte : ℕ) (last : Range) (marks : List Mark) → slice_get ranges (length ranges - 1) ≡ Some last → last.2 ≡ Start
-    → GoesOn ranges byte marks → ⊥
+    → Adjoins ranges byte marks → ⊥
 goes_on_start ranges byte last marks there is g =
     let r = last_of ranges last there in
     let ends = two_ends r.0 g.0 last (g.1, g.2, Set marks) (sym r.1 ∙ g.3) in
@@ -117,7 +117,7 @@ goes_on_start ranges byte last marks there is g =
       start_or_set k m e f = absurd cc
 
 -- there is none
-pub goes_on_none : (ranges : List Range) (byte : ℕ) (marks : List Mark) → None ≡ slice_get ranges (length ranges - 1) → GoesOn ranges byte marks → ⊥
+pub goes_on_none : (ranges : List Range) (byte : ℕ) (marks : List Mark) → None ≡ slice_get ranges (length ranges - 1) → Adjoins ranges byte marks → ⊥
 goes_on_none ranges byte marks none g =
     let len : length ranges ≡ length g.0 + 1 = ap length g.3 ∙ length-append g.0 ((g.1, g.2, Set marks) ∷ []) in
     let within : length ranges - 1 < length ranges = omega arith in
@@ -136,7 +136,7 @@ get_last [] last d k e = subst (λ n. get_or (last ∷ []) n d ≡ last) (sym e)
 get_last (b ∷ before) last d k e = subst (λ n. get_or (b ∷ (before ++ last ∷ [])) n d ≡ last) (sym e) (get_last before last d (length before) refl)
 
 -- the last range goes on in place
-pub set_goes_on : (ranges : List Range) (byte : ℕ) (marks : List Mark) (k : ℕ) (last : Range) → GoesOn ranges byte marks → k ≡ length ranges - 1
+pub set_goes_on : (ranges : List Range) (byte : ℕ) (marks : List Mark) (k : ℕ) (last : Range) → Adjoins ranges byte marks → k ≡ length ranges - 1
     → last ≡ get_or ranges k last
     → IsWithByte ranges byte marks (slice_set ranges k (last.0, byte, last.2))
 set_goes_on ranges byte marks k last g place is =
@@ -194,7 +194,7 @@ module _ (led : ℕ → List Mark) where
   }
 
   -- a range of its own
-  push : (n : ℕ) (ranges : List Range) (marks : List Mark) → TellsBelow led n ranges → led n ≡ marks → 0 < length marks → (GoesOn ranges n marks → ⊥)
+  push : (n : ℕ) (ranges : List Range) (marks : List Mark) → TellsBelow led n ranges → led n ≡ marks → 0 < length marks → (Adjoins ranges n marks → ⊥)
       → TellsBelow led (n + 1) (ranges ++ (n, n, Set marks) ∷ [])
   push n ranges marks t is some apart_from = record {
     each = λ range c. elim (Contains-append_cases ranges (last ∷ []) range c) [

@@ -42,15 +42,15 @@ marks_with [] byte = []
 marks_with (c ∷ others) byte = if has c.class.now byte then c.mark ∷ marks_with others byte else marks_with others byte
 
 -- the last range ends directly before the byte and leads to these marks
-abbrev pub GoesOn : List Range → ℕ → List Mark → Type 0
-GoesOn ranges byte marks = (before : List Range) × (low : ℕ) × (high : ℕ) × (ranges ≡ before ++ (low, high, Set marks) ∷ []) × (high + 1 ≡ byte)
+abbrev pub Adjoins : List Range → ℕ → List Mark → Type 0
+Adjoins ranges byte marks = (before : List Range) × (low : ℕ) × (high : ℕ) × (ranges ≡ before ++ (low, high, Set marks) ∷ []) × (high + 1 ≡ byte)
 
 -- the byte goes to the last range, where that goes on, and otherwise to one of its own
 abbrev pub IsWithByte : List Range → ℕ → List Mark → List Range → Type 0
 IsWithByte old byte marks new =
     ((before : List Range) × (low : ℕ) × (high : ℕ) × (old ≡ before ++ (low, high, Set marks) ∷ []) × (high + 1 ≡ byte)
     × (new ≡ before ++ (low, byte, Set marks) ∷ []))
-    ⊎ ((GoesOn old byte marks → ⊥) × (new ≡ old ++ (byte, byte, Set marks) ∷ []))
+    ⊎ ((Adjoins old byte marks → ⊥) × (new ≡ old ++ (byte, byte, Set marks) ∷ []))
 
 -- each byte of the range leads to the marks of its key
 pub record TellsRange (led : ℕ → List Mark) (limit : ℕ) (range : Range) : Type 0 where

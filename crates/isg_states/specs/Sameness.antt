@@ -16,35 +16,35 @@ use Rattle.isg_states.specs.declared.scan_key.ScanKey.{ScanKey}
 use Rattle.isg_states.specs.declared.scan_key.ScanKey.TheVariants.{Start, Set}
 use Rattle.isg_states.specs.Marks.{mark_number}
 
-abbrev pub definition_eq : DefId → DefId → Bool
-definition_eq (literal a) (literal b) = nat_eq a.0 b.0
-definition_eq (literal a) (named b) = false
-definition_eq (named a) (literal b) = false
-definition_eq (named a) (named b) = nat_eq a.0 b.0
+abbrev pub def_id_eq : DefId → DefId → Bool
+def_id_eq (literal a) (literal b) = nat_eq a.0 b.0
+def_id_eq (literal a) (named b) = false
+def_id_eq (named a) (literal b) = false
+def_id_eq (named a) (named b) = nat_eq a.0 b.0
 
-pub definition_eq-decides : (a b : DefId) → Decides (definition_eq a b) (a ≡ b)
-definition_eq-decides (literal a) (literal b) =
+pub def_id_eq-decides : (a b : DefId) → Decides (def_id_eq a b) (a ≡ b)
+def_id_eq-decides (literal a) (literal b) =
     let d = unsigned_Decides a.0 b.0 in
     (λ e. ap (λ n. literal (let s : SymbolId = record { 0 = n } in s)) (d.0 e), λ e. d.1 (let same : a ≡ b = cc in ap (λ (s : SymbolId). s.0) same))
-definition_eq-decides (literal a) (named b) = (λ e. absurd cc, λ e. absurd cc)
-definition_eq-decides (named a) (literal b) = (λ e. absurd cc, λ e. absurd cc)
-definition_eq-decides (named a) (named b) =
+def_id_eq-decides (literal a) (named b) = (λ e. absurd cc, λ e. absurd cc)
+def_id_eq-decides (named a) (literal b) = (λ e. absurd cc, λ e. absurd cc)
+def_id_eq-decides (named a) (named b) =
     let d = unsigned_Decides a.0 b.0 in
     (λ e. ap (λ n. named (let r : RuleId = record { 0 = n } in r)) (d.0 e), λ e. d.1 (let same : a ≡ b = cc in ap (λ (r : RuleId). r.0) same))
 
 abbrev pub mark_eq : Mark → Mark → Bool
-mark_eq a b = definition_eq a.def b.def && nat_eq a.index b.index
+mark_eq a b = def_id_eq a.def b.def && nat_eq a.index b.index
 
 abbrev mark : DefId → ℕ → Mark
 mark definition index = record { def = definition; index = index }
 
 pub mark_eq-decides : (a b : Mark) → Decides (mark_eq a b) (a ≡ b)
 mark_eq-decides a b =
-    let definitions = definition_eq-decides a.def b.def in
+    let definitions = def_id_eq-decides a.def b.def in
     let indices = unsigned_Decides a.index b.index in (
-      λ e. let both = and_parts (definition_eq a.def b.def) (nat_eq a.index b.index) e in
+      λ e. let both = and_parts (def_id_eq a.def b.def) (nat_eq a.index b.index) e in
           ap (λ d. mark d a.index) (definitions.0 both.0) ∙ ap (λ n. mark b.def n) (indices.0 both.1),
-      λ e. and_from (definition_eq a.def b.def) (nat_eq a.index b.index) (definitions.1 (ap (λ (m : Mark). m.def) e))
+      λ e. and_from (def_id_eq a.def b.def) (nat_eq a.index b.index) (definitions.1 (ap (λ (m : Mark). m.def) e))
           (indices.1 (ap (λ (m : Mark). m.index) e)),
     )
 
@@ -76,4 +76,4 @@ key_fed Start = fed.u8 0
 key_fed (Set marks) = fed.u8 1 ++ fed.slice mark_fed marks
 
 -- each test says exactly whether the two are equal
-pub ruleset sameness = (definition_eq-decides, mark_eq-decides, marks_eq-decides, key_eq-decides)
+pub ruleset sameness = (def_id_eq-decides, mark_eq-decides, marks_eq-decides, key_eq-decides)

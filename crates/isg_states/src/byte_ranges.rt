@@ -3,7 +3,7 @@
 ghost use Rattle.std.specs.Prelude.{◌≡◌, ◌↔◌, IsTrue, IfOk, OnOk};
 ghost use Rattle.std.specs.List.Sorted.{IsStrictlySortedBy};
 ghost use Rattle.isg_states.specs.Marks.{mark_cmp, AreAscending};
-ghost use Rattle.isg_states.specs.Candidates.{marks_of, marks_with, GoesOn, IsWithByte, TellsBelow};
+ghost use Rattle.isg_states.specs.Candidates.{marks_of, marks_with, Adjoins, IsWithByte, TellsBelow};
 
 use crate::NoMemory;
 use crate::candidates::{Candidate, with_byte};
@@ -14,7 +14,7 @@ use std::alloc::Global;
 
 /// Whether the last range ends directly before the byte and leads to these marks.
 fn goes_on(ranges: &[(u8, u8, ScanKey)], byte: u8, marks: &[Mark]) -> bool
-    ensures { IsTrue result ↔ GoesOn ranges.now byte marks.now }
+    ensures { IsTrue result ↔ Adjoins ranges.now byte marks.now }
 {
     let Some(last) = ranges.last() else {
         return false;

@@ -3,7 +3,7 @@
 ghost use Rattle.std.specs.Prelude.{◌≡◌, ◌++◌, ◌↔◌, IsTrue};
 ghost use Rattle.std.specs.Cmp.{decided, partial_equiv_from_equiv};
 ghost use Rattle.std.specs.Hash as fed;
-ghost use Rattle.isg_states.specs.Sameness.{definition_eq, mark_eq, mark_eq-decides, marks_eq, marks_eq-decides, key_eq, key_eq-decides, mark_fed, key_fed};
+ghost use Rattle.isg_states.specs.Sameness.{def_id_eq, mark_eq, mark_eq-decides, marks_eq, marks_eq-decides, key_eq, key_eq-decides, mark_fed, key_fed};
 
 use crate::mark::Mark;
 use crate::marks::Marks;
@@ -12,7 +12,7 @@ use edit_log::DefId;
 use std::hash::{Hash, Hasher};
 
 fn is_same_definition(a: DefId, b: DefId) -> bool
-    ensures { result ≡ definition_eq a b }
+    ensures { result ≡ def_id_eq a b }
 {
     match (a, b) {
         (DefId::Literal(a), DefId::Literal(b)) => a.0 == b.0,

@@ -10,8 +10,8 @@ use Rattle.graph_content.specs.Rows.{IsPayloadOf}
 use Rattle.graph_content.specs.Contents.{IsLogOfGrammar, FitsLog}
 use Rattle.live_graph.specs.declared.origin.Origin.{Origin}
 use Rattle.live_graph.specs.declared.origin.Origin.TheVariants.{Found, Made, Raced, Alone}
-use Rattle.live_graph.specs.Showing.{IsPart, Comes, Came}
-use Rattle.live_graph.specs.Answers.{IsMissing, Looks, HasLooked, Offers, HasOffered, HasCome}
+use Rattle.live_graph.specs.Showing.{StandsAmong, Comes, Came}
+use Rattle.live_graph.specs.Answers.{IsMissing, Looks, HasLooked, WasOffered, HasOffered, HasCome}
 use Rattle.live_graph.proofs.Steps.{whole_part, comes_join}
 use Rattle.live_graph.proofs.RowsOfKeys.{codes}
 
@@ -45,16 +45,17 @@ module _ {E : Type 0} (Codes : List ℕ → E → Type 0) (grammar : Grammar) (m
         }
 
 -- a part that ends the steps
-last_part : (front part : List Step) → IsPart part (front ++ part)
+last_part : (front part : List Step) → StandsAmong part (front ++ part)
 last_part front part = record { before = front; after = []; is = ap (λ rest. front ++ rest) (sym (append-nil part)) }
 
 -- a part that begins them
-first_part : (part back : List Step) → IsPart part (part ++ back)
+first_part : (part back : List Step) → StandsAmong part (part ++ back)
 first_part part back = record { before = []; after = back; is = refl }
 
 module _ (grammar : Grammar) (m : PageMeaning) (key : Key) (payload : List ℕ) (pays : IsPayloadOf grammar key payload) (look : List Step)
     (missing : IsMissing m.sizes m.page look (key_words key)) where
-  came_offered : (offer : List Step) (origin : Origin) → Offers m.sizes m.page offer (key_words key) payload origin → Came m (look ++ offer) grammar key origin
+  came_offered : (offer : List Step) (origin : Origin) → WasOffered m.sizes m.page offer (key_words key) payload origin
+      → Came m (look ++ offer) grammar key origin
   came_offered offer Found offers = absurd offers
   came_offered offer Made offers = (payload, pays, record { call = offer; part = last_part look offer; made = offers })
   came_offered offer Raced offers = record { call = offer; part = last_part look offer; already = offers }

@@ -16,9 +16,9 @@ use Rattle.live_graph.specs.declared.origin.Origin.{Origin}
 use Rattle.live_graph.specs.declared.origin.Origin.TheVariants.{Found, Made, Raced, Alone}
 use Rattle.live_graph.specs.declared.answer.Answer.{Answer}
 use Rattle.live_graph.specs.Sharing.{keys_in}
-use Rattle.live_graph.specs.Ending.{Ends}
-use Rattle.live_graph.specs.Showing.{Comes, IsLater, HasNoRow, HasNoPlace, WasFound, WasMade, WasThere, Came}
-use Rattle.live_graph.specs.Answers.{HasCome, Grows, origins, HoldsAnswers, HoldsOrigins, ExpandsKernel, ExpandsScan, kernel_key, scan_key, IsKept}
+use Rattle.live_graph.specs.Ending.{EndsShown}
+use Rattle.live_graph.specs.Showing.{Comes, HasStepped, HasNoRow, HasNoPlace, WasFound, WasMade, WasThere, Came}
+use Rattle.live_graph.specs.Answers.{HasCome, AddsKey, origins, HoldsAnswers, HoldsOrigins, ExpandsKernel, ExpandsScan, kernel_key, scan_key, IsKept}
 use Rattle.live_graph.proofs.Steps.{came_before, came_behind, shown, comes_join, comes_none}
 use Rattle.live_graph.proofs.KeptAnswers.{origins_push, keys_push}
 
@@ -55,7 +55,7 @@ pub record HasGrown {K E : Type 0} (grammar : Grammar) (as_key : K → Key) (pag
       × Came page more grammar (as_key key) answer.origin)
 
 pub grown : {K E : Type 0} (grammar : Grammar) (as_key : K → Key) (page next : PageMeaning) (key : K) (old new : List (K × Answer E))
-    → Grows grammar as_key page next key old new → HasGrown grammar as_key page next old new
+    → AddsKey grammar as_key page next key old new → HasGrown grammar as_key page next old new
 grown grammar as_key page next key old new (inl (same, kept)) = record {
   more = [];
   comes = subst (λ m. Comes page m []) (sym same) (comes_none page);
@@ -140,8 +140,8 @@ module _ (grammar : Grammar) (basis page next : PageMeaning) (scans : List (Scan
 
 -- whether the call was refused or not
 pub grown_or_later : {K E V F : Type 0} (result : Result V F) (grammar : Grammar) (as_key : K → Key) (page next : PageMeaning) (key : K)
-    (old new : List (K × Answer E)) → OnOk result (Grows grammar as_key page next key old new) → OnErr result (new ≡ old)
-    → OnErr result (IsLater page next) → HasGrown grammar as_key page next old new
+    (old new : List (K × Answer E)) → OnOk result (AddsKey grammar as_key page next key old new) → OnErr result (new ≡ old)
+    → OnErr result (HasStepped page next) → HasGrown grammar as_key page next old new
 grown_or_later (Ok value) grammar as_key page next key old new grows same later = grown grammar as_key page next key old new grows
 grown_or_later (Err cause) grammar as_key page next key old new grows same (more, comes) = record { more = more; comes = comes; kept = inl same }
 
@@ -174,7 +174,7 @@ kept_at_first grammar basis page scans kernels log same no_scan no_kernel =
 
 pub kept_ends : (grammar : Grammar) (basis page : PageMeaning) (scans : List (ScanKey × Answer ScanExpansion))
     (kernels : List (List Item × Answer Expansion)) → IsKept grammar basis page scans kernels
-    → Ends (record { grammar = grammar; basis = basis; page = page; scans = origins scans; kernels = origins kernels })
+    → EndsShown (record { grammar = grammar; basis = basis; page = page; scans = origins scans; kernels = origins kernels })
 kept_ends grammar basis page scans kernels kept = record {
   kernels_once = kept.kernels_once;
   scans_once = kept.scans_once;

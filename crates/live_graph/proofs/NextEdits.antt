@@ -6,7 +6,7 @@ use mathlib.Core.Option as maybe
 use lib.ListN.{get_elem?}
 use Rattle.grammar_text.specs.declared.edit.Edit.{Edit}
 use Rattle.edit_entry.specs.Entries.{entry_of}
-use Rattle.edit_log.specs.History.{Grammar, empty_grammar, after, grammar_of}
+use Rattle.edit_log.specs.History.{Grammar, empty_grammar, after_edit, grammar_of}
 use Rattle.edit_log.specs.Verdict.{IsAccepted}
 use Rattle.pin_rule.specs.declared.content.Entry.{Entry}
 use Rattle.pin_rule.proofs.Lists.{each_append}
@@ -15,7 +15,7 @@ use Rattle.slot_store.specs.Logs.{IsEntryOf, IsLogLoad}
 use Rattle.slot_store.specs.Answers.{ReadsLog}
 use Rattle.graph_content.specs.Contents.{IsLogOf, IsLogOfGrammar, IsLawfulLog}
 use Rattle.graph_content.proofs.LogLaws.{accepted_next, grammar_push}
-use Rattle.live_graph.specs.CatchingUp.{IsBehind, IsBehindAt}
+use Rattle.live_graph.specs.CatchingUp.{IsAtPrefix, IsAtPrefixLength}
 
 -- an edit comes next, and these are its words
 pub record IsNextEdit (rest : List Edit) (words : List ℕ) : Type 0 where
@@ -48,7 +48,7 @@ next_in (first ∷ log) (x ∷ history) rest e same at =
     let tails : words_in log ≡ map entry_of (history ++ rest) = cc in
     next_in log history rest e tails at
 
-module _ (log : List Entry) (grammar : Grammar) (count : ℕ) (at : IsBehindAt log grammar count) where
+module _ (log : List Entry) (grammar : Grammar) (count : ℕ) (at : IsAtPrefixLength log grammar count) where
   pub next_edit : (words : List ℕ) → IsEntryOf log count words → IsNextEdit at.behind.rest words
   next_edit words (e, there, are) =
       subst (IsNextEdit at.behind.rest) (sym are)
@@ -62,31 +62,31 @@ module _ (log : List Entry) (grammar : Grammar) (count : ℕ) (at : IsBehindAt l
     next_accepted =
         subst (λ g. IsAccepted g next.edit) (sym at.behind.made) (accepted_next empty_grammar at.behind.history next.edit next.others log_on.is_history)
 
-    pub next_behind : (new : Grammar) → new ≡ after grammar next.edit → IsBehindAt log new (count + 1)
+    pub next_behind : (new : Grammar) → new ≡ after_edit grammar next.edit → IsAtPrefixLength log new (count + 1)
     next_behind new made = record {
       behind = record {
         history = at.behind.history ++ next.edit ∷ [];
         rest = next.others;
         is = subst (IsLogOf log) (sym (append_assoc at.behind.history (next.edit ∷ []) next.others)) log_on;
-        made = made ∙ ap (λ g. after g next.edit) at.behind.made ∙ sym (grammar_push at.behind.history next.edit);
+        made = made ∙ ap (λ g. after_edit g next.edit) at.behind.made ∙ sym (grammar_push at.behind.history next.edit);
       };
       count_is = let long = length-append at.behind.history (next.edit ∷ []) in omega (arith, long, at.count_is);
     }
 
 -- ---- the version counts the edits
 
-unfolded_version : (g : Grammar) (edit : Edit) → (after g edit).version ≡ g.version + 1
-unfolding after
+unfolded_version : (g : Grammar) (edit : Edit) → (after_edit g edit).version ≡ g.version + 1
+unfolding after_edit
 unfolded_version g edit = refl
 
-version_along : (g : Grammar) (edits : List Edit) → (fold after g edits).version ≡ g.version + length edits
+version_along : (g : Grammar) (edits : List Edit) → (fold after_edit g edits).version ≡ g.version + length edits
 version_along g [] = omega arith
 version_along g (edit ∷ edits) =
-    let rest = version_along (after g edit) edits in
+    let rest = version_along (after_edit g edit) edits in
     let one = unfolded_version g edit in
     omega (arith, rest, one)
 
-pub behind_at : (log : List Entry) (grammar : Grammar) → IsBehind log grammar → IsBehindAt log grammar grammar.version
+pub behind_at : (log : List Entry) (grammar : Grammar) → IsAtPrefix log grammar → IsAtPrefixLength log grammar grammar.version
 behind_at log grammar behind = record {
   behind = behind;
   count_is =
@@ -108,7 +108,7 @@ nothing_left : (rest : List Edit) → length rest ≤ 0 → rest ≡ []
 nothing_left [] none = refl
 nothing_left (edit ∷ rest) none = absurd (omega (arith, none))
 
-pub caught_up : (log : List Entry) (grammar : Grammar) (count : ℕ) → IsBehindAt log grammar count → length log ≤ count → IsLogOfGrammar log grammar
+pub caught_up : (log : List Entry) (grammar : Grammar) (count : ℕ) → IsAtPrefixLength log grammar count → length log ≤ count → IsLogOfGrammar log grammar
 caught_up log grammar count at past =
     let behind = at.behind in
     let long = long_log log (behind.history ++ behind.rest) behind.is in
@@ -138,5 +138,5 @@ reads_same_log old new (added, is, loads) = ap (λ (m : PageMeaning). m.log) is
 
 -- ---- from nothing
 
-pub from_nothing : (log : List Entry) (grammar : Grammar) → grammar ≡ empty_grammar → IsLawfulLog log → IsBehind log grammar
+pub from_nothing : (log : List Entry) (grammar : Grammar) → grammar ≡ empty_grammar → IsLawfulLog log → IsAtPrefix log grammar
 from_nothing log grammar made (history, is) = record { history = []; rest = history; is = is; made = made }

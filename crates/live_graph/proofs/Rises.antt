@@ -5,7 +5,7 @@ use Rattle.item_sets.specs.declared.item.Item.{Item}
 use Rattle.item_sets.specs.Expansions.{IsCost}
 use Rattle.isg_states.specs.declared.scan_key.ScanKey.{ScanKey}
 use Rattle.isg_states.specs.Expansion.{IsScanCost}
-use Rattle.live_graph.specs.Meaning.{Meaning}
+use Rattle.live_graph.specs.Meaning.{GraphMeaning}
 use Rattle.live_graph.specs.Cost.{IsSum, IsCostOf, RisesAsCost}
 use Rattle.live_graph.specs.Asking.{AsksScan, AsksKernel}
 use Rattle.item_sets.proofs.ExpansionLaws.{one_count}
@@ -18,7 +18,7 @@ module _ {Key : Type 0} (Costs : Grammar → Key → ℕ → Type 0) where
   same_sum g h old new sum grammar keys is = subst (λ k. IsSum (Costs k) new sum) (sym grammar) (subst (λ list. IsSum (Costs g) list sum) (sym keys) is)
 
 module _ {Base : Type 0} where
-  pub scan_rises : (old new : Meaning Base) (key : ScanKey) (before after : ℕ) → AsksScan old key new before after → RisesAsCost old new before after
+  pub scan_rises : (old new : GraphMeaning Base) (key : ScanKey) (before after : ℕ) → AsksScan old key new before after → RisesAsCost old new before after
   scan_rises old new key before after asks = elim asks.asks.works [
     | inl idle ↦ record {
       rise = 0;
@@ -47,7 +47,7 @@ module _ {Base : Type 0} where
     }
   ]
 
-  pub kernel_rises : (old new : Meaning Base) (key : List Item) (before after : ℕ) → AsksKernel old key new before after → RisesAsCost old new before after
+  pub kernel_rises : (old new : GraphMeaning Base) (key : List Item) (before after : ℕ) → AsksKernel old key new before after → RisesAsCost old new before after
   kernel_rises old new key before after asks = elim asks.asks.works [
     | inl idle ↦ record {
       rise = 0;
@@ -76,7 +76,7 @@ module _ {Base : Type 0} where
   ]
 
   -- nothing rose
-  pub rise_none : (graph : Meaning Base) (steps : ℕ) → RisesAsCost graph graph steps steps
+  pub rise_none : (graph : GraphMeaning Base) (steps : ℕ) → RisesAsCost graph graph steps steps
   rise_none graph steps = record {
     rise = 0;
     steps = omega arith;
@@ -90,7 +90,7 @@ module _ {Base : Type 0} where
     };
   }
 
-  pub rise_join : (old middle new : Meaning Base) (before between after : ℕ) → RisesAsCost old middle before between
+  pub rise_join : (old middle new : GraphMeaning Base) (before between after : ℕ) → RisesAsCost old middle before between
       → RisesAsCost middle new between after → RisesAsCost old new before after
   rise_join old middle new before between after first second = record {
     rise = first.rise + second.rise;
@@ -98,7 +98,7 @@ module _ {Base : Type 0} where
     cost = λ cost is. subst (IsCostOf new) (omega arith) (second.cost (cost + first.rise) (first.cost cost is));
   }
 
-  pub one_cost_of : (graph : Meaning Base) (one other : ℕ) → IsCostOf graph one → IsCostOf graph other → one ≡ other
+  pub one_cost_of : (graph : GraphMeaning Base) (one other : ℕ) → IsCostOf graph one → IsCostOf graph other → one ≡ other
   one_cost_of graph one other is that = omega (
     arith,
     is.sum,

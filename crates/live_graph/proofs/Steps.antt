@@ -32,15 +32,15 @@ use Rattle.slot_store.specs.Quiet.{IsQuiet}
 use Rattle.graph_content.specs.Rows.{IsPayloadOf}
 use Rattle.live_graph.specs.declared.origin.Origin.{Origin}
 use Rattle.live_graph.specs.declared.origin.Origin.TheVariants.{Found, Made, Raced, Alone}
-use Rattle.live_graph.specs.Showing.{IsPart, Comes, IsLater, IsNarrow, IsWide, HasNoRow, HasNoPlace, WasFound, WasMade, WasThere, Shows, Came}
+use Rattle.live_graph.specs.Showing.{StandsAmong, Comes, HasStepped, IsNarrow, IsWide, HasNoRow, HasNoPlace, WasFound, WasMade, WasThere, ShowsKey, Came}
 use Rattle.live_graph.specs.Showing.Shows.{found, made, met, no_row, no_place}
 
 -- ---- parts
 
-pub whole_part : (steps : List Step) → IsPart steps steps
+pub whole_part : (steps : List Step) → StandsAmong steps steps
 whole_part steps = record { before = []; after = []; is = sym (append-nil steps) }
 
-pub part_within : {part steps : List Step} (front back : List Step) → IsPart part steps → IsPart part (front ++ (steps ++ back))
+pub part_within : {part steps : List Step} (front back : List Step) → StandsAmong part steps → StandsAmong part (front ++ (steps ++ back))
 part_within {part} {steps} front back p = record {
   before = front ++ p.before;
   after = p.after ++ back;
@@ -95,7 +95,7 @@ came_behind m more steps grammar key origin came =
 
 -- the room that the key's row has is all that could be wanting but a free row and a free place
 pub shown : (m : PageMeaning) (steps : List Step) (grammar : Grammar) (key : Key) (origin : Origin) → Came m steps grammar key origin
-    → IsNarrow m.sizes grammar key → Shows m steps (key_words key)
+    → IsNarrow m.sizes grammar key → ShowsKey m steps (key_words key)
 shown m steps grammar key Found (payload, codes, was) narrow = found was
 shown m steps grammar key Made (payload, codes, was) narrow = made was
 shown m steps grammar key Raced was narrow = met was
@@ -117,8 +117,8 @@ comes_join {old} {middle} {new} {one} {other} first second = record {
 pub comes_none : (m : PageMeaning) → Comes m m []
 comes_none m = record { is = ap (λ all. record m { steps = all }) (sym (append-nil m.steps)); quiet = tt }
 
-pub later_join : (old middle new : PageMeaning) → IsLater old middle → IsLater middle new → IsLater old new
+pub later_join : (old middle new : PageMeaning) → HasStepped old middle → HasStepped middle new → HasStepped old new
 later_join old middle new (one, first) (other, second) = (one ++ other, comes_join first second)
 
-pub later_none : (m : PageMeaning) → IsLater m m
+pub later_none : (m : PageMeaning) → HasStepped m m
 later_none m = ([], comes_none m)

@@ -52,17 +52,17 @@ pub record HasLooked {E : Type 0} (Codes : List ℕ → E → Type 0) (old new :
   pub looks : Looks Codes (FitsLog old.log) old.sizes old.page added key found
 
 -- why a row that was to be published was or was not
-abbrev pub Offers : Sizes → ℕ → List Step → (key payload : List ℕ) → Origin → Type 0
-Offers z page added key payload Found = ⊥
-Offers z page added key payload Made = IsMade z page added key payload
-Offers z page added key payload Raced = IsAlready z page added key
-Offers z page added key payload Alone = (z.width - 2 < length key + length payload) ⊎ (IsPoolFull z page added ⊎ IsPageFull z page added key)
+abbrev pub WasOffered : Sizes → ℕ → List Step → (key payload : List ℕ) → Origin → Type 0
+WasOffered z page added key payload Found = ⊥
+WasOffered z page added key payload Made = IsMade z page added key payload
+WasOffered z page added key payload Raced = IsAlready z page added key
+WasOffered z page added key payload Alone = (z.width - 2 < length key + length payload) ⊎ (IsPoolFull z page added ⊎ IsPageFull z page added key)
 
 -- the call that publishes added only its steps
 pub record HasOffered (old new : PageMeaning) (key payload : List ℕ) (origin : Origin) : Type 0 where
   pub added : List Step
   pub comes : Comes old new added
-  pub offers : Offers old.sizes old.page added key payload origin
+  pub offers : WasOffered old.sizes old.page added key payload origin
 
 -- by the steps that were added the key's expansion came so
 pub record HasCome (grammar : Grammar) (old new : PageMeaning) (key : Key) (origin : Origin) : Type 0 where
@@ -88,8 +88,8 @@ abbrev pub HoldsAnswers : {K E : Type 0} → (K → E → Type 0) → List (K ×
 HoldsAnswers Expands kept = (key : _) (answer : _) → Contains kept (key, answer) → Expands key answer.expansion
 
 -- the key was kept before, and nothing was done; or it was not, its expansion came, and it stands behind the others
-abbrev pub Grows : {K E : Type 0} → Grammar → (K → Key) → (old new : PageMeaning) → K → (before after : List (K × Answer E)) → Type 0
-Grows grammar as_key old new key before after = ((new ≡ old) × (after ≡ before))
+abbrev pub AddsKey : {K E : Type 0} → Grammar → (K → Key) → (old new : PageMeaning) → K → (before after : List (K × Answer E)) → Type 0
+AddsKey grammar as_key old new key before after = ((new ≡ old) × (after ≡ before))
     ⊎ ((answer : _) × (Contains (keys_in (origins before)) key → ⊥) × (after ≡ before ++ (key, answer) ∷ []) × HasCome grammar old new (as_key key)
     answer.origin)
 

@@ -4,7 +4,7 @@ use Rattle.item_sets.specs.declared.item.Item.{Item}
 use Rattle.item_sets.specs.Expansions.{IsCost}
 use Rattle.isg_states.specs.declared.scan_key.ScanKey.{ScanKey}
 use Rattle.isg_states.specs.Expansion.{IsScanCost}
-use Rattle.live_graph.specs.Meaning.{Asked, Meaning}
+use Rattle.live_graph.specs.Meaning.{Asked, GraphMeaning}
 
 -- the key is the last of the new ones, unless it was among the old ones, which then are all
 abbrev pub Joins : {Key : Type 0} → List Key → Key → List Key → Type 0
@@ -21,14 +21,14 @@ pub record Asks {Key : Type 0} (Costs : Key → ℕ → Type 0) (old : Asked Key
   pub works : Works Costs old key new before after
 
 -- the graph was asked for a state of the scanner, and all else stands
-pub record AsksScan {Base : Type 0} (old : Meaning Base) (key : ScanKey) (new : Meaning Base) (before after : ℕ) : Type 0 where
+pub record AsksScan {Base : Type 0} (old : GraphMeaning Base) (key : ScanKey) (new : GraphMeaning Base) (before after : ℕ) : Type 0 where
   pub grammar : new.grammar ≡ old.grammar
   pub base : new.base ≡ old.base
   pub kernels : new.kernels ≡ old.kernels
   pub asks : Asks (IsScanCost old.grammar) old.scans key new.scans before after
 
 -- the graph was asked for a kernel, and all else stands
-pub record AsksKernel {Base : Type 0} (old : Meaning Base) (key : List Item) (new : Meaning Base) (before after : ℕ) : Type 0 where
+pub record AsksKernel {Base : Type 0} (old : GraphMeaning Base) (key : List Item) (new : GraphMeaning Base) (before after : ℕ) : Type 0 where
   pub grammar : new.grammar ≡ old.grammar
   pub base : new.base ≡ old.base
   pub scans : new.scans ≡ old.scans

@@ -7,11 +7,11 @@ use Rattle.pin_rule.specs.declared.view.Step.{Step}
 use Rattle.row_coding.specs.Rows.{key_words, kernel, scan}
 use Rattle.live_graph.specs.declared.origin.Origin.{Origin}
 use Rattle.live_graph.specs.Sharing.{Shared, keys_in}
-use Rattle.live_graph.specs.Showing.{Comes, Came, Shows, IsNarrow}
+use Rattle.live_graph.specs.Showing.{Comes, Came, ShowsKey, IsNarrow}
 
 -- No key comes twice. Only quiet steps were added to those of the basis. They show of each key how its expansion came; and of each whose row is not too
 -- wide, that the page has it, or had no room.
-pub record Ends (graph : Shared) : Type 0 where
+pub record EndsShown (graph : Shared) : Type 0 where
   pub kernels_once : IsDistinct (keys_in graph.kernels)
   pub scans_once : IsDistinct (keys_in graph.scans)
   pub added : List Step
@@ -19,6 +19,6 @@ pub record Ends (graph : Shared) : Type 0 where
   pub kernels_came : (items : List Item) (origin : Origin) → Contains graph.kernels (items, origin) → Came graph.basis added graph.grammar (kernel items) origin
   pub scans_came : (key : ScanKey) (origin : Origin) → Contains graph.scans (key, origin) → Came graph.basis added graph.grammar (scan key) origin
   pub kernels_shown : (items : List Item) (origin : Origin) → Contains graph.kernels (items, origin) → IsNarrow graph.basis.sizes graph.grammar (kernel items)
-      → Shows graph.basis added (key_words (kernel items))
+      → ShowsKey graph.basis added (key_words (kernel items))
   pub scans_shown : (key : ScanKey) (origin : Origin) → Contains graph.scans (key, origin) → IsNarrow graph.basis.sizes graph.grammar (scan key)
-      → Shows graph.basis added (key_words (scan key))
+      → ShowsKey graph.basis added (key_words (scan key))

@@ -7,7 +7,7 @@ use Rattle.item_sets.specs.Expansions.{IsExpansionOf}
 use Rattle.isg_states.specs.declared.scan_key.ScanKey.{ScanKey}
 use Rattle.isg_states.specs.declared.ranges.ScanExpansion.{ScanExpansion}
 use Rattle.isg_states.specs.Expansion.{IsScanExpansionOf}
-use Rattle.live_graph.specs.Meaning.{Asked, Meaning}
+use Rattle.live_graph.specs.Meaning.{Asked, GraphMeaning}
 
 -- the grammar, and the states and kernels that the one user asked for
 pub record Alone : Type 0 where
@@ -20,7 +20,7 @@ abbrev pub all_own : {Key : Type 0} → List Key → Asked Key
 all_own keys = record { keys = keys; own = keys }
 
 -- what the graph of one user means: it expanded itself whatever it was asked for, and stands on nothing
-abbrev pub means_alone : Alone → Meaning (Unit {0})
+abbrev pub means_alone : Alone → GraphMeaning (Unit {0})
 means_alone graph = record { grammar = graph.grammar; scans = all_own graph.scans; kernels = all_own graph.kernels; base = tt }
 
 -- each state is kept with its expansion

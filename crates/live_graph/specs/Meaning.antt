@@ -10,7 +10,7 @@ pub record Asked (Key : Type 0) : Type 0 where
   pub own : List Key
 
 -- the grammar, the states of the scanner and the kernels that the graph was asked for, and what it stands on, which no call changes
-pub record Meaning (Base : Type 0) : Type 0 where
+pub record GraphMeaning (Base : Type 0) : Type 0 where
   pub grammar : Grammar
   pub scans : Asked ScanKey
   pub kernels : Asked (List Item)

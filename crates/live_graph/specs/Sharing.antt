@@ -3,10 +3,10 @@ use Rattle.std.specs.Prelude.{Bool, true, false, List, [], ◌∷◌, map}
 use Rattle.edit_log.specs.History.{Grammar}
 use Rattle.item_sets.specs.declared.item.Item.{Item}
 use Rattle.isg_states.specs.declared.scan_key.ScanKey.{ScanKey}
-use Rattle.slot_store.specs.Meaning.{Meaning as PageMeaning}
+use Rattle.slot_store.specs.Meaning.{GraphMeaning as PageMeaning}
 use Rattle.live_graph.specs.declared.origin.Origin.{Origin}
 use Rattle.live_graph.specs.declared.origin.Origin.TheVariants.{Found, Made, Raced, Alone}
-use Rattle.live_graph.specs.Meaning.{Asked, Meaning}
+use Rattle.live_graph.specs.Meaning.{Asked, GraphMeaning}
 
 -- the grammar, what the page meant at first and means now, and the keys that were asked for, each with how its expansion came
 pub record Shared : Type 0 where
@@ -35,5 +35,5 @@ abbrev pub asked_with : {Key : Type 0} → List (Key × Origin) → Asked Key
 asked_with kept = record { keys = keys_in kept; own = own_keys kept }
 
 -- what such a graph means: it stands on what its page meant at first
-abbrev pub means_shared : Shared → Meaning PageMeaning
+abbrev pub means_shared : Shared → GraphMeaning PageMeaning
 means_shared graph = record { grammar = graph.grammar; scans = asked_with graph.scans; kernels = asked_with graph.kernels; base = graph.basis }

@@ -14,7 +14,7 @@ use Rattle.live_graph.specs.declared.origin.Origin.{Origin}
 use Rattle.live_graph.specs.declared.origin.Origin.TheVariants.{Found, Made, Raced, Alone}
 
 -- these steps stand among those, one behind the other
-pub record IsPart (part steps : List Step) : Type 0 where
+pub record StandsAmong (part steps : List Step) : Type 0 where
   pub before : List Step
   pub after : List Step
   pub is : steps ≡ before ++ (part ++ after)
@@ -25,8 +25,8 @@ pub record Comes (old new : PageMeaning) (added : List Step) : Type 0 where
   pub quiet : Each IsQuiet added
 
 -- some such steps came
-abbrev pub IsLater : PageMeaning → PageMeaning → Type 0
-IsLater old new = (added : List Step) × Comes old new added
+abbrev pub HasStepped : PageMeaning → PageMeaning → Type 0
+HasStepped old new = (added : List Step) × Comes old new added
 
 -- the key's row has room: key and payload together have as few words as a row has for them
 abbrev pub IsNarrow : Sizes → Grammar → Key → Type 0
@@ -41,7 +41,7 @@ module _ (m : PageMeaning) (steps : List Step) where
   pub record HasNoRow (key : List ℕ) : Type 0 where
     pub look : List Step
     pub claims : List Step
-    pub part : IsPart (look ++ claims) steps
+    pub part : StandsAmong (look ++ claims) steps
     pub place : ℕ
     pub initial : IsInitial m.sizes m.page look key place
     pub full : IsPoolFull m.sizes m.page claims
@@ -49,35 +49,35 @@ module _ (m : PageMeaning) (steps : List Step) where
   -- each place of the page held another key
   pub record HasNoPlace (key : List ℕ) : Type 0 where
     pub walk : List Step
-    pub part : IsPart walk steps
+    pub part : StandsAmong walk steps
     pub full : IsPageFull m.sizes m.page walk key
 
   -- a look found the key's row, which fits the log
   pub record WasFound (key payload : List ℕ) : Type 0 where
     pub look : List Step
-    pub part : IsPart look steps
+    pub part : StandsAmong look steps
     pub found : IsFound m.sizes m.page look (FitsLog m.log) key payload
 
   -- the key's row was written and put into the page
   pub record WasMade (key payload : List ℕ) : Type 0 where
     pub call : List Step
-    pub part : IsPart call steps
+    pub part : StandsAmong call steps
     pub made : IsMade m.sizes m.page call key payload
 
   -- a row of the key was met, as another row of it was to be put into the page
   pub record WasThere (key : List ℕ) : Type 0 where
     pub call : List Step
-    pub part : IsPart call steps
+    pub part : StandsAmong call steps
     pub already : IsAlready m.sizes m.page call key
 
   -- An entry of the page whose row has this key was loaded or published; or no row was free, where the key's path led to an empty
   -- place; or no place was.
-  pub data Shows (key : List ℕ) : Type 0 where
-    found : {payload : List ℕ} → WasFound key payload → Shows key
-    made : {payload : List ℕ} → WasMade key payload → Shows key
-    met : WasThere key → Shows key
-    no_row : HasNoRow key → Shows key
-    no_place : HasNoPlace key → Shows key
+  pub data ShowsKey (key : List ℕ) : Type 0 where
+    found : {payload : List ℕ} → WasFound key payload → ShowsKey key
+    made : {payload : List ℕ} → WasMade key payload → ShowsKey key
+    met : WasThere key → ShowsKey key
+    no_row : HasNoRow key → ShowsKey key
+    no_place : HasNoPlace key → ShowsKey key
 
   -- the steps show how the expansion of the key came
   abbrev pub Came : Grammar → Key → Origin → Type 0

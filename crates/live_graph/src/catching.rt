@@ -3,7 +3,7 @@
 ghost use Rattle.std.specs.Prelude.{◌≡◌, ◌<◌, ◌+◌, length, OnOk, OnErr};
 ghost use Rattle.slot_store.specs.Answers.{ReadsLog};
 ghost use Rattle.graph_content.specs.Contents.{IsLogOfGrammar};
-ghost use Rattle.live_graph.specs.CatchingUp.{IsBehind, IsBehindAt};
+ghost use Rattle.live_graph.specs.CatchingUp.{IsAtPrefix, IsAtPrefixLength};
 
 use crate::NoMemory;
 use edit_log::{Entry, Grammar};
@@ -16,9 +16,9 @@ fn apply_next<P: Page<GraphRows>>(
     page: &mut P,
     index: u32,
 ) -> Result<(), NoMemory>
-    requires next { IsBehindAt (P.means page.old).log grammar.old.grammar index }
+    requires next { IsAtPrefixLength (P.means page.old).log grammar.old.grammar index }
     requires more { index < length (P.means page.old).log }
-    ensures applied { OnOk result (IsBehindAt (P.means page.old).log grammar.new.grammar (index + 1)) }
+    ensures applied { OnOk result (IsAtPrefixLength (P.means page.old).log grammar.new.grammar (index + 1)) }
     ensures refused { OnErr result (grammar.new.grammar ≡ grammar.old.grammar) }
     ensures reads { ReadsLog (P.means page.old) (P.means page.new) }
 {
@@ -33,9 +33,9 @@ fn apply_next<P: Page<GraphRows>>(
 /// Brings a replica, whose history is a beginning of the page's log, to the page's version. Where memory runs out
 /// it is still at a beginning of the log.
 pub fn catch_up<P: Page<GraphRows>>(grammar: &mut Grammar, page: &mut P) -> Result<(), NoMemory>
-    requires { IsBehind (P.means page.old).log grammar.old.grammar }
+    requires { IsAtPrefix (P.means page.old).log grammar.old.grammar }
     ensures caught_up { OnOk result (IsLogOfGrammar (P.means page.old).log grammar.new.grammar) }
-    ensures behind { IsBehind (P.means page.old).log grammar.new.grammar }
+    ensures behind { IsAtPrefix (P.means page.old).log grammar.new.grammar }
     ensures reads { ReadsLog (P.means page.old) (P.means page.new) }
 {
     for index in grammar.version()..page.version() {

@@ -17,12 +17,12 @@ use steps::Steps;
 
 /// A keeper of expansions in one grammar. Each is made when its key is first asked for.
 pub trait Graph {
-    ghost use Rattle.live_graph.specs.Meaning.{Meaning};
+    ghost use Rattle.live_graph.specs.Meaning.{GraphMeaning};
 
     /// What a graph stands on, such as a page of a table that many share.
     ghost Base: { Type 0 };
 
-    ghost means: { Self → Meaning Base };
+    ghost means: { Self → GraphMeaning Base };
 
     /// The grammar whose expansions these are.
     fn grammar(&self) -> &Grammar

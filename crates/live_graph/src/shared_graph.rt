@@ -3,7 +3,7 @@
 ghost use Rattle.std.specs.Prelude.{◌≡◌, [], IfOk, IfErr};
 ghost use Rattle.graph_content.specs.Contents.{IsLogOfGrammar};
 ghost use Rattle.live_graph.specs.Tallying.{tallies_of};
-ghost use Rattle.live_graph.specs.Ending.{Ends};
+ghost use Rattle.live_graph.specs.Ending.{EndsShown};
 
 use crate::NoMemory;
 use crate::answer::Answer;
@@ -84,7 +84,7 @@ impl<P: Page<GraphRows>> SharedGraph<'_, P> {
     pub fn end(self) -> (P, Tallies)
         ensures page { P.means result.0 ≡ self.entry.page }
         ensures tallies { result.1 ≡ tallies_of self.entry }
-        ensures ends { Ends self.entry }
+        ensures ends { EndsShown self.entry }
     {
         let SharedGraph {
             grammar: _,

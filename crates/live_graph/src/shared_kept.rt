@@ -7,8 +7,8 @@ ghost use Rattle.isg_states.specs.Expansion.{AreMarks, IsScanCost};
 ghost use Rattle.graph_content.specs.Contents.{IsLogOfGrammar};
 ghost use Rattle.live_graph.specs.Asking.{Asks};
 ghost use Rattle.live_graph.specs.Sharing.{asked_with};
-ghost use Rattle.live_graph.specs.Showing.{IsLater};
-ghost use Rattle.live_graph.specs.Answers.{HoldsAnswers, StandsAnswer, Grows, origins, ExpandsKernel, ExpandsScan, kernel_key, scan_key};
+ghost use Rattle.live_graph.specs.Showing.{HasStepped};
+ghost use Rattle.live_graph.specs.Answers.{HoldsAnswers, StandsAnswer, AddsKey, origins, ExpandsKernel, ExpandsScan, kernel_key, scan_key};
 
 use crate::NoMemory;
 use crate::answer::Answer;
@@ -42,11 +42,11 @@ pub(crate) fn place_of_items<P: Page<GraphRows>, L: Ledger>(
     ensures stands { IfOk result (StandsAnswer (ExpandsKernel grammar.now.grammar) kept.new.entries kernel.now) }
     ensures asks { OnOk result (Asks (IsCost grammar.now.grammar.rules) (asked_with (origins kept.old.entries)) kernel.now
         (asked_with (origins kept.new.entries)) steps.old steps.new) }
-    ensures grows { OnOk result (Grows grammar.now.grammar kernel_key (P.means page.old) (P.means page.new) kernel.now kept.old.entries kept.new.entries) }
+    ensures grows { OnOk result (AddsKey grammar.now.grammar kernel_key (P.means page.old) (P.means page.new) kernel.now kept.old.entries kept.new.entries) }
     ensures holds { HoldsAnswers (ExpandsKernel grammar.now.grammar) kept.new.entries }
     ensures few { length kept.new.entries < 4294967296 }
     ensures refused { OnErr result (kept.new.entries ≡ kept.old.entries) }
-    ensures later { OnErr result (IsLater (P.means page.old) (P.means page.new)) }
+    ensures later { OnErr result (HasStepped (P.means page.old) (P.means page.new)) }
     ensures never_back { steps.old ≤ steps.new }
 {
     if let Some(place) = kept.get_index_of(kernel) {
@@ -78,11 +78,11 @@ pub(crate) fn place_of_scan<P: Page<GraphRows>, L: Ledger>(
     ensures stands { IfOk result (StandsAnswer (ExpandsScan grammar.now.grammar) kept.new.entries state.now) }
     ensures asks { OnOk result (Asks (IsScanCost grammar.now.grammar) (asked_with (origins kept.old.entries)) state.now
         (asked_with (origins kept.new.entries)) steps.old steps.new) }
-    ensures grows { OnOk result (Grows grammar.now.grammar scan_key (P.means page.old) (P.means page.new) state.now kept.old.entries kept.new.entries) }
+    ensures grows { OnOk result (AddsKey grammar.now.grammar scan_key (P.means page.old) (P.means page.new) state.now kept.old.entries kept.new.entries) }
     ensures holds { HoldsAnswers (ExpandsScan grammar.now.grammar) kept.new.entries }
     ensures few { length kept.new.entries < 4294967296 }
     ensures refused { OnErr result (kept.new.entries ≡ kept.old.entries) }
-    ensures later { OnErr result (IsLater (P.means page.old) (P.means page.new)) }
+    ensures later { OnErr result (HasStepped (P.means page.old) (P.means page.new)) }
     ensures never_back { steps.old ≤ steps.new }
 {
     if let Some(place) = kept.get_index_of(state) {

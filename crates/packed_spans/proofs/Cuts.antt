@@ -9,33 +9,33 @@ use Rattle.forest.specs.Orders.{split_cmp}
 use Rattle.packed_spans.specs.declared.table.SpanRow.{SpanRow}
 use Rattle.packed_spans.specs.declared.table.SplitRow.{SplitRow}
 use Rattle.packed_spans.specs.declared.table.TheConstants.{INLINE_PARTS}
-use Rattle.packed_spans.specs.Tables.{parts_of, IsLink}
-use Rattle.packed_spans.specs.Told.{end_at, ends_of, last_of, told, AreTold, AreSplitsOf}
+use Rattle.packed_spans.specs.Tables.{parts_in, IsSplitLink}
+use Rattle.packed_spans.specs.Told.{end_at, ends_of, last_end_of, told, AreSplitsTold, AreSplitsOf}
 use Rattle.packed_spans.proofs.Lists.{take_push}
 use Rattle.packed_spans.proofs.Links.{IsAlong, begins, of_span, cases}
 use Rattle.packed_spans.proofs.Orders.{no_splits_ascend, one_ascends}
 
 module _ (spans : List SpanRow) where
-  ends_push : (at : ℕ) (ps : List ℕ) (p : ℕ) → ends_of spans at (ps ++ p ∷ []) ≡ ends_of spans at ps ++ end_at spans (last_of spans at ps) p ∷ []
+  ends_push : (at : ℕ) (ps : List ℕ) (p : ℕ) → ends_of spans at (ps ++ p ∷ []) ≡ ends_of spans at ps ++ end_at spans (last_end_of spans at ps) p ∷ []
   ends_push at [] p = refl
   ends_push at (q ∷ ps) p = ap (λ zs. end_at spans at q ∷ zs) (ends_push (end_at spans at q) ps p)
 
-  last_push : (at : ℕ) (ps : List ℕ) (p : ℕ) → last_of spans at (ps ++ p ∷ []) ≡ end_at spans (last_of spans at ps) p
+  last_push : (at : ℕ) (ps : List ℕ) (p : ℕ) → last_end_of spans at (ps ++ p ∷ []) ≡ end_at spans (last_end_of spans at ps) p
   last_push at [] p = refl
   last_push at (q ∷ ps) p = last_push (end_at spans at q) ps p
 
   -- one more cut
   pub cuts_more : (from k p : ℕ) (ps : List ℕ) → slice_get ps k ≡ Some p
-      → (from ∷ ends_of spans from (take k ps)) ++ end_at spans (last_of spans from (take k ps)) p ∷ [] ≡ from ∷ ends_of spans from (take (k + 1) ps)
+      → (from ∷ ends_of spans from (take k ps)) ++ end_at spans (last_end_of spans from (take k ps)) p ∷ [] ≡ from ∷ ends_of spans from (take (k + 1) ps)
   cuts_more from k p ps e = ap (λ zs. from ∷ zs) (sym (ap (ends_of spans from) (take_push ps k p e) ∙ ends_push from (take k ps) p))
 
   pub last_more : (from k p : ℕ) (ps : List ℕ) → slice_get ps k ≡ Some p
-      → end_at spans (last_of spans from (take k ps)) p ≡ last_of spans from (take (k + 1) ps)
-  last_more from k p ps e = sym (ap (last_of spans from) (take_push ps k p e) ∙ last_push from (take k ps) p)
+      → end_at spans (last_end_of spans from (take k ps)) p ≡ last_end_of spans from (take (k + 1) ps)
+  last_more from k p ps e = sym (ap (last_end_of spans from) (take_push ps k p e) ∙ last_push from (take k ps) p)
 
 module _ (spans : List SpanRow) (splits : List SplitRow) (parts : List ℕ) (span from : ℕ) where
   -- at the newest split nothing is told yet
-  pub none_told : (link : ℕ) → IsLink splits span (length splits) link → AreTold spans splits parts span from link []
+  pub none_told : (link : ℕ) → IsSplitLink splits span (length splits) link → AreSplitsTold spans splits parts span from link []
   none_told link i = record {
     sound = λ s c. absurd (omega (arith, c.1));
     whole = λ k row over at of. absurd (i.above k row over (within k row at) at of);
@@ -46,8 +46,8 @@ module _ (spans : List SpanRow) (splits : List SplitRow) (parts : List ℕ) (spa
 
   -- one more split
   pub told_more : (link : ℕ) (row : SplitRow) (found : List Split) → IsAlong splits span link → 0 < link → slice_get splits (link - 1) ≡ Some row
-      → IsLink splits row.span (link - 1) row.older → AreTold spans splits parts span from link found
-      → AreTold spans splits parts span from row.older (found ++ told spans parts from row ∷ [])
+      → IsSplitLink splits row.span (link - 1) row.older → AreSplitsTold spans splits parts span from link found
+      → AreSplitsTold spans splits parts span from row.older (found ++ told spans parts from row ∷ [])
   told_more link row found a l e i t = record {
     sound = λ s c. elim (Contains-push_cases found (told spans parts from row) s c) [
       | inl d ↦ t.sound s d
@@ -62,25 +62,25 @@ module _ (spans : List SpanRow) (splits : List SplitRow) (parts : List ℕ) (spa
 
 module _ (spans : List SpanRow) (splits : List SplitRow) (parts : List ℕ) (span from : ℕ) where
   -- the splits of a span that has none
-  pub no_splits : (link : ℕ) → link ≡ 0 → IsLink splits span (length splits) link → AreSplitsOf spans splits parts span from []
+  pub no_splits : (link : ℕ) → link ≡ 0 → IsSplitLink splits span (length splits) link → AreSplitsOf spans splits parts span from []
   no_splits link zero i = record {
     order = no_splits_ascend;
-    exact = subst (λ k. AreTold spans splits parts span from k []) zero (none_told spans splits parts span from link i);
+    exact = subst (λ k. AreSplitsTold spans splits parts span from k []) zero (none_told spans splits parts span from link i);
   }
 
   -- the splits of a span that has one
-  pub one_split : (link : ℕ) (row : SplitRow) → 0 < link → IsLink splits span (length splits) link → slice_get splits (link - 1) ≡ Some row
-      → IsLink splits row.span (link - 1) row.older → row.older ≡ 0 → AreSplitsOf spans splits parts span from (told spans parts from row ∷ [])
+  pub one_split : (link : ℕ) (row : SplitRow) → 0 < link → IsSplitLink splits span (length splits) link → slice_get splits (link - 1) ≡ Some row
+      → IsSplitLink splits row.span (link - 1) row.older → row.older ≡ 0 → AreSplitsOf spans splits parts span from (told spans parts from row ∷ [])
   one_split link row l i e o zero =
       let along : IsAlong splits span link = begins splits span (length splits) link (omega arith) i in
       record {
         order = one_ascends (told spans parts from row);
-        exact = subst (λ k. AreTold spans splits parts span from k (told spans parts from row ∷ [])) zero
+        exact = subst (λ k. AreSplitsTold spans splits parts span from k (told spans parts from row ∷ [])) zero
             (told_more spans splits parts span from link row [] along l e o (none_told spans splits parts span from link i));
       }
 
   -- the same splits in order
-  pub in_order : (found sorted : List Split) → AreTold spans splits parts span from 0 found → IsStrictlySortedBy split_cmp sorted
+  pub in_order : (found sorted : List Split) → AreSplitsTold spans splits parts span from 0 found → IsStrictlySortedBy split_cmp sorted
       → ((split : Split) → Contains sorted split ↔ Contains found split) → AreSplitsOf spans splits parts span from sorted
   in_order found sorted t order same = record {
     order = order;
@@ -88,7 +88,7 @@ module _ (spans : List SpanRow) (splits : List SplitRow) (parts : List ℕ) (spa
   }
 
 -- a row has no more parts than its length
-pub few_parts : (parts : List ℕ) (row : SplitRow) → length (parts_of parts row) ≤ row.length
+pub few_parts : (parts : List ℕ) (row : SplitRow) → length (parts_in parts row) ≤ row.length
 few_parts parts row = by (nat_le row.length INLINE_PARTS)
   where
     by : (few : Bool) → length (cond few (take row.length (row.first ∷ row.second ∷ [])) (take row.length (drop row.first parts))) ≤ row.length

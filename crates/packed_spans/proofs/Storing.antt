@@ -11,13 +11,13 @@ use Rattle.packed_spans.specs.declared.table.SpanRow.{SpanRow}
 use Rattle.packed_spans.specs.declared.table.SplitRow.{SplitRow}
 use Rattle.packed_spans.specs.declared.table.TheConstants.{INLINE_PARTS}
 use Rattle.packed_spans.specs.Packed.{PackedSplit, ArePartsOf}
-use Rattle.packed_spans.specs.Tables.{parts_of, split_of, span_of, IsLink, IsStored, IsTable, IsRowOf}
+use Rattle.packed_spans.specs.Tables.{parts_in, row_split, row_span, IsSplitLink, IsStored, IsTable, IsSplitRowOf}
 use Rattle.packed_spans.proofs.Lists.{one_at, at_push, at_set, at_other, map_kept, map_same}
 
 -- ---- parts behind the others
 
 pub parts_kept : (parts more : List ℕ) (row : SplitRow) → (INLINE_PARTS < row.length → row.first + row.length ≤ length parts)
-    → parts_of (parts ++ more) row ≡ parts_of parts row
+    → parts_in (parts ++ more) row ≡ parts_in parts row
 parts_kept parts more row room = by (nat_le row.length INLINE_PARTS) refl
   where
     by : (few : Bool) → nat_le row.length INLINE_PARTS ≡ few
@@ -33,7 +33,7 @@ parts_kept parts more row room = by (nat_le row.length INLINE_PARTS) refl
 stored_kept : (spans : List SpanRow) (parts more : List ℕ) (row : SplitRow) → IsStored spans parts row → IsStored spans (parts ++ more) row
 stored_kept spans parts more row s = record {
   room = λ many. let there : row.first + row.length ≤ length parts = s.room many in omega (arith, length-append parts more);
-  are_parts = subst (ArePartsOf (map span_of spans)) (sym (parts_kept parts more row s.room)) s.are_parts;
+  are_parts = subst (ArePartsOf (map row_span spans)) (sym (parts_kept parts more row s.room)) s.are_parts;
   known = s.known;
 }
 
@@ -46,8 +46,8 @@ table_grows spans splits parts more t = record {
 }
 
 pub splits_kept : (spans : List SpanRow) (splits : List SplitRow) (parts more : List ℕ) → IsTable spans splits parts
-    → map (split_of (parts ++ more)) splits ≡ map (split_of parts) splits
-splits_kept spans splits parts more t = map_same (split_of (parts ++ more)) (split_of parts) splits
+    → map (row_split (parts ++ more)) splits ≡ map (row_split parts) splits
+splits_kept spans splits parts more t = map_same (row_split (parts ++ more)) (row_split parts) splits
     (λ k row e. ap (λ ps. let s : PackedSplit = record { span = row.span; rule = row.rule; parts = ps } in s)
     (parts_kept parts more row (t.stored k row e).room))
 
@@ -59,7 +59,7 @@ stored_wider spans parts added row s = record {
   room = s.room;
   are_parts = λ part c. elim (s.are_parts part c) [
     | inl e ↦ inl e
-    | inr l ↦ inr (omega (arith, length-map spans span_of, length-map (spans ++ added ∷ []) span_of, length_push spans added))
+    | inr l ↦ inr (omega (arith, length-map spans row_span, length-map (spans ++ added ∷ []) row_span, length_push spans added))
   ];
   known = omega (arith, s.known, length_push spans added);
 }
@@ -72,7 +72,7 @@ span_added spans splits parts span room t =
       few = omega (arith, length_push spans added);
       newest = λ n row e. elim (at_push spans added n row e) [
         | inl was ↦ t.newest n row was
-        | inr (end, is) ↦ subst (λ (r : SpanRow). IsLink splits n (length splits) r.newest) is (record {
+        | inr (end, is) ↦ subst (λ (r : SpanRow). IsSplitLink splits n (length splits) r.newest) is (record {
           low = omega arith;
           above = λ k r low high at of. let known = (t.stored k r at).known in absurd (omega arith);
           here = λ k r one at. absurd (omega arith);
@@ -84,8 +84,8 @@ span_added spans splits parts span room t =
 
 -- ---- one more split
 
-link_kept : (splits : List SplitRow) (added : SplitRow) (span limit link : ℕ) → limit ≤ length splits → IsLink splits span limit link
-    → IsLink (splits ++ added ∷ []) span limit link
+link_kept : (splits : List SplitRow) (added : SplitRow) (span limit link : ℕ) → limit ≤ length splits → IsSplitLink splits span limit link
+    → IsSplitLink (splits ++ added ∷ []) span limit link
 link_kept splits added span limit link within i = record {
   low = i.low;
   above = λ k row over under at of. elim (at_push splits added k row at) [
@@ -95,8 +95,8 @@ link_kept splits added span limit link within i = record {
   here = λ k row one at. elim (at_push splits added k row at) [ inl was ↦ i.here k row one was | inr (end, is) ↦ absurd (omega (arith, i.low)) ];
 }
 
-link_passes : (splits : List SplitRow) (added : SplitRow) (span link : ℕ) → (added.span ≡ span → ⊥) → IsLink splits span (length splits) link
-    → IsLink (splits ++ added ∷ []) span (length (splits ++ added ∷ [])) link
+link_passes : (splits : List SplitRow) (added : SplitRow) (span link : ℕ) → (added.span ≡ span → ⊥) → IsSplitLink splits span (length splits) link
+    → IsSplitLink (splits ++ added ∷ []) span (length (splits ++ added ∷ [])) link
 link_passes splits added span link other i = record {
   low = omega (arith, i.low, length_push splits added);
   above = λ k row over under at of. elim (at_push splits added k row at) [
@@ -107,7 +107,7 @@ link_passes splits added span link other i = record {
 }
 
 link_newest : (splits : List SplitRow) (added : SplitRow)
-    → IsLink (splits ++ added ∷ []) added.span (length (splits ++ added ∷ [])) (length splits + 1)
+    → IsSplitLink (splits ++ added ∷ []) added.span (length (splits ++ added ∷ [])) (length splits + 1)
 link_newest splits added = record {
   low = omega (arith, length_push splits added);
   above = λ k row over under at of. absurd (omega (arith, length_push splits added));
@@ -117,46 +117,46 @@ link_newest splits added = record {
   ];
 }
 
-stored_same : (spans after : List SpanRow) (parts : List ℕ) (row : SplitRow) → length after ≡ length spans → map span_of after ≡ map span_of spans
+stored_same : (spans after : List SpanRow) (parts : List ℕ) (row : SplitRow) → length after ≡ length spans → map row_span after ≡ map row_span spans
     → IsStored spans parts row → IsStored after parts row
 stored_same spans after parts row size same s = record {
   room = s.room;
-  are_parts = subst (λ ss. ArePartsOf ss (parts_of parts row)) (sym same) s.are_parts;
+  are_parts = subst (λ ss. ArePartsOf ss (parts_in parts row)) (sym same) s.are_parts;
   known = omega (arith, s.known);
 }
 
 module _ (spans : List SpanRow) (splits : List SplitRow) (parts : List ℕ) (t : IsTable spans splits parts) (row : SplitRow) (was now : SpanRow)
     (at : slice_get spans row.span ≡ Some was) (span : now.span ≡ was.span) (link : now.newest ≡ length splits + 1) (older : row.older ≡ was.newest)
     (stored : IsStored spans parts row) where
-  pub spans_stay : map span_of (set spans row.span now) ≡ map span_of spans
-  spans_stay = map_kept span_of spans row.span was now at span
+  pub spans_stay : map row_span (set spans row.span now) ≡ map row_span spans
+  spans_stay = map_kept row_span spans row.span was now at span
 
   newest_after : (n : ℕ) (r : SpanRow) → slice_get (set spans row.span now) n ≡ Some r
-      → IsLink (splits ++ row ∷ []) n (length (splits ++ row ∷ [])) r.newest
+      → IsSplitLink (splits ++ row ∷ []) n (length (splits ++ row ∷ [])) r.newest
   newest_after n r e = elim (cases_eq n row.span) [
     | inl same ↦
         let here : slice_get (set spans row.span now) row.span ≡ Some now = at_set spans row.span now (slice_get_within spans row.span was at) in
         let is : now ≡ r = one_at (set spans row.span now) row.span now r here (subst (λ k. slice_get (set spans row.span now) k ≡ Some r) same e) in
         let link_is : r.newest ≡ length splits + 1 = ap (λ (q : SpanRow). q.newest) (sym is) ∙ link in
-        subst (λ k. IsLink (splits ++ row ∷ []) k (length (splits ++ row ∷ [])) r.newest) (sym same)
-        (subst (IsLink (splits ++ row ∷ []) row.span (length (splits ++ row ∷ []))) (sym link_is) (link_newest splits row))
+        subst (λ k. IsSplitLink (splits ++ row ∷ []) k (length (splits ++ row ∷ [])) r.newest) (sym same)
+        (subst (IsSplitLink (splits ++ row ∷ []) row.span (length (splits ++ row ∷ []))) (sym link_is) (link_newest splits row))
     | inr other ↦
         let before : slice_get spans n ≡ Some r = sym (at_other spans row.span n now other) ∙ e in
         link_passes splits row n r.newest (λ f. other (sym f)) (t.newest n r before)
   ]
 
-  older_after : (k : ℕ) (r : SplitRow) → slice_get (splits ++ row ∷ []) k ≡ Some r → IsLink (splits ++ row ∷ []) r.span k r.older
+  older_after : (k : ℕ) (r : SplitRow) → slice_get (splits ++ row ∷ []) k ≡ Some r → IsSplitLink (splits ++ row ∷ []) r.span k r.older
   older_after k r e = elim (at_push splits row k r e) [
     | inl before ↦
         let within = slice_get_within splits k r before in
         link_kept splits row r.span k r.older (omega arith) (t.older k r before)
     | inr (end, is) ↦
-        let kept : IsLink (splits ++ row ∷ []) row.span (length splits) was.newest =
+        let kept : IsSplitLink (splits ++ row ∷ []) row.span (length splits) was.newest =
         link_kept splits row row.span (length splits) was.newest (omega arith) (t.newest row.span was at) in
-        let linked : IsLink (splits ++ row ∷ []) row.span (length splits) row.older =
-        subst (IsLink (splits ++ row ∷ []) row.span (length splits)) (sym older) kept in
-        subst (λ (q : SplitRow). IsLink (splits ++ row ∷ []) q.span k q.older) is
-        (subst (λ n. IsLink (splits ++ row ∷ []) row.span n row.older) (sym end) linked)
+        let linked : IsSplitLink (splits ++ row ∷ []) row.span (length splits) row.older =
+        subst (IsSplitLink (splits ++ row ∷ []) row.span (length splits)) (sym older) kept in
+        subst (λ (q : SplitRow). IsSplitLink (splits ++ row ∷ []) q.span k q.older) is
+        (subst (λ n. IsSplitLink (splits ++ row ∷ []) row.span n row.older) (sym end) linked)
   ]
 
   pub split_added : IsTable (set spans row.span now) (splits ++ row ∷ []) parts
@@ -178,25 +178,25 @@ module _ (spans : List SpanRow) (splits : List SplitRow) (parts after more : Lis
   pub table_after : IsTable spans splits after
   table_after = subst (IsTable spans splits) (sym grown) (table_grows spans splits parts more t)
 
-  pub splits_stay : map (split_of after) splits ≡ map (split_of parts) splits
-  splits_stay = ap (λ ps. map (split_of ps) splits) grown ∙ splits_kept spans splits parts more t
+  pub splits_stay : map (row_split after) splits ≡ map (row_split parts) splits
+  splits_stay = ap (λ ps. map (row_split ps) splits) grown ∙ splits_kept spans splits parts more t
 
-  module _ (span : ℕ) (rule : RuleId) (older : ℕ) (given : List ℕ) (row : SplitRow) (r : IsRowOf span rule older given after row) where
+  module _ (span : ℕ) (rule : RuleId) (older : ℕ) (given : List ℕ) (row : SplitRow) (r : IsSplitRowOf span rule older given after row) where
     pub row_added : (was now : SpanRow) → slice_get spans span ≡ Some was → older ≡ was.newest → now.span ≡ was.span → now.newest ≡ length splits + 1
-        → ArePartsOf (map span_of spans) given → IsTable (set spans span now) (splits ++ row ∷ []) after
+        → ArePartsOf (map row_span spans) given → IsTable (set spans span now) (splits ++ row ∷ []) after
     row_added was now at older_is span_is link_is are =
         let there : slice_get spans row.span ≡ Some was = ap (slice_get spans) r.of ∙ at in
         let known : row.span < length spans = slice_get_within spans row.span was there in
         let stored : IsStored spans after row =
-        record { room = r.room; are_parts = subst (ArePartsOf (map span_of spans)) (sym r.same) are; known = known } in
+        record { room = r.room; are_parts = subst (ArePartsOf (map row_span spans)) (sym r.same) are; known = known } in
         subst (λ n. IsTable (set spans n now) (splits ++ row ∷ []) after) r.of
         (split_added spans splits after table_after row was now there span_is link_is (r.link ∙ older_is) stored)
 
-    pub splits_after : map (split_of after) (splits ++ row ∷ [])
-        ≡ map (split_of parts) splits ++ (let s : PackedSplit = record { span = span; rule = rule; parts = given } in s) ∷ []
+    pub splits_after : map (row_split after) (splits ++ row ∷ [])
+        ≡ map (row_split parts) splits ++ (let s : PackedSplit = record { span = span; rule = rule; parts = given } in s) ∷ []
     splits_after =
-        let one : split_of after row ≡ (let s : PackedSplit = record { span = span; rule = rule; parts = given } in s) =
-        ap (λ n. let s : PackedSplit = record { span = n; rule = row.rule; parts = parts_of after row } in s) r.of ∙ ap
-        (λ k. let s : PackedSplit = record { span = span; rule = k; parts = parts_of after row } in s) r.by ∙ ap
+        let one : row_split after row ≡ (let s : PackedSplit = record { span = span; rule = rule; parts = given } in s) =
+        ap (λ n. let s : PackedSplit = record { span = n; rule = row.rule; parts = parts_in after row } in s) r.of ∙ ap
+        (λ k. let s : PackedSplit = record { span = span; rule = k; parts = parts_in after row } in s) r.by ∙ ap
         (λ ps. let s : PackedSplit = record { span = span; rule = rule; parts = ps } in s) r.same in
-        map_push (split_of after) splits row ∙ ap (λ ss. ss ++ split_of after row ∷ []) splits_stay ∙ ap (λ s. map (split_of parts) splits ++ s ∷ []) one
+        map_push (row_split after) splits row ∙ ap (λ ss. ss ++ row_split after row ∷ []) splits_stay ∙ ap (λ s. map (row_split parts) splits ++ s ∷ []) one

@@ -5,7 +5,7 @@ use Rattle.std.proofs.lemmas.Bool.{cases_eq}
 use Rattle.std.proofs.lemmas.List.{length-set, take_all, length-replicate, get_or-replicate}
 use Rattle.std.proofs.lemmas.Option.{slice_get_within, get_or_from_slice_get}
 use Rattle.packed_spans.specs.declared.table.SplitRow.{SplitRow}
-use Rattle.packed_spans.specs.Marks.{IsBelow, Reaches, itself, below, IsMarked, MarksExactly, IsSwept, AreReached}
+use Rattle.packed_spans.specs.Marks.{IsPartBelow, Reaches, itself, below, IsMarked, MarksExactly, IsSwept, MarksReached}
 use Rattle.packed_spans.proofs.Lists.{at_set, at_other}
 
 none_is_marked : (count n : ℕ) → IsMarked (replicate count false) n → ⊥
@@ -59,7 +59,7 @@ module _ (splits : List SplitRow) (parts : List ℕ) (root : ℕ) where
 
   -- the parts of one that waited are marked
   pub settled_more : (x limit : ℕ) (marked after : List Bool) (waiting behind : List ℕ) (Waits : ℕ → Type 0) → IsSwept splits parts root limit marked Waits
-      → IsMarked marked x → MarksExactly (IsBelow splits parts x 0) limit marked waiting after behind
+      → IsMarked marked x → MarksExactly (IsPartBelow splits parts x 0) limit marked waiting after behind
       → ((n : ℕ) → Waits n → (n ≡ x) ⊎ Contains waiting n) → IsSwept splits parts root limit after (Contains behind)
   settled_more x limit marked after waiting behind Waits s here m cover = record {
     sound = λ n a. elim (m.only n a) [ inl was ↦ s.sound n was | inr b ↦ below (s.sound x here) b ];
@@ -69,7 +69,7 @@ module _ (splits : List SplitRow) (parts : List ℕ) (root : ℕ) where
       | inl was ↦ elim (s.settled n low was) [
         | inr all ↦ inr (λ k b. m.keeps k (all k b))
         | inl w ↦ elim (cover n w) [
-          | inl e ↦ inr (λ k b. m.whole k (subst (λ y. IsBelow splits parts y 0 k) e b))
+          | inl e ↦ inr (λ k b. m.whole k (subst (λ y. IsPartBelow splits parts y 0 k) e b))
           | inr c ↦ inl (m.stays n c)
         ]
       ]
@@ -85,7 +85,7 @@ module _ (splits : List SplitRow) (parts : List ℕ) (root : ℕ) where
     settled = λ n low m. elim (s.settled n low m) [ inl c ↦ absurd (omega (arith, c.1)) | inr all ↦ inr all ];
   }
 
-  pub sweep_ends : (marked : List Bool) → IsSwept splits parts root 0 marked (λ n. ⊥) → AreReached splits parts root marked
+  pub sweep_ends : (marked : List Bool) → IsSwept splits parts root 0 marked (λ n. ⊥) → MarksReached splits parts root marked
   sweep_ends marked s = record { sound = s.sound; whole = λ n r. all r }
     where
       all : {n : ℕ} → Reaches splits parts root n → IsMarked marked n

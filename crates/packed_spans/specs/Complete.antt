@@ -21,7 +21,7 @@ pub data StandsAlong (rules : List Rule) (tokens : List SymbolId) (spans : List 
       → StandsAlong rules tokens spans xs k parts cuts j → StandsAlong rules tokens spans (x ∷ xs) i (part ∷ parts) (k ∷ cuts) j
 
 -- the split is the rule with its parts ending at the cuts, from the span's start to its end
-pub record Tells (rules : List Rule) (tokens : List SymbolId) (spans : List Span) (rule : Rule) (cuts : List ℕ) (split : PackedSplit) : Type 0 where
+pub record TellsSplit (rules : List Rule) (tokens : List SymbolId) (spans : List Span) (rule : Rule) (cuts : List ℕ) (split : PackedSplit) : Type 0 where
   pub span : Span
   pub at : slice_get spans split.span ≡ Some span
   pub number : rule.number ≡ split.rule
@@ -38,7 +38,7 @@ pub record IsComplete (rules : List Rule) (tokens : List SymbolId) (packed : Pac
   pub derived : (n : ℕ) (span : Span) → slice_get packed.spans n ≡ Some span → Derives rules tokens span.symbol span.from span.to
   pub different : AreDifferent packed.spans
   pub sound : (split : PackedSplit) → Contains packed.splits split
-      → (rule : Rule) × Contains rules rule × ((cuts : List ℕ) × Tells rules tokens packed.spans rule cuts split)
+      → (rule : Rule) × Contains rules rule × ((cuts : List ℕ) × TellsSplit rules tokens packed.spans rule cuts split)
   pub whole : (n : ℕ) (span : Span) → slice_get packed.spans n ≡ Some span → (rule : Rule) → Contains rules rule → rule.left ≡ span.symbol
       → (cuts : List ℕ) → DerivesAlong rules tokens rule.right span.from cuts span.to
-      → (split : PackedSplit) × Contains packed.splits split × (split.span ≡ n) × Tells rules tokens packed.spans rule cuts split
+      → (split : PackedSplit) × Contains packed.splits split × (split.span ≡ n) × TellsSplit rules tokens packed.spans rule cuts split

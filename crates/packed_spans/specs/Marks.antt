@@ -3,28 +3,28 @@ use Rattle.std.specs.Prelude.{◌≡◌, ℕ, ◌+◌, ◌<◌, ◌≤◌, ◌�
 use Rattle.std.specs.List.{count_by}
 use Rattle.packed_spans.specs.declared.span.TheConstants.{TOKEN_PART}
 use Rattle.packed_spans.specs.declared.table.SplitRow.{SplitRow}
-use Rattle.packed_spans.specs.Tables.{parts_of}
+use Rattle.packed_spans.specs.Tables.{parts_in}
 
 -- a span that is among the first parts of the row
-pub record IsPartSpan (parts : List ℕ) (row : SplitRow) (below n : ℕ) : Type 0 where
+pub record IsPartNumber (parts : List ℕ) (row : SplitRow) (below n : ℕ) : Type 0 where
   pub place : ℕ
   pub first : place < below
-  pub at : slice_get (parts_of parts row) place ≡ Some n
+  pub at : slice_get (parts_in parts row) place ≡ Some n
   pub no_token : n ≡ TOKEN_PART → ⊥
 
 -- a span that is a part of a split of the span, but for splits below the link
-pub record IsBelow (splits : List SplitRow) (parts : List ℕ) (span link n : ℕ) : Type 0 where
+pub record IsPartBelow (splits : List SplitRow) (parts : List ℕ) (span link n : ℕ) : Type 0 where
   pub number : ℕ
   pub row : SplitRow
   pub later : link ≤ number
   pub at : slice_get splits number ≡ Some row
   pub of : row.span ≡ span
-  pub part : IsPartSpan parts row row.length n
+  pub part : IsPartNumber parts row row.length n
 
 -- the root, and the parts of what is reached
 pub data Reaches (splits : List SplitRow) (parts : List ℕ) (root : ℕ) : ℕ → Type 0 where
   itself : Reaches splits parts root root
-  below : {span n : ℕ} → Reaches splits parts root span → IsBelow splits parts span 0 n → Reaches splits parts root n
+  below : {span n : ℕ} → Reaches splits parts root span → IsPartBelow splits parts span 0 n → Reaches splits parts root n
 
 abbrev pub IsMarked : List Bool → ℕ → Type 0
 IsMarked marked n = slice_get marked n ≡ Some true
@@ -48,9 +48,9 @@ pub record MarksExactly (Part : ℕ → Type 0) (limit : ℕ) (marked : List Boo
 pub record IsSwept (splits : List SplitRow) (parts : List ℕ) (root limit : ℕ) (marked : List Bool) (Waits : ℕ → Type 0) : Type 0 where
   pub sound : (n : ℕ) → IsMarked marked n → Reaches splits parts root n
   pub start : IsMarked marked root
-  pub settled : (n : ℕ) → limit ≤ n → IsMarked marked n → Waits n ⊎ ((m : ℕ) → IsBelow splits parts n 0 m → IsMarked marked m)
+  pub settled : (n : ℕ) → limit ≤ n → IsMarked marked n → Waits n ⊎ ((m : ℕ) → IsPartBelow splits parts n 0 m → IsMarked marked m)
 
 -- exactly what the root reaches is marked
-pub record AreReached (splits : List SplitRow) (parts : List ℕ) (root : ℕ) (marked : List Bool) : Type 0 where
+pub record MarksReached (splits : List SplitRow) (parts : List ℕ) (root : ℕ) (marked : List Bool) : Type 0 where
   pub sound : (n : ℕ) → IsMarked marked n → Reaches splits parts root n
   pub whole : (n : ℕ) → Reaches splits parts root n → IsMarked marked n

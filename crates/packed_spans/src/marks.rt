@@ -3,7 +3,7 @@
 ghost use Rattle.std.specs.Prelude.{◌≡◌, ◌+◌, ◌<◌, ◌⊎◌, ℕ, [], Contains, OnOk, Some, slice_get, length};
 ghost use Rattle.packed_spans.specs.declared.span.TheConstants.{TOKEN_PART};
 ghost use Rattle.packed_spans.specs.Tables.{IsTable, IsStored};
-ghost use Rattle.packed_spans.specs.Marks.{IsPartSpan, IsBelow, IsMarked, MarksExactly, IsSwept, AreReached};
+ghost use Rattle.packed_spans.specs.Marks.{IsPartNumber, IsPartBelow, IsMarked, MarksExactly, IsSwept, MarksReached};
 
 use crate::span::TOKEN_PART;
 use crate::table::{INLINE_PARTS, SplitRow, Table};
@@ -60,7 +60,7 @@ fn mark_part(part: u32, limit: u32, marks: &mut Marks) -> Result<(), NoMemory>
 fn mark_parts(table: &Table, row: SplitRow, limit: u32, marks: &mut Marks) -> Result<(), NoMemory>
     requires stored { IsStored table.now.spans.items table.now.parts.items row }
     requires size { length marks.old.marked.items ≡ length table.now.spans.items }
-    ensures { OnOk result (MarksExactly (IsPartSpan table.now.parts.items row row.length) limit marks.old.marked.items marks.old.waiting.items
+    ensures { OnOk result (MarksExactly (IsPartNumber table.now.parts.items row row.length) limit marks.old.marked.items marks.old.waiting.items
         marks.new.marked.items marks.new.waiting.items) }
 {
     if row.length == INLINE_PARTS {
@@ -79,7 +79,7 @@ fn mark_below(table: &Table, number: u32, limit: u32, marks: &mut Marks) -> Resu
     requires table { IsTable table.now.spans.items table.now.splits.items table.now.parts.items }
     requires number { number < length table.now.spans.items }
     requires size { length marks.old.marked.items ≡ length table.now.spans.items }
-    ensures { OnOk result (MarksExactly (IsBelow table.now.splits.items table.now.parts.items number 0) limit
+    ensures { OnOk result (MarksExactly (IsPartBelow table.now.splits.items table.now.parts.items number 0) limit
         marks.old.marked.items marks.old.waiting.items marks.new.marked.items marks.new.waiting.items) }
 {
     let mut link = table.spans[number as usize].newest;
@@ -118,7 +118,7 @@ pub(crate) fn mark_reached(table: &Table, root: u32, marks: &mut Marks) -> Resul
     requires table { IsTable table.now.spans.items table.now.splits.items table.now.parts.items }
     requires root { root < length table.now.spans.items }
     ensures size { OnOk result (length marks.new.marked.items ≡ length table.now.spans.items) }
-    ensures reached { OnOk result (AreReached table.now.splits.items table.now.parts.items root marks.new.marked.items) }
+    ensures reached { OnOk result (MarksReached table.now.splits.items table.now.parts.items root marks.new.marked.items) }
 {
     marks.waiting.clear();
     marks.marked.clear();

@@ -5,7 +5,7 @@ ghost use Rattle.std.specs.List.Sorted.{IsStrictlySortedBy};
 ghost use Rattle.forest.specs.Orders.{node_cmp};
 ghost use Rattle.packed_spans.specs.declared.headers.Header.{Header};
 ghost use Rattle.packed_spans.specs.Complete.{AreDifferent};
-ghost use Rattle.packed_spans.specs.Tables.{IsTable, span_of};
+ghost use Rattle.packed_spans.specs.Tables.{IsTable, row_span};
 ghost use Rattle.packed_spans.specs.Nodes.{IsNodeFor, AreNodesFor, AreNodesOf};
 
 use crate::headers::{Header, headers_of};
@@ -47,7 +47,7 @@ fn nodes_for(alloc: Global, table: &Table, headers: &[Header]) -> Result<Vec<Nod
 /// The nodes of the marked spans, in order.
 pub(crate) fn nodes_of(alloc: Global, table: &Table, marks: &Marks) -> Result<Vec<Node>, NoMemory>
     requires table { IsTable table.now.spans.items table.now.splits.items table.now.parts.items }
-    requires different { AreDifferent (map span_of table.now.spans.items) }
+    requires different { AreDifferent (map row_span table.now.spans.items) }
     requires size { length marks.now.marked.items ≡ length table.now.spans.items }
     ensures order { IfOk result (λ nodes. IsStrictlySortedBy node_cmp nodes.items) }
     ensures nodes { IfOk result (λ nodes. AreNodesOf table.now.spans.items table.now.splits.items table.now.parts.items marks.now.marked.items 0 nodes.items) }

@@ -1,7 +1,7 @@
 //! The lists in which spans and splits lie.
 
 ghost use Rattle.std.specs.Prelude.{◌≡◌, ◌<◌, ◌++◌, ℕ, List, IfOk, OnOk, OnErr, Some, slice_get, length};
-ghost use Rattle.packed_spans.specs.Tables.{parts_of, IsStored, IsRowOf};
+ghost use Rattle.packed_spans.specs.Tables.{parts_in, IsStored, IsSplitRowOf};
 
 use crate::span::{Span, TOKEN_PART};
 use forest::{NoMemory, RuleId};
@@ -45,7 +45,7 @@ impl Table {
     pub(crate) fn part(&self, row: &SplitRow, index: u32) -> u32
         requires stored { IsStored self.now.spans.items self.now.parts.items row.now }
         requires index { index < row.now.length }
-        ensures { slice_get (parts_of self.now.parts.items row.now) index ≡ Some result }
+        ensures { slice_get (parts_in self.now.parts.items row.now) index ≡ Some result }
     {
         if row.length > INLINE_PARTS {
             return self.parts[row.first as usize + index as usize];
@@ -77,7 +77,7 @@ pub(crate) fn row_for(
     older: u32,
     parts: &[u32],
 ) -> Result<SplitRow, NoMemory>
-    ensures row { IfOk result (IsRowOf span rule older parts.now list.new.items) }
+    ensures row { IfOk result (IsSplitRowOf span rule older parts.now list.new.items) }
     ensures grows { OnOk result ((more : List ℕ) × (list.new.items ≡ list.old.items ++ more)) }
     ensures refused { OnErr result (list.new.items ≡ list.old.items) }
 {

@@ -4,11 +4,11 @@ use Rattle.std.proofs.lemmas.Bool.{cases_lt}
 use Rattle.std.proofs.lemmas.List.Elements.{Contains-push, Contains-push_cases, Contains-append_left}
 use Rattle.std.proofs.lemmas.Option.{slice_get_within, slice_get_cases}
 use Rattle.item_sets.specs.declared.item.Item.{Item}
-use Rattle.live_graph.specs.Meaning.{Meaning}
+use Rattle.live_graph.specs.Meaning.{GraphMeaning}
 use Rattle.live_graph.specs.Asking.{Joins, AsksKernel}
 use Rattle.live_graph.proofs.Rises.{kernel_rises, rise_none, rise_join}
-use Rattle.parser_states.specs.Leads.{KeepsNumbers}
-use Rattle.parser_states.specs.Asked.{Stands, AsksNew}
+use Rattle.forest.specs.Numbers.{KeepsNumbers}
+use Rattle.parser_states.specs.Asked.{StandsButKernels, AsksNew}
 use Rattle.parser_states.proofs.PlainParts.{push_cases, last_at}
 
 module _ {Key : Type 0} (old : List Key) (key : Key) (new : List Key) (joins : Joins old key new) where
@@ -32,7 +32,7 @@ module _ {Key : Type 0} (old : List Key) (key : Key) (new : List Key) (joins : J
 
 module _ {Base : Type 0} where
   -- no state is new, and the graph was not asked
-  pub asks_none : (states : List (List Item)) (graph : Meaning Base) (steps : ℕ) → AsksNew states states graph graph steps steps
+  pub asks_none : (states : List (List Item)) (graph : GraphMeaning Base) (steps : ℕ) → AsksNew states states graph graph steps steps
   asks_none states graph steps = record {
     kept = λ kernel has. has;
     asked = λ kernel (number, past, at). absurd (omega (arith, past, slice_get_within states number kernel at));
@@ -41,7 +41,7 @@ module _ {Base : Type 0} where
   }
 
   -- one state is new, and the graph was asked for it
-  pub asks_one : (old new : List (List Item)) (kernel : List Item) (graph graph' : Meaning Base) (before after : ℕ) → new ≡ old ++ kernel ∷ []
+  pub asks_one : (old new : List (List Item)) (kernel : List Item) (graph graph' : GraphMeaning Base) (before after : ℕ) → new ≡ old ++ kernel ∷ []
       → AsksKernel graph kernel graph' before after → AsksNew old new graph graph' before after
   asks_one old new kernel graph graph' before after is asks = record {
     kept = joined_kept graph.kernels.keys kernel graph'.kernels.keys asks.asks.joins;
@@ -57,7 +57,7 @@ module _ {Base : Type 0} where
   }
 
   -- two calls, one after the other
-  pub asks_join : (old middle new : List (List Item)) (first second third : Meaning Base) (before between after : ℕ) → KeepsNumbers old middle
+  pub asks_join : (old middle new : List (List Item)) (first second third : GraphMeaning Base) (before between after : ℕ) → KeepsNumbers old middle
       → KeepsNumbers middle new → AsksNew old middle first second before between → AsksNew middle new second third between after
       → AsksNew old new first third before after
   asks_join old middle new first second third before between after keeps keeps' one two = record {
@@ -87,10 +87,10 @@ module _ {Base : Type 0} where
         | inr more ↦ more
       ]
 
-  pub stands_same : (graph : Meaning Base) → Stands graph graph
+  pub stands_same : (graph : GraphMeaning Base) → StandsButKernels graph graph
   stands_same graph = record { grammar = refl; base = refl; scans = refl }
 
-  pub stands_join : (first second third : Meaning Base) → Stands first second → Stands second third → Stands first third
+  pub stands_join : (first second third : GraphMeaning Base) → StandsButKernels first second → StandsButKernels second third → StandsButKernels first third
   stands_join first second third one two = record {
     grammar = two.grammar ∙ one.grammar;
     base = two.base ∙ one.base;

@@ -14,8 +14,8 @@ use Rattle.parser_states.specs.declared.rows.Row.{Row}
 use Rattle.parser_states.specs.Parts.{part_of}
 use Rattle.parser_states.specs.Known.{Known}
 use Rattle.parser_states.specs.Moves.{KeepsMoves}
-use Rattle.parser_states.specs.Leads.{KeepsNumbers}
-use Rattle.parser_states.specs.Rows.{IsRow, IsRowOf, IsCopied, IsShaped, IsRowWithin, AreTold}
+use Rattle.forest.specs.Numbers.{KeepsNumbers}
+use Rattle.parser_states.specs.Rows.{IsExpansionRow, IsNewRowOf, IsCopied, IsShaped, IsRowWithin, KeepsExpansions}
 use Rattle.std.proofs.Math.ListN.{length-set}
 use Rattle.parser_states.specs.declared.rows.Part.{Part}
 use Rattle.parser_states.proofs.Lists.{set_cases}
@@ -24,7 +24,7 @@ use Rattle.parser_states.proofs.RowsKept.{keeps_added, row_kept, row_within, mov
 use Rattle.parser_states.proofs.NewRows.{new_row}
 
 -- what is told has the shape that look-ups need
-pub shape_told : (rules : List Rule) (states : Known) → AreTold rules states → IsShaped states
+pub shape_told : (rules : List Rule) (states : Known) → KeepsExpansions rules states → IsShaped states
 shape_told rules states are = record {
   rows = omega (arith, are.size);
   within = λ number row at. elim (slice_get_cases states.kernels number).1 [
@@ -57,11 +57,11 @@ shape_push old new row kernels rows moves reductions inside is = record {
 pub keeps_pushed : (old new : List (List Item)) (kernel : List Item) → new ≡ old ++ kernel ∷ [] → KeepsNumbers old new
 keeps_pushed old new kernel is = λ number other at. ap (λ l. slice_get l number) is ∙ slice_get-append old (kernel ∷ []) number other at
 
-module _ (g : Grammar) (well : IsWellFormed g) (old new : Known) (kernel : List Item) (row : Row) (finished : List RuleId) (are : AreTold g.rules old)
+module _ (g : Grammar) (well : IsWellFormed g) (old new : Known) (kernel : List Item) (row : Row) (finished : List RuleId) (are : KeepsExpansions g.rules old)
     (items : AreItems g.rules kernel) (fresh : Contains old.kernels kernel → ⊥) (kernels : new.kernels ≡ old.kernels ++ kernel ∷ [])
     (rows : new.rows ≡ old.rows ++ row ∷ []) (copied : IsCopied g.rules kernel old.moves new.moves finished row.moves)
-    (is : IsRowOf g.rules row.moves (part_of row.moves new.moves.symbols) finished old.reductions new.reductions row) where
-  row_is : IsRow g.rules new.moves new.reductions kernel row
+    (is : IsNewRowOf g.rules row.moves (part_of row.moves new.moves.symbols) finished old.reductions new.reductions row) where
+  row_is : IsExpansionRow g.rules new.moves new.reductions kernel row
   row_is = new_row g well kernel old.moves new.moves finished row copied are.moves.behind old.reductions new.reductions is
 
   keeps : KeepsMoves old.moves new.moves
@@ -83,7 +83,7 @@ module _ (g : Grammar) (well : IsWellFormed g) (old new : Known) (kernel : List 
   ]
 
   each_row : (number : ℕ) (k : List Item) (r : Row) → slice_get new.kernels number ≡ Some k → slice_get new.rows number ≡ Some r
-      → IsRow g.rules new.moves new.reductions k r
+      → IsExpansionRow g.rules new.moves new.reductions k r
   each_row number k r at there = elim (push_cases old.kernels kernel k number (old_kernel number k at)) [
     | inl before ↦ elim (push_cases old.rows row r number (ap (λ l. slice_get l number) (sym rows) ∙ there)) [
       | inl before' ↦ row_kept g.rules old.moves new.moves old.reductions new.reductions k r keeps is.extends (are.rows number k r before before')
@@ -91,12 +91,12 @@ module _ (g : Grammar) (well : IsWellFormed g) (old new : Known) (kernel : List 
     ]
     | inr end ↦ elim (push_cases old.rows row r number (ap (λ l. slice_get l number) (sym rows) ∙ there)) [
       | inl before ↦ absurd (omega (arith, end.0, are.size, slice_get_within old.rows number r before))
-      | inr end' ↦ subst (λ q. IsRow g.rules new.moves new.reductions k q) end'.1
-          (subst (λ q. IsRow g.rules new.moves new.reductions q row) end.1 row_is)
+      | inr end' ↦ subst (λ q. IsExpansionRow g.rules new.moves new.reductions k q) end'.1
+          (subst (λ q. IsExpansionRow g.rules new.moves new.reductions q row) end.1 row_is)
     ]
   ]
 
-  pub told_more : AreTold g.rules new
+  pub told_more : KeepsExpansions g.rules new
   told_more = record {
     one_number = one_number;
     items = λ number k at. elim (push_cases old.kernels kernel k number (old_kernel number k at)) [
@@ -122,7 +122,7 @@ with_targets states targets = record {
 pub told_learned : (rules : List Rule) (states : Known) (place number : ℕ) (part : Part) (targets : List ℕ)
     → targets ≡ set states.moves.targets place (number + 1) → slice_get states.moves.behind place ≡ Some part
     → slice_get states.kernels number ≡ Some (part_of part states.moves.items)
-    → AreTold rules states → AreTold rules (with_targets states targets)
+    → KeepsExpansions rules states → KeepsExpansions rules (with_targets states targets)
 told_learned rules states place number part targets is at named are =
     let keeps : KeepsMoves states.moves (with_targets states targets).moves = record {
       symbols = extends_same states.moves.symbols;

@@ -7,7 +7,7 @@ use Rattle.item_sets.specs.declared.item.Item.{Item}
 use Rattle.item_sets.specs.Walks.{Extends}
 use Rattle.parser_states.specs.declared.rows.Part.{Part}
 use Rattle.parser_states.specs.Known.{KnownMoves}
-use Rattle.parser_states.specs.Moves.{AddsItems, AddsMoves, IsBehindAt}
+use Rattle.parser_states.specs.Moves.{AddsItems, AddsMoves, HoldsItems}
 use Rattle.parser_states.proofs.PlainParts.{extends_same, extends_push, extends_append, still_there}
 use Rattle.parser_states.proofs.PlainParts.{within_more, part_kept, part_appended, within_appended, last_at}
 use Rattle.parser_states.proofs.PlainParts.{push_cases, append_nil, one_more_same}
@@ -17,7 +17,7 @@ pub record AddsSome (more : List (SymbolId × List Item)) (old new : KnownMoves)
   pub symbols : new.symbols ≡ old.symbols ++ map (λ m. m.0) more
   pub behind : Extends old.behind new.behind
   pub size : length new.behind ≡ length old.behind + length more
-  pub each : (place : ℕ) (m : SymbolId × List Item) → slice_get more place ≡ Some m → IsBehindAt new (length old.behind + place) m.1
+  pub each : (place : ℕ) (m : SymbolId × List Item) → slice_get more place ≡ Some m → HoldsItems new (length old.behind + place) m.1
   pub targets : new.targets ≡ old.targets ++ replicate (length more) 0
   pub items : Extends old.items new.items
 
@@ -33,7 +33,7 @@ adds_none moves = record {
 
 -- what stands behind a place stands there where more is appended
 pub behind_more : (old new : KnownMoves) (place : ℕ) (upper : List Item) → Extends old.behind new.behind → Extends old.items new.items
-    → IsBehindAt old place upper → IsBehindAt new place upper
+    → HoldsItems old place upper → HoldsItems new place upper
 behind_more old new place upper behind items is = record {
   part = is.part;
   at = still_there behind place is.part is.at;
@@ -49,7 +49,7 @@ module _ (old mid new : KnownMoves) (more : List (SymbolId × List Item)) (m : S
   items_begin : Extends mid.items new.items
   items_begin = extends_append mid.items new.items m.1 added.is
 
-  last : IsBehindAt new (length mid.behind) m.1
+  last : HoldsItems new (length mid.behind) m.1
   last = record {
     part = part;
     at = ap (λ l. slice_get l (length mid.behind)) behind ∙ last_at mid.behind part;
@@ -57,12 +57,12 @@ module _ (old mid new : KnownMoves) (more : List (SymbolId × List Item)) (m : S
     is = part_appended mid.items m.1 new.items part added.is added.first added.past;
   }
 
-  each_more : (place : ℕ) (n : SymbolId × List Item) → slice_get (more ++ m ∷ []) place ≡ Some n → IsBehindAt new (length old.behind + place) n.1
+  each_more : (place : ℕ) (n : SymbolId × List Item) → slice_get (more ++ m ∷ []) place ≡ Some n → HoldsItems new (length old.behind + place) n.1
   each_more place n at = elim (push_cases more m n place at) [
     | inl before ↦ behind_more mid new (length old.behind + place) n.1 begins items_begin (adds.each place n before)
     | inr end ↦
         let here : length mid.behind ≡ length old.behind + place = omega (arith, adds.size, end.0) in
-        subst (λ (q : SymbolId × List Item). IsBehindAt new (length old.behind + place) q.1) end.1 (subst (λ k. IsBehindAt new k m.1) here last)
+        subst (λ (q : SymbolId × List Item). HoldsItems new (length old.behind + place) q.1) end.1 (subst (λ k. HoldsItems new k m.1) here last)
   ]
 
   pub adds_one_more : new.targets ≡ mid.targets ++ 0 ∷ [] → new.symbols ≡ mid.symbols ++ m.0 ∷ [] → AddsSome (more ++ m ∷ []) old new

@@ -12,11 +12,11 @@ use Rattle.item_sets.specs.Orders.{reduction_cmp}
 use Rattle.item_sets.specs.Expansions.{HasMove, IsReduction}
 use Rattle.parser_states.specs.declared.rows.Row.{Row}
 use Rattle.parser_states.specs.declared.reduction.Reduction.{Reduction}
-use Rattle.parser_states.specs.Parts.{part_of, IsWithin}
+use Rattle.parser_states.specs.Parts.{part_of, IsPartWithin}
 use Rattle.parser_states.specs.Known.{KnownMoves}
-use Rattle.parser_states.specs.Moves.{IsBehind, IsBehindAt}
+use Rattle.parser_states.specs.Moves.{HoldsMove, HoldsItems}
 use Rattle.parser_states.specs.Reductions.{ListsReductions, Opens}
-use Rattle.parser_states.specs.Rows.{symbol_cmp, IsRow, IsRowOf, IsCopied}
+use Rattle.parser_states.specs.Rows.{symbol_cmp, IsExpansionRow, IsNewRowOf, IsCopied}
 use Rattle.parser_states.proofs.PlainParts.{part_appended, within_appended, to_part}
 use Rattle.parser_states.proofs.Lists.{map_at, symbols_ascend}
 use Rattle.parser_states.proofs.ReductionsTold.{lists_told, empty_says, others_say}
@@ -24,7 +24,7 @@ use Rattle.parser_states.proofs.Uppers.{move_is_listed}
 
 module _ (g : Grammar) (well : IsWellFormed g) (kernel : List Item) (old new : KnownMoves) (finished : List RuleId) (row : Row)
     (copied : IsCopied g.rules kernel old new finished row.moves) (aligned : length old.behind ≡ length old.symbols) (before after : List Reduction)
-    (is : IsRowOf g.rules row.moves (part_of row.moves new.symbols) finished before after row) where
+    (is : IsNewRowOf g.rules row.moves (part_of row.moves new.symbols) finished before after row) where
   abbrev more : List (SymbolId × List Item)
   more = copied.expansion.moves
 
@@ -37,11 +37,11 @@ module _ (g : Grammar) (well : IsWellFormed g) (kernel : List Item) (old new : K
   symbols : part_of row.moves new.symbols ≡ symbols_of more
   symbols = part_appended old.symbols (symbols_of more) new.symbols row.moves copied.moves.symbols copied.moves.first past
 
-  moves_within : IsWithin row.moves (length new.symbols)
+  moves_within : IsPartWithin row.moves (length new.symbols)
   moves_within = within_appended old.symbols (symbols_of more) new.symbols row.moves copied.moves.symbols copied.moves.first past
 
   sound : (place : ℕ) (x : SymbolId) → row.moves.first ≤ place → place < row.moves.past → slice_get new.symbols place ≡ Some x
-      → IsBehind g.rules new kernel x place
+      → HoldsMove g.rules new kernel x place
   sound place x since less at =
       let k : ℕ = place - row.moves.first in
       let m = map_at (λ (m : SymbolId × List Item). m.0) more k x
@@ -50,7 +50,7 @@ module _ (g : Grammar) (well : IsWellFormed g) (kernel : List Item) (old new : K
       let pair : m.0 ≡ (x, m.0.1) = ap (λ y. (y, m.0.1)) m.2 in
       record {
         upper = m.0.1;
-        at = subst (λ n. IsBehindAt new n m.0.1) here (copied.moves.each k m.0 m.1);
+        at = subst (λ n. HoldsItems new n m.0.1) here (copied.moves.each k m.0 m.1);
         is_move = (copied.is.moves x m.0.1).0 (subst (Contains more) pair (contains_at more k m.0 m.1));
       }
 
@@ -74,7 +74,7 @@ module _ (g : Grammar) (well : IsWellFormed g) (kernel : List Item) (old new : K
   are : (k : RuleId) → Contains finished k ↔ IsReduction g.rules (Contains kernel) k
   are k = subst (λ list. Contains list k ↔ IsReduction g.rules (Contains kernel) k) (sym copied.reductions) (copied.is.reductions k)
 
-  pub new_row : IsRow g.rules new after kernel row
+  pub new_row : IsExpansionRow g.rules new after kernel row
   new_row = record {
     within = record { moves = moves_within; empties = is.empties_within; reductions = is.reductions_within };
     ascends = subst (IsStrictlySortedBy symbol_cmp) (sym symbols) (symbols_ascend more copied.is.move_order);

@@ -7,7 +7,7 @@ use Rattle.std.proofs.Math.Seq.{drop-append_seam}
 use Rattle.edit_log.proofs.Texts.{slice_get-append}
 use Rattle.item_sets.specs.Walks.{Extends}
 use Rattle.parser_states.specs.declared.rows.Part.{Part}
-use Rattle.parser_states.specs.Parts.{part_of, IsWithin}
+use Rattle.parser_states.specs.Parts.{part_of, IsPartWithin}
 
 -- ---- lists that begin others
 
@@ -41,10 +41,10 @@ module _ {X : Type 0} {xs ys : List X} (e : Extends xs ys) where
     | inr past ↦ absurd (omega (arith, past.0, within))
   ]
 
-  pub within_more : (part : Part) → IsWithin part (length xs) → IsWithin part (length ys)
+  pub within_more : (part : Part) → IsPartWithin part (length xs) → IsPartWithin part (length ys)
   within_more part w = record { order = w.order; within = omega (arith, w.within, longer) }
 
-  pub part_kept : (part : Part) → IsWithin part (length xs) → part_of part ys ≡ part_of part xs
+  pub part_kept : (part : Part) → IsPartWithin part (length xs) → part_of part ys ≡ part_of part xs
   part_kept part w =
       let starts : part.first ≤ length xs = omega (arith, w.order, w.within) in
       let fits : part.past - part.first ≤ length (drop part.first xs) = omega (arith, length-drop part.first xs, w.order, w.within) in
@@ -62,7 +62,7 @@ part_appended old more new part is first past =
     ∙ ap (λ l. take (length more) l) (drop-append_seam old more) ∙ take_all (length more) more (omega arith)
 
 pub within_appended : {X : Type 0} (old more new : List X) (part : Part) → new ≡ old ++ more → part.first ≡ length old → part.past ≡ length old + length more
-    → IsWithin part (length new)
+    → IsPartWithin part (length new)
 within_appended old more new part is first past = record {
   order = omega (arith, first, past);
   within = omega (arith, past, ap length is, length-append old more);

@@ -14,18 +14,19 @@ use Rattle.live_graph.specs.Asking.{Joins}
 use Rattle.edit_log.proofs.Texts.{slice_get-append}
 use Rattle.parser_states.specs.declared.rows.Row.{Row}
 use Rattle.parser_states.specs.declared.rows.Part.{Part}
-use Rattle.parser_states.specs.Parts.{part_of, IsWithin}
+use Rattle.parser_states.specs.Parts.{part_of, IsPartWithin}
 use Rattle.parser_states.specs.Known.{Known, KnownMoves}
-use Rattle.parser_states.specs.Moves.{IsBehind, IsBehindAt, IsMovePlace}
-use Rattle.parser_states.specs.Leads.{LeadsTo, KeepsNumbers}
-use Rattle.parser_states.specs.Rows.{IsRow, AreTold, IsPlaceOf, IsNoneOf}
+use Rattle.parser_states.specs.Moves.{HoldsMove, HoldsItems, IsMovePlace}
+use Rattle.forest.specs.Numbers.{KeepsNumbers}
+use Rattle.parser_states.specs.Leads.{LeadsToKernel}
+use Rattle.parser_states.specs.Rows.{IsExpansionRow, KeepsExpansions, IsPlaceOf, IsNoneOf}
 
 pub some_at : {X : Type 0} (list : List X) (place : ℕ) → place < length list → (x : X) × (slice_get list place ≡ Some x)
 some_at list place within = elim (slice_get_cases list place).1 [ inl there ↦ (there.0, there.2) | inr past ↦ absurd (omega (arith, past.0, within)) ]
 
-module _ (rules : List Rule) (states : Known) (are : AreTold rules states) (state : ℕ) (kernel : List Item)
+module _ (rules : List Rule) (states : Known) (are : KeepsExpansions rules states) (state : ℕ) (kernel : List Item)
     (named : slice_get states.kernels state ≡ Some kernel) where
-  pub row_told : (row : Row) → row ≡ get_or states.rows state row → IsRow rules states.moves states.reductions kernel row
+  pub row_told : (row : Row) → row ≡ get_or states.rows state row → IsExpansionRow rules states.moves states.reductions kernel row
   row_told row is = are.rows state kernel row named (slice_get_read states.rows (length states.rows) state row refl (omega (
     arith,
     are.size,
@@ -35,7 +36,7 @@ module _ (rules : List Rule) (states : Known) (are : AreTold rules states) (stat
   row_there : (row : Row) × (slice_get states.rows state ≡ Some row)
   row_there = some_at states.rows state (omega (arith, are.size, slice_get_within states.kernels state kernel named))
 
-  pub place_tells : (x : SymbolId) (place : ℕ) → IsPlaceOf states state x place → IsBehind rules states.moves kernel x place
+  pub place_tells : (x : SymbolId) (place : ℕ) → IsPlaceOf states state x place → HoldsMove rules states.moves kernel x place
   place_tells x place is = (are.rows state kernel is.row named is.at).sound place x is.since is.before is.symbol
 
   pub none_tells : (x : SymbolId) → IsNoneOf states state x → HasMove rules (Contains kernel) x → ⊥
@@ -51,7 +52,7 @@ module _ (rules : List Rule) (states : Known) (are : AreTold rules states) (stat
 
   -- a target that is known
   pub known_leads : (x : SymbolId) (place entry : ℕ) → IsPlaceOf states state x place → slice_get states.moves.targets place ≡ Some entry → (entry ≡ 0 → ⊥)
-      → LeadsTo rules states.kernels states.kernels kernel x (entry - 1)
+      → LeadsToKernel rules states.kernels states.kernels kernel x (entry - 1)
   known_leads x place entry is at some =
       let behind = place_tells x place is in
       let named' : slice_get states.kernels (entry - 1) ≡ Some behind.upper =
@@ -62,7 +63,7 @@ module _ (rules : List Rule) (states : Known) (are : AreTold rules states) (stat
         numbered = record { named = named'; joins = inl (contains_at states.kernels (entry - 1) behind.upper named', refl) };
       }
 
-pub move_place : (rules : List Rule) (states : Known) → AreTold rules states → (state : ℕ) → state < length states.kernels → (x : SymbolId) (place : ℕ)
+pub move_place : (rules : List Rule) (states : Known) → KeepsExpansions rules states → (state : ℕ) → state < length states.kernels → (x : SymbolId) (place : ℕ)
     → IsPlaceOf states state x place → IsMovePlace rules states.moves place
 move_place rules states are state within x place is =
     let kernel = some_at states.kernels state within in
@@ -76,11 +77,11 @@ module _ (rules : List Rule) (moves : KnownMoves) (place : ℕ) (is : IsMovePlac
   part_there = slice_get_read moves.behind (length moves.behind) place part refl (slice_get_within moves.behind place is.behind.at.part is.behind.at.at) read
 
   -- whatever is said to stand there
-  pub part_is : (upper : List Item) → IsBehindAt moves place upper → part_of part moves.items ≡ upper
+  pub part_is : (upper : List Item) → HoldsItems moves place upper → part_of part moves.items ≡ upper
   part_is upper at = ap (λ p. part_of p moves.items) (same_Some part at.part (sym part_there ∙ at.at)) ∙ at.is
 
-  pub part_fits : IsWithin part (length moves.items)
-  part_fits = subst (λ p. IsWithin p (length moves.items)) (same_Some is.behind.at.part part (sym is.behind.at.at ∙ part_there)) is.behind.at.within
+  pub part_fits : IsPartWithin part (length moves.items)
+  part_fits = subst (λ p. IsPartWithin p (length moves.items)) (same_Some is.behind.at.part part (sym is.behind.at.at ∙ part_there)) is.behind.at.within
 
   pub upper_items : (kernel : List Item) → kernel ≡ part_of part moves.items → AreItems rules kernel
   upper_items kernel kernel_is = subst (AreItems rules) (sym (kernel_is ∙ part_is is.behind.upper is.behind.at))

@@ -11,12 +11,12 @@ use Rattle.item_sets.specs.Walks.{Extends}
 use Rattle.parser_states.specs.declared.rows.Part.{Part}
 use Rattle.parser_states.specs.declared.rows.Row.{Row}
 use Rattle.parser_states.specs.declared.reduction.Reduction.{Reduction}
-use Rattle.parser_states.specs.Parts.{part_of, IsWithin}
+use Rattle.parser_states.specs.Parts.{part_of, IsPartWithin}
 use Rattle.parser_states.specs.Known.{KnownMoves}
-use Rattle.parser_states.specs.Moves.{AddsMoves, IsBehind, IsBehindAt, KeepsMoves}
+use Rattle.parser_states.specs.Moves.{AddsMoves, HoldsMove, HoldsItems, KeepsMoves}
 use Rattle.parser_states.specs.Reductions.{ListsReductions}
-use Rattle.parser_states.specs.Leads.{KeepsNumbers}
-use Rattle.parser_states.specs.Rows.{symbol_cmp, IsRow, IsRowWithin, AreMoves}
+use Rattle.forest.specs.Numbers.{KeepsNumbers}
+use Rattle.parser_states.specs.Rows.{symbol_cmp, IsExpansionRow, IsRowWithin, AreMoves}
 use Rattle.parser_states.proofs.PlainParts.{longer, was_there, within_more, part_kept, within_appended}
 use Rattle.parser_states.proofs.Lists.{append_cases, in_replicate}
 use Rattle.parser_states.proofs.MovesAdded.{behind_more}
@@ -29,12 +29,12 @@ keeps_added added old new part adds = record {
 }
 
 pub moves_within : (added : List (SymbolId × List Item)) (old new : KnownMoves) (part : Part) → AddsMoves added old new part
-    → IsWithin part (length new.symbols)
+    → IsPartWithin part (length new.symbols)
 moves_within added old new part adds = within_appended old.symbols (map (λ (m : SymbolId × List Item). m.0) added) new.symbols part adds.symbols adds.first
     (omega (arith, adds.past, length-map added (λ (m : SymbolId × List Item). m.0)))
 
 pub behind_kept : (rules : List Rule) (old new : KnownMoves) (kernel : List Item) (x : SymbolId) (place : ℕ) → KeepsMoves old new
-    → IsBehind rules old kernel x place → IsBehind rules new kernel x place
+    → HoldsMove rules old kernel x place → HoldsMove rules new kernel x place
 behind_kept rules old new kernel x place keeps is = record {
   upper = is.upper;
   at = behind_more old new place is.upper keeps.behind keeps.items is.at;
@@ -50,7 +50,7 @@ row_within row moves more_moves reductions more_reductions one two is = record {
 }
 
 pub row_kept : (rules : List Rule) (old new : KnownMoves) (before after : List Reduction) (kernel : List Item) (row : Row) → KeepsMoves old new
-    → Extends before after → IsRow rules old before kernel row → IsRow rules new after kernel row
+    → Extends before after → IsExpansionRow rules old before kernel row → IsExpansionRow rules new after kernel row
 row_kept rules old new before after kernel row keeps more is = record {
   within = row_within row (length old.symbols) (length new.symbols) (length before) (length after) (longer keeps.symbols) (longer more) is.within;
   ascends = subst (IsStrictlySortedBy symbol_cmp) (sym (part_kept keeps.symbols row.moves is.within.moves)) is.ascends;
@@ -66,7 +66,7 @@ row_kept rules old new before after kernel row keeps more is = record {
 
 module _ (kernels others : List (List Item)) (keeps : KeepsNumbers kernels others) (old new : KnownMoves) (added : List (SymbolId × List Item)) (whole : Part)
     (are : AreMoves kernels old) (adds : AddsMoves added old new whole) where
-  part_within : (place : ℕ) (part : Part) → slice_get new.behind place ≡ Some part → IsWithin part (length new.items)
+  part_within : (place : ℕ) (part : Part) → slice_get new.behind place ≡ Some part → IsPartWithin part (length new.items)
   part_within place part at = elim (slice_get_cases old.behind place).1 [
     | inl there ↦ within_more adds.items part (are.within place part (was_there adds.behind place part there.1 at))
     | inr past ↦
@@ -74,9 +74,9 @@ module _ (kernels others : List (List Item)) (keeps : KeepsNumbers kernels other
         let within : place < length new.behind = slice_get_within new.behind place part at in
         offset place past.0 (omega (arith, within, adds.size)) in
         let m = some_at added k.0 k.2 in
-        let is : IsBehindAt new (length old.behind + k.0) m.0.1 = adds.each k.0 m.0 m.1 in
+        let is : HoldsItems new (length old.behind + k.0) m.0.1 = adds.each k.0 m.0 m.1 in
         let same : is.part ≡ part = same_Some is.part part (sym is.at ∙ ap (λ n. slice_get new.behind n) (sym k.1) ∙ at) in
-        subst (λ p. IsWithin p (length new.items)) same is.within
+        subst (λ p. IsPartWithin p (length new.items)) same is.within
   ]
     where
       offset : (place : ℕ) → length old.behind ≤ place → place < length old.behind + length added

@@ -7,6 +7,6 @@ abbrev pub part_of : {X : Type 0} → Part → List X → List X
 part_of part list = slice_range list part.first part.past
 
 -- the part lies within the first so many places
-pub record IsWithin (part : Part) (size : ℕ) : Type 0 where
+pub record IsPartWithin (part : Part) (size : ℕ) : Type 0 where
   pub order : part.first ≤ part.past
   pub within : part.past ≤ size

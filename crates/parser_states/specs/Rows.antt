@@ -15,9 +15,9 @@ use Rattle.item_sets.specs.Walks.{Extends}
 use Rattle.parser_states.specs.declared.rows.Part.{Part}
 use Rattle.parser_states.specs.declared.rows.Row.{Row}
 use Rattle.parser_states.specs.declared.reduction.Reduction.{Reduction}
-use Rattle.parser_states.specs.Parts.{part_of, IsWithin}
+use Rattle.parser_states.specs.Parts.{part_of, IsPartWithin}
 use Rattle.parser_states.specs.Known.{Known, KnownMoves}
-use Rattle.parser_states.specs.Moves.{AddsMoves, IsBehind}
+use Rattle.parser_states.specs.Moves.{AddsMoves, HoldsMove}
 use Rattle.parser_states.specs.Finished.{reductions_told}
 use Rattle.parser_states.specs.Reductions.{ListsReductions, Opens}
 
@@ -29,9 +29,9 @@ symbol_cmp a b = nat_cmp a.0 b.0
 
 -- the parts of the row lie within so many moves and so many reductions
 pub record IsRowWithin (row : Row) (most_moves most_reductions : ℕ) : Type 0 where
-  pub moves : IsWithin row.moves most_moves
-  pub empties : IsWithin row.empties most_reductions
-  pub reductions : IsWithin row.reductions most_reductions
+  pub moves : IsPartWithin row.moves most_moves
+  pub empties : IsPartWithin row.empties most_reductions
+  pub reductions : IsPartWithin row.reductions most_reductions
 
 -- there is a row for each state, and its parts lie within the lists
 pub record IsShaped (states : Known) : Type 0 where
@@ -42,11 +42,11 @@ pub record IsShaped (states : Known) : Type 0 where
 -- ---- what is kept is the expansion
 
 -- the row keeps the expansion of the kernel by the rules
-pub record IsRow (rules : List Rule) (moves : KnownMoves) (all : List Reduction) (kernel : List Item) (row : Row) : Type 0 where
+pub record IsExpansionRow (rules : List Rule) (moves : KnownMoves) (all : List Reduction) (kernel : List Item) (row : Row) : Type 0 where
   pub within : IsRowWithin row (length moves.symbols) (length all)
   pub ascends : IsStrictlySortedBy symbol_cmp (part_of row.moves moves.symbols)
   pub sound : (place : ℕ) (x : SymbolId) → row.moves.first ≤ place → place < row.moves.past → slice_get moves.symbols place ≡ Some x
-      → IsBehind rules moves kernel x place
+      → HoldsMove rules moves kernel x place
   pub whole : (x : SymbolId) → HasMove rules (Contains kernel) x → Contains (part_of row.moves moves.symbols) x
   pub opens : IsTrue row.opens ↔ Opens rules kernel
   pub empties : ListsReductions rules kernel (λ size. size ≡ 0) (part_of row.empties all)
@@ -56,18 +56,18 @@ pub record IsRow (rules : List Rule) (moves : KnownMoves) (all : List Reduction)
 pub record AreMoves (kernels : List (List Item)) (moves : KnownMoves) : Type 0 where
   pub behind : length moves.behind ≡ length moves.symbols
   pub targets : length moves.targets ≡ length moves.symbols
-  pub within : (place : ℕ) (part : Part) → slice_get moves.behind place ≡ Some part → IsWithin part (length moves.items)
+  pub within : (place : ℕ) (part : Part) → slice_get moves.behind place ≡ Some part → IsPartWithin part (length moves.items)
   pub tells : (place entry number : ℕ) (part : Part) → slice_get moves.targets place ≡ Some entry → entry ≡ number + 1
       → slice_get moves.behind place ≡ Some part → slice_get kernels number ≡ Some (part_of part moves.items)
 
 -- the rows keep the expansions of the states by the rules
-pub record AreTold (rules : List Rule) (states : Known) : Type 0 where
+pub record KeepsExpansions (rules : List Rule) (states : Known) : Type 0 where
   pub one_number : (one other : ℕ) (kernel : List Item) → slice_get states.kernels one ≡ Some kernel → slice_get states.kernels other ≡ Some kernel
       → one ≡ other
   pub items : (number : ℕ) (kernel : List Item) → slice_get states.kernels number ≡ Some kernel → AreItems rules kernel
   pub size : length states.rows ≡ length states.kernels
   pub rows : (number : ℕ) (kernel : List Item) (row : Row) → slice_get states.kernels number ≡ Some kernel → slice_get states.rows number ≡ Some row
-      → IsRow rules states.moves states.reductions kernel row
+      → IsExpansionRow rules states.moves states.reductions kernel row
   pub moves : AreMoves states.kernels states.moves
 
 -- ---- one more state
@@ -80,13 +80,13 @@ pub record IsCopied (rules : List Rule) (kernel : List Item) (old new : KnownMov
   pub reductions : finished ≡ expansion.reductions
 
 -- the row of a state with these moves, on these symbols, and these finished rules, whose reductions were appended
-pub record IsRowOf (rules : List Rule) (moves : Part) (symbols : List SymbolId) (finished : List RuleId) (old new : List Reduction) (row : Row)
+pub record IsNewRowOf (rules : List Rule) (moves : Part) (symbols : List SymbolId) (finished : List RuleId) (old new : List Reduction) (row : Row)
     : Type 0 where
   pub moves_are : row.moves ≡ moves
   pub opens : IsTrue row.opens ↔ ((x : SymbolId) × Contains symbols x × IsNonterminal rules x)
-  pub empties_within : IsWithin row.empties (length new)
+  pub empties_within : IsPartWithin row.empties (length new)
   pub empties : part_of row.empties new ≡ reductions_told rules true finished
-  pub reductions_within : IsWithin row.reductions (length new)
+  pub reductions_within : IsPartWithin row.reductions (length new)
   pub reductions : part_of row.reductions new ≡ reductions_told rules false finished
   pub extends : Extends old new
 

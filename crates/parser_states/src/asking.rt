@@ -3,7 +3,7 @@
 ghost use Rattle.std.specs.Prelude.{◌≡◌, ◌≤◌, length, IfOk, OnOk};
 ghost use Rattle.item_sets.specs.Prefixes.{AreItems};
 ghost use Rattle.live_graph.specs.Asking.{AsksKernel};
-ghost use Rattle.parser_states.specs.Asked.{Stands};
+ghost use Rattle.parser_states.specs.Asked.{StandsButKernels};
 ghost use Rattle.parser_states.specs.Known.{known_moves};
 ghost use Rattle.parser_states.specs.Rows.{IsCopied};
 
@@ -27,7 +27,7 @@ pub(crate) fn copy_expansion<G: Graph, L: Ledger>(
     ensures copies { IfOk result (IsCopied (G.means graph.old).grammar.rules kernel.now (known_moves moves.old) (known_moves moves.new) finished.new.items) }
     ensures grows { length moves.old.symbols.items ≤ length moves.new.symbols.items }
     ensures asks { OnOk result (AsksKernel (G.means graph.old) kernel.now (G.means graph.new) steps.old steps.new) }
-    ensures stands { Stands (G.means graph.old) (G.means graph.new) }
+    ensures stands { StandsButKernels (G.means graph.old) (G.means graph.new) }
     ensures never_back { steps.old ≤ steps.new }
 {
     let expansion = graph.expansion(kernel, steps)?;

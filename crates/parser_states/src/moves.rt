@@ -4,7 +4,7 @@ ghost use Rattle.std.specs.Prelude.{◌≡◌, ◌≤◌, ◌<◌, length, IfOk,
 ghost use Rattle.std.specs.List.Sorted.{IsStrictlySortedBy};
 ghost use Rattle.item_sets.specs.Orders.{item_cmp};
 ghost use Rattle.parser_states.specs.Known.{known_moves, no_moves};
-ghost use Rattle.parser_states.specs.Parts.{part_of, IsWithin};
+ghost use Rattle.parser_states.specs.Parts.{part_of, IsPartWithin};
 ghost use Rattle.parser_states.specs.Moves.{AddsItems, AddsMoves};
 
 use crate::rows::{Part, part_between};
@@ -75,7 +75,7 @@ impl MoveLists {
 
     /// The kernel behind the move at this place.
     pub(crate) fn kernel_behind(&self, part: Part) -> Result<Kernel, NoMemory>
-        requires within { IsWithin part (length self.now.items.items) }
+        requires within { IsPartWithin part (length self.now.items.items) }
         requires ascends { IsStrictlySortedBy item_cmp (part_of part self.now.items.items) }
         ensures { IfOk result (λ kernel. kernel ≡ part_of part self.now.items.items) }
     {

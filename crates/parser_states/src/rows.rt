@@ -2,7 +2,7 @@
 
 ghost use Rattle.std.specs.Prelude.{◌≡◌, ◌≤◌, ◌+◌, ◌<◌, ◌^◌, length, IfOk};
 ghost use Rattle.edit_log.specs.Facts.{IsWellFormed};
-ghost use Rattle.parser_states.specs.Rows.{IsRowOf};
+ghost use Rattle.parser_states.specs.Rows.{IsNewRowOf};
 
 use crate::reduction::{Reduction, add_reductions};
 use crate::searches::has_nonterminal;
@@ -66,7 +66,7 @@ pub(crate) fn row_of(
     reductions: &mut Vec<Reduction>,
 ) -> Result<Row, NoMemory>
     requires { IsWellFormed grammar.now.grammar }
-    ensures row { IfOk result (IsRowOf grammar.now.grammar.rules moves symbols.now finished.now reductions.old.items reductions.new.items) }
+    ensures row { IfOk result (IsNewRowOf grammar.now.grammar.rules moves symbols.now finished.now reductions.old.items reductions.new.items) }
     ensures grows { length reductions.old.items ≤ length reductions.new.items }
 {
     let first = reductions.len();

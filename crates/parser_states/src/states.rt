@@ -3,9 +3,10 @@
 ghost use Rattle.std.specs.Prelude.{◌≡◌, ◌≤◌, ◌<◌, ◌↔◌, [], ◌∷◌, length, IfOk, OnOk, IsTrue, Contains};
 ghost use Rattle.item_sets.specs.Prefixes.{start_kernel};
 ghost use Rattle.item_sets.specs.Expansions.{HasMove};
-ghost use Rattle.parser_states.specs.Asked.{Stands, AsksNew};
+ghost use Rattle.parser_states.specs.Asked.{StandsButKernels, AsksNew};
 ghost use Rattle.parser_states.specs.Reductions.{ListsReductions, Opens};
-ghost use Rattle.parser_states.specs.Leads.{LeadsFrom, KeepsNumbers};
+ghost use Rattle.forest.specs.Numbers.{KeepsNumbers};
+ghost use Rattle.parser_states.specs.Leads.{LeadsFrom};
 ghost use Rattle.parser_states.specs.Expanded.{AreExpandedIn, OfState};
 
 use crate::reduction::Reduction;
@@ -71,7 +72,7 @@ impl States {
         ensures start { OnOk result (self.new.kernels ≡ start_kernel ∷ []) }
         ensures expanded { OnOk result (AreExpandedIn (G.means graph.new).grammar.rules self.new) }
         ensures asks { OnOk result (AsksNew [] self.new.kernels (G.means graph.old) (G.means graph.new) steps.old steps.new) }
-        ensures stands { Stands (G.means graph.old) (G.means graph.new) }
+        ensures stands { StandsButKernels (G.means graph.old) (G.means graph.new) }
         ensures never_back { steps.old ≤ steps.new }
     {
         self.table.clear();
@@ -95,7 +96,7 @@ impl States {
         ensures keeps { OnOk result (KeepsNumbers self.old.kernels self.new.kernels) }
         ensures expanded { OnOk result (AreExpandedIn (G.means graph.new).grammar.rules self.new) }
         ensures asks { OnOk result (AsksNew self.old.kernels self.new.kernels (G.means graph.old) (G.means graph.new) steps.old steps.new) }
-        ensures stands { Stands (G.means graph.old) (G.means graph.new) }
+        ensures stands { StandsButKernels (G.means graph.old) (G.means graph.new) }
         ensures never_back { steps.old ≤ steps.new }
     {
         self.table.next(graph, state as usize, symbol, steps)

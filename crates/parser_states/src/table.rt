@@ -6,10 +6,11 @@ ghost use Rattle.item_sets.specs.declared.item.Item.{Item};
 ghost use Rattle.item_sets.specs.Prefixes.{AreItems};
 ghost use Rattle.live_graph.specs.Asking.{AsksKernel};
 ghost use Rattle.parser_states.specs.Known.{known, known_moves, no_states};
-ghost use Rattle.parser_states.specs.Moves.{IsMovePlace, IsBehindAt, KeepsMoves};
-ghost use Rattle.parser_states.specs.Rows.{IsShaped, AreTold, IsPlaceOf, IsNoneOf};
-ghost use Rattle.parser_states.specs.Leads.{LeadsFrom, IsNumbered, KeepsNumbers};
-ghost use Rattle.parser_states.specs.Asked.{Stands, AsksNew};
+ghost use Rattle.parser_states.specs.Moves.{IsMovePlace, HoldsItems, KeepsMoves};
+ghost use Rattle.parser_states.specs.Rows.{IsShaped, KeepsExpansions, IsPlaceOf, IsNoneOf};
+ghost use Rattle.forest.specs.Numbers.{KeepsNumbers};
+ghost use Rattle.parser_states.specs.Leads.{LeadsFrom, IsNumbered};
+ghost use Rattle.parser_states.specs.Asked.{StandsButKernels, AsksNew};
 
 use crate::asking::copy_expansion;
 use crate::moves::{MoveLists, UNKNOWN};
@@ -74,16 +75,16 @@ impl Table {
         steps: &mut Steps<L>,
     ) -> Result<u32, NoMemory>
         requires shaped { IsShaped (known self.old) }
-        requires told { AreTold (G.means graph.old).grammar.rules (known self.old) }
+        requires told { KeepsExpansions (G.means graph.old).grammar.rules (known self.old) }
         requires items { AreItems (G.means graph.old).grammar.rules kernel }
         requires fresh { Contains self.old.keys.keys kernel → ⊥ }
         ensures number { IfOk result (λ number. (number ≡ length self.old.keys.keys) × (number + 1 < 2 ^ 32)) }
         ensures kernels { OnOk result (self.new.keys.keys ≡ self.old.keys.keys ++ kernel ∷ []) }
-        ensures told { OnOk result (AreTold (G.means graph.old).grammar.rules (known self.new)) }
+        ensures told { OnOk result (KeepsExpansions (G.means graph.old).grammar.rules (known self.new)) }
         ensures keeps { OnOk result (KeepsMoves (known_moves self.old.moves) (known_moves self.new.moves)) }
         ensures asks { OnOk result (AsksKernel (G.means graph.old) kernel (G.means graph.new) steps.old steps.new) }
         ensures shaped { IsShaped (known self.new) }
-        ensures stands { Stands (G.means graph.old) (G.means graph.new) }
+        ensures stands { StandsButKernels (G.means graph.old) (G.means graph.new) }
         ensures never_back { steps.old ≤ steps.new }
     {
         let number = number_of(self.keys.len())?;
@@ -111,14 +112,14 @@ impl Table {
         steps: &mut Steps<L>,
     ) -> Result<u32, NoMemory>
         requires shaped { IsShaped (known self.old) }
-        requires told { AreTold (G.means graph.old).grammar.rules (known self.old) }
+        requires told { KeepsExpansions (G.means graph.old).grammar.rules (known self.old) }
         requires items { AreItems (G.means graph.old).grammar.rules kernel }
         ensures number { IfOk result (λ number. IsNumbered kernel self.old.keys.keys self.new.keys.keys number × (number + 1 < 2 ^ 32)) }
-        ensures told { OnOk result (AreTold (G.means graph.old).grammar.rules (known self.new)) }
+        ensures told { OnOk result (KeepsExpansions (G.means graph.old).grammar.rules (known self.new)) }
         ensures keeps { OnOk result (KeepsMoves (known_moves self.old.moves) (known_moves self.new.moves)) }
         ensures asks { OnOk result (AsksNew self.old.keys.keys self.new.keys.keys (G.means graph.old) (G.means graph.new) steps.old steps.new) }
         ensures shaped { IsShaped (known self.new) }
-        ensures stands { Stands (G.means graph.old) (G.means graph.new) }
+        ensures stands { StandsButKernels (G.means graph.old) (G.means graph.new) }
         ensures never_back { steps.old ≤ steps.new }
     {
         if let Some(number) = self.keys.get_index_of(&kernel) {
@@ -135,14 +136,14 @@ impl Table {
         steps: &mut Steps<L>,
     ) -> Result<u32, NoMemory>
         requires shaped { IsShaped (known self.old) }
-        requires told { AreTold (G.means graph.old).grammar.rules (known self.old) }
+        requires told { KeepsExpansions (G.means graph.old).grammar.rules (known self.old) }
         requires place { IsMovePlace (G.means graph.old).grammar.rules (known_moves self.old.moves) place }
-        ensures number { IfOk result (λ number. (upper : List Item) → IsBehindAt (known_moves self.old.moves) place upper
+        ensures number { IfOk result (λ number. (upper : List Item) → HoldsItems (known_moves self.old.moves) place upper
             → IsNumbered upper self.old.keys.keys self.new.keys.keys number) }
-        ensures told { OnOk result (AreTold (G.means graph.old).grammar.rules (known self.new)) }
+        ensures told { OnOk result (KeepsExpansions (G.means graph.old).grammar.rules (known self.new)) }
         ensures asks { OnOk result (AsksNew self.old.keys.keys self.new.keys.keys (G.means graph.old) (G.means graph.new) steps.old steps.new) }
         ensures shaped { IsShaped (known self.new) }
-        ensures stands { Stands (G.means graph.old) (G.means graph.new) }
+        ensures stands { StandsButKernels (G.means graph.old) (G.means graph.new) }
         ensures never_back { steps.old ≤ steps.new }
     {
         let part = self.moves.behind[place];
@@ -174,14 +175,14 @@ impl Table {
         steps: &mut Steps<L>,
     ) -> Result<Option<u32>, NoMemory>
         requires shaped { IsShaped (known self.old) }
-        requires told { AreTold (G.means graph.old).grammar.rules (known self.old) }
+        requires told { KeepsExpansions (G.means graph.old).grammar.rules (known self.old) }
         requires state { state < length self.old.keys.keys }
         ensures leads { IfOk result (LeadsFrom (G.means graph.old).grammar.rules self.old.keys.keys self.new.keys.keys state symbol) }
         ensures keeps { OnOk result (KeepsNumbers self.old.keys.keys self.new.keys.keys) }
-        ensures told { OnOk result (AreTold (G.means graph.old).grammar.rules (known self.new)) }
+        ensures told { OnOk result (KeepsExpansions (G.means graph.old).grammar.rules (known self.new)) }
         ensures asks { OnOk result (AsksNew self.old.keys.keys self.new.keys.keys (G.means graph.old) (G.means graph.new) steps.old steps.new) }
         ensures shaped { IsShaped (known self.new) }
-        ensures stands { Stands (G.means graph.old) (G.means graph.new) }
+        ensures stands { StandsButKernels (G.means graph.old) (G.means graph.new) }
         ensures never_back { steps.old ≤ steps.new }
     {
         let Some(place) = self.place_of_move(state, symbol) else {

@@ -14,7 +14,7 @@ use Rattle.std.proofs.lemmas.List.Elements.{Contains-append_cases, Contains-appe
 use Rattle.forest.specs.declared.symbols.SymbolId.{SymbolId}
 use Rattle.forest.proofs.Ascending.{contains_cases, contains_there, contains_here}
 use Rattle.plain_chart.specs.declared.spans.Span.{Span}
-use Rattle.plain_chart.specs.Known.{IsKnown, AreKnown}
+use Rattle.plain_chart.specs.Known.{IsKnownToDerive, AreKnown}
 use Rattle.plain_chart.specs.Cuts.{AreKnownCuts, AreAllCuts}
 
 -- lists in order, one after the other
@@ -70,8 +70,8 @@ map_contains node (q ∷ qs) rest c = elim (contains_cases q qs rest c) [
 pub record AreFront (tokens : List SymbolId) (known : List Span) (x : SymbolId) (xs : List SymbolId) (i j middle : ℕ) (found : List (List ℕ)) : Type 0 where
   pub order : IsStrictlySortedBy (slice_cmp nat_cmp) found
   pub within : (cuts : List ℕ) → Contains found cuts → (k : ℕ) × (rest : List ℕ) × (i ≤ k) × (k ≤ j) × (k < middle) × (cuts ≡ i ∷ rest)
-      × IsKnown tokens known x i k × AreKnownCuts tokens known xs k j rest
-  pub all : (k : ℕ) (rest : List ℕ) → i ≤ k → k ≤ j → k < middle → IsKnown tokens known x i k → AreKnownCuts tokens known xs k j rest
+      × IsKnownToDerive tokens known x i k × AreKnownCuts tokens known xs k j rest
+  pub all : (k : ℕ) (rest : List ℕ) → i ≤ k → k ≤ j → k < middle → IsKnownToDerive tokens known x i k → AreKnownCuts tokens known xs k j rest
       → Contains found (i ∷ rest)
 
 -- where there are cuts the symbols are known
@@ -87,7 +87,8 @@ cuts_head tokens known [] i j cuts a = ([], a.1)
 cuts_head tokens known (x ∷ xs) i j cuts a = (a.1, a.4)
 
 pub front_more : (tokens : List SymbolId) (known : List Span) (x : SymbolId) (xs : List SymbolId) (i j middle : ℕ) (found below : List (List ℕ))
-    → AreFront tokens known x xs i j middle found → IsKnown tokens known x i middle → i ≤ middle → middle ≤ j → AreAllCuts tokens known xs middle j below
+    → AreFront tokens known x xs i j middle found → IsKnownToDerive tokens known x i middle → i ≤ middle → middle ≤ j
+        → AreAllCuts tokens known xs middle j below
     → AreFront tokens known x xs i j (middle + 1) (found ++ map (λ p. i ∷ p) below)
 front_more tokens known x xs i j middle found below f kn lo hi b = record {
   order = sorted_append (slice_cmp nat_cmp) found (map (λ p. i ∷ p) below) f.order (sorted_map i below b.order) (λ a c m n.
@@ -111,7 +112,7 @@ front_more tokens known x xs i j middle found below f kn lo hi b = record {
 }
 
 pub front_same : (tokens : List SymbolId) (known : List Span) (x : SymbolId) (xs : List SymbolId) (i j middle : ℕ) (found : List (List ℕ))
-    → AreFront tokens known x xs i j middle found → (IsKnown tokens known x i middle → AreKnown tokens known xs middle j → ⊥)
+    → AreFront tokens known x xs i j middle found → (IsKnownToDerive tokens known x i middle → AreKnown tokens known xs middle j → ⊥)
     → AreFront tokens known x xs i j (middle + 1) found
 front_same tokens known x xs i j middle found f none = record {
   order = f.order;
@@ -119,7 +120,7 @@ front_same tokens known x xs i j middle found f none = record {
   all = λ k rest a c l n cuts. elim (cases_lt k middle) [
     | inl less ↦ f.all k rest a c less n cuts
     | inr more ↦ let same : k ≡ middle = omega arith in
-        absurd (none (subst (λ m. IsKnown tokens known x i m) same n) (subst (λ m. AreKnown tokens known xs m j) same
+        absurd (none (subst (λ m. IsKnownToDerive tokens known x i m) same n) (subst (λ m. AreKnown tokens known xs m j) same
         (cuts_known tokens known xs k j rest cuts)))
   ];
 }

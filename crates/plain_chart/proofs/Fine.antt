@@ -12,11 +12,11 @@ use Rattle.forest.proofs.Derivations.{IsClosed, Along, end, more, least}
 use Rattle.forest.proofs.Ascending.{contains_cases, contains_there, contains_here}
 use Rattle.plain_chart.specs.declared.spans.Span.{Span}
 use Rattle.plain_chart.specs.Span.{span}
-use Rattle.plain_chart.specs.Known.{IsKnown, AreKnown, AreDerived, AreSettled, AreFine, Grows}
+use Rattle.plain_chart.specs.Known.{IsKnownToDerive, AreKnown, AreDerived, AreSettled, AreFine, ExtendsKnown}
 
 -- what is known so is derived
 pub known_derived : (rules : List Rule) (tokens : List SymbolId) (known : List Span) → AreDerived rules tokens known → (x : SymbolId) (i j : ℕ)
-    → IsKnown tokens known x i j → Derives rules tokens x i j
+    → IsKnownToDerive tokens known x i j → Derives rules tokens x i j
 known_derived rules tokens known d x i j (inl t) = subst (λ k. Derives rules tokens x i k) (sym (t.1 ∙ add-one i)) (token t.0)
 known_derived rules tokens known d x i j (inr c) = d x i j c
 
@@ -58,9 +58,9 @@ fine_more rules tokens known r i j f c a li lj n = record {
 }
 
 -- one more span, which was not known
-pub grows_more : (rules : List Rule) (tokens : List SymbolId) (old known : List Span) (x : Bool) (r : Rule) (i j : ℕ) → Grows rules tokens old known x
+pub grows_more : (rules : List Rule) (tokens : List SymbolId) (old known : List Span) (x : Bool) (r : Rule) (i j : ℕ) → ExtendsKnown rules tokens old known x
     → Contains rules r → AreKnown tokens known r.right i j → i ≤ length tokens → j ≤ length tokens → (Contains known (span r.left i j) → ⊥)
-    → Grows rules tokens old (known ++ span r.left i j ∷ []) true
+    → ExtendsKnown rules tokens old (known ++ span r.left i j ∷ []) true
 grows_more rules tokens old known x r i j g c a li lj n = record {
   fine = fine_more rules tokens known r i j g.fine c a li lj n;
   kept = λ s m. Contains-append_left known (span r.left i j ∷ []) s (g.kept s m);
@@ -72,7 +72,7 @@ grows_more rules tokens old known x r i j g c a li lj n = record {
     longer true e = omega (arith, g.more e)
     longer false e = let same : length known ≡ length old = ap length (g.same e) in omega arith
 
-pub grows_none : (rules : List Rule) (tokens : List SymbolId) (known : List Span) → AreFine rules tokens known → Grows rules tokens known known false
+pub grows_none : (rules : List Rule) (tokens : List SymbolId) (known : List Span) → AreFine rules tokens known → ExtendsKnown rules tokens known known false
 grows_none rules tokens known f = record { fine = f; kept = λ s m. m; more = λ e. absurd cc; same = λ e. refl }
 
 -- what is known stays known
@@ -81,8 +81,9 @@ pub known_more : (tokens : List SymbolId) (old new : List Span) → ((s : Span) 
 known_more tokens old new f [] i j a = a
 known_more tokens old new f (x ∷ xs) i j a = (a.0, a.1, a.2, elim a.3 [ inl t ↦ inl t | inr c ↦ inr (f _ c) ], known_more tokens old new f xs a.0 j a.4)
 
-pub grows_then : (rules : List Rule) (tokens : List SymbolId) (a b c : List Span) (x y : Bool) → Grows rules tokens a b x → Grows rules tokens b c y
-    → Grows rules tokens a c (x || y)
+pub grows_then : (rules : List Rule) (tokens : List SymbolId) (a b c : List Span) (x y : Bool) → ExtendsKnown rules tokens a b x
+    → ExtendsKnown rules tokens b c y
+    → ExtendsKnown rules tokens a c (x || y)
 grows_then rules tokens a b c true y g h = record { fine = h.fine; kept = λ s m. h.kept s (g.kept s m); more = λ e. longer y refl; same = λ e. absurd cc }
   where
     longer : (z : Bool) → y ≡ z → length a < length c
@@ -111,7 +112,7 @@ AreKnown-le tokens known (x ∷ xs) i j a = omega (arith, a.1, a.2)
 
 -- within the text
 IsKnownWithin : List SymbolId → List Span → SymbolId → ℕ → ℕ → Type 0
-IsKnownWithin tokens known x i j = i ≤ length tokens → IsKnown tokens known x i j × (i ≤ j) × (j ≤ length tokens)
+IsKnownWithin tokens known x i j = i ≤ length tokens → IsKnownToDerive tokens known x i j × (i ≤ j) × (j ≤ length tokens)
 
 known_parts : (tokens : List SymbolId) (known : List Span) (xs : List SymbolId) (i : ℕ) (cuts : List ℕ) (j : ℕ) → Along (IsKnownWithin tokens known) xs i cuts j
     → i ≤ length tokens → AreKnown tokens known xs i j × (i ≤ j) × (j ≤ length tokens)
@@ -132,6 +133,6 @@ known_closed rules tokens known s = record {
 }
 
 pub known_all : (rules : List Rule) (tokens : List SymbolId) (known : List Span) → AreSettled rules tokens known → (x : SymbolId) (i j : ℕ)
-    → Derives rules tokens x i j → i ≤ length tokens → IsKnown tokens known x i j
+    → Derives rules tokens x i j → i ≤ length tokens → IsKnownToDerive tokens known x i j
 unfolding IsKnownWithin
 known_all rules tokens known s x i j d h = (least rules tokens (IsKnownWithin tokens known) (known_closed rules tokens known s) d h).0

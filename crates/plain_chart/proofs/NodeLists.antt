@@ -13,7 +13,7 @@ use Rattle.forest.specs.Orders.{node_cmp}
 use Rattle.plain_chart.specs.declared.spans.Span.{Span}
 use Rattle.plain_chart.specs.Span.{span}
 use Rattle.plain_chart.specs.Cuts.{AreSplits}
-use Rattle.plain_chart.specs.Nodes.{span_cmp, span_of, IsNodeAt, AreNodes}
+use Rattle.plain_chart.specs.Nodes.{chart_span_cmp, span_of, IsNodeAt, AreNodes}
 use Rattle.plain_chart.specs.Parts.{AreReached}
 use Rattle.plain_chart.proofs.Fine.{contains_push}
 use Rattle.plain_chart.proofs.SplitLists.{map_cases, map_has}
@@ -42,19 +42,19 @@ module _ (rules : List Rule) (tokens : List SymbolId) (spans : List Span) where
     ];
   }
 
-each_node : (a : Node) (nodes : List Node) → AllByRecursion (λ s. span_cmp (span_of a) s ≡ Less) (map span_of nodes)
+each_node : (a : Node) (nodes : List Node) → AllByRecursion (λ s. chart_span_cmp (span_of a) s ≡ Less) (map span_of nodes)
     → AllByRecursion (λ b. node_cmp a b ≡ Less) nodes
 each_node a [] e = tt
 each_node a (b ∷ nodes) e = (e.0, each_node a nodes e.1)
 
-sorted_nodes : (nodes : List Node) → IsStrictlySortedBy span_cmp (map span_of nodes) → IsStrictlySortedBy node_cmp nodes
+sorted_nodes : (nodes : List Node) → IsStrictlySortedBy chart_span_cmp (map span_of nodes) → IsStrictlySortedBy node_cmp nodes
 unfolding IsStrictlySortedBy
 sorted_nodes [] s = tt
 sorted_nodes (a ∷ nodes) s = (each_node a nodes s.0, sorted_nodes nodes s.1)
 
 pub nodes_ascend : (rules : List Rule) (tokens : List SymbolId) (spans : List Span) (nodes : List Node) → AreNodes rules tokens spans nodes
-    → IsStrictlySortedBy span_cmp spans → IsStrictlySortedBy node_cmp nodes
-nodes_ascend rules tokens spans nodes a s = sorted_nodes nodes (subst (λ q. IsStrictlySortedBy span_cmp q) (sym a.at) s)
+    → IsStrictlySortedBy chart_span_cmp spans → IsStrictlySortedBy node_cmp nodes
+nodes_ascend rules tokens spans nodes a s = sorted_nodes nodes (subst (λ q. IsStrictlySortedBy chart_span_cmp q) (sym a.at) s)
 
 pub forest_is : (rules : List Rule) (tokens : List SymbolId) (spans : List Span) (forest : Forest) → IsSentence rules tokens
     → AreNodes rules tokens spans forest.nodes → AreReached rules tokens spans → IsForestOf rules tokens forest

@@ -16,8 +16,8 @@ use Rattle.forest.proofs.Counting.{at_most}
 use Rattle.forest.proofs.Derivations.{Derives-le, Derives-within, Along-le}
 use Rattle.plain_chart.specs.declared.spans.Span.{Span}
 use Rattle.plain_chart.specs.Span.{span}
-use Rattle.plain_chart.specs.Known.{IsKnown, AreKnown, IsWhole}
-use Rattle.plain_chart.specs.Parts.{IsPartSpan, IsBelow, Adds, AreReached}
+use Rattle.plain_chart.specs.Known.{IsKnownToDerive, AreKnown, IsWhole}
+use Rattle.plain_chart.specs.Parts.{IsPartSpan, IsPartOfSpan, Adds, AreReached}
 use Rattle.plain_chart.proofs.Fine.{known_derived, known_along, distinct_push, contains_push}
 use Rattle.plain_chart.proofs.SplitLists.{contained, at_of}
 use Rattle.plain_chart.proofs.TableLemmas.{some_same}
@@ -64,7 +64,7 @@ module _ (known : List Span) where
 
 -- the parts along cuts whose second is below middle
 pub IsFrontSpan : List SymbolId → List Span → SymbolId → List SymbolId → ℕ → ℕ → ℕ → Span → Type 0
-IsFrontSpan tokens known x xs i j middle s = (k : ℕ) × (i ≤ k) × (k ≤ j) × (k < middle) × IsKnown tokens known x i k × AreKnown tokens known xs k j ×
+IsFrontSpan tokens known x xs i j middle s = (k : ℕ) × (i ≤ k) × (k ≤ j) × (k < middle) × IsKnownToDerive tokens known x i k × AreKnown tokens known xs k j ×
     ((span x i k ≡ s) ⊎ IsPartSpan tokens known xs k j s)
 
 module _ (tokens : List SymbolId) (known : List Span) (x : SymbolId) (xs : List SymbolId) (i j : ℕ) where
@@ -72,7 +72,8 @@ module _ (tokens : List SymbolId) (known : List Span) (x : SymbolId) (xs : List 
   unfolding IsFrontSpan
   adds_front_none old = adds_none known _ old (λ s k p. absurd (omega (arith, p.1, p.3)))
 
-  pub adds_front_more : (middle : ℕ) (a b c d : List Span) → i ≤ middle → middle ≤ j → IsKnown tokens known x i middle → AreKnown tokens known xs middle j
+  pub adds_front_more : (middle : ℕ) (a b c d : List Span) → i ≤ middle → middle ≤ j → IsKnownToDerive tokens known x i middle
+      → AreKnown tokens known xs middle j
       → Adds known (IsFrontSpan tokens known x xs i j middle) a b → Adds known (λ (s : Span). span x i middle ≡ s) b c
       → Adds known (IsPartSpan tokens known xs middle j) c d → Adds known (IsFrontSpan tokens known x xs i j (middle + 1)) a d
   unfolding IsFrontSpan
@@ -96,7 +97,7 @@ module _ (tokens : List SymbolId) (known : List Span) (x : SymbolId) (xs : List 
       ])
       (adds_then known _ _ a c d (adds_then known _ _ a b c f g) h)
 
-  pub adds_front_same : (middle : ℕ) (a b : List Span) → (IsKnown tokens known x i middle → AreKnown tokens known xs middle j → ⊥)
+  pub adds_front_same : (middle : ℕ) (a b : List Span) → (IsKnownToDerive tokens known x i middle → AreKnown tokens known xs middle j → ⊥)
       → Adds known (IsFrontSpan tokens known x xs i j middle) a b → Adds known (IsFrontSpan tokens known x xs i j (middle + 1)) a b
   unfolding IsFrontSpan
   adds_front_same middle a b none f =
@@ -106,7 +107,7 @@ module _ (tokens : List SymbolId) (known : List Span) (x : SymbolId) (xs : List 
         | inl below ↦ (r.0, r.1, r.2, below, r.4, r.5, r.6)
         | inr above ↦
             let same : r.0 ≡ middle = omega (arith, r.3) in
-            absurd (none (subst (λ k. IsKnown tokens known x i k) same r.4) (subst (λ k. AreKnown tokens known xs k j) same r.5))
+            absurd (none (subst (λ k. IsKnownToDerive tokens known x i k) same r.4) (subst (λ k. AreKnown tokens known xs k j) same r.5))
       ])
       f
 
@@ -164,7 +165,7 @@ module _ (rules : List Rule) (tokens : List SymbolId) (known : List Span) (t : S
       f
 
   pub below_all : (n : ℕ) (a b : List Span) → length rules ≤ n → Adds known (IsBelowFirst rules tokens known t n) a b
-      → Adds known (IsBelow rules tokens known t) a b
+      → Adds known (IsPartOfSpan rules tokens known t) a b
   unfolding IsBelowFirst
   below_all n a b end f =
       adds_same known _ _ a b
@@ -211,7 +212,7 @@ module _ (rules : List Rule) (tokens : List SymbolId) (known : List Span) (whole
   ]
 
   -- what is below a span of the forest is in the forest
-  pub below_in_forest : (t s : Span) → InForest rules tokens t.symbol t.from t.to → Contains known s → IsBelow rules tokens known t s
+  pub below_in_forest : (t s : Span) → InForest rules tokens t.symbol t.from t.to → Contains known s → IsPartOfSpan rules tokens known t s
       → InForest rules tokens s.symbol s.from s.to
   below_in_forest t s f k b =
       let (ends, along, is) = span_part b.rule.right t.from t.to s b.part in
@@ -221,7 +222,7 @@ module _ (rules : List Rule) (tokens : List SymbolId) (known : List Span) (whole
   -- a set with the root and all that is below its members has the forest
   pub forest_in : AreTerminals rules tokens → (reached : List Span) → Contains reached (span START 0 (length tokens))
       → ((t : Span) → Contains reached t → t.from ≤ length tokens)
-      → ((t s : Span) → Contains reached t → Contains known s → IsBelow rules tokens known t s → Contains reached s) → (x : SymbolId) (i j : ℕ)
+      → ((t s : Span) → Contains reached t → Contains known s → IsPartOfSpan rules tokens known t s → Contains reached s) → (x : SymbolId) (i j : ℕ)
       → InForest rules tokens x i j → Contains reached (span x i j)
   forest_in terminals reached first begins closed x i j root = first
   forest_in terminals reached first begins closed x i j (part_of {r = r} {i = a} {j = b} {cuts = cuts} f c along is n) =
@@ -242,7 +243,7 @@ pub record AreReaching (rules : List Rule) (tokens : List SymbolId) (known reach
   pub first : Contains reached (span START 0 (length tokens))
   pub distinct : IsDistinct reached
   pub passed : at ≤ length reached
-  pub closed : (k : ℕ) (t s : Span) → k < at → slice_get reached k ≡ Some t → Contains known s → IsBelow rules tokens known t s → Contains reached s
+  pub closed : (k : ℕ) (t s : Span) → k < at → slice_get reached k ≡ Some t → Contains known s → IsPartOfSpan rules tokens known t s → Contains reached s
 
 module _ (rules : List Rule) (tokens : List SymbolId) (known : List Span) (whole : IsWhole rules tokens known) where
   pub reaching_first : AreReaching rules tokens known (span START 0 (length tokens) ∷ []) 0
@@ -274,7 +275,7 @@ module _ (rules : List Rule) (tokens : List SymbolId) (known : List Span) (whole
         ]) in
         omega (arith, bound)
 
-    pub reaching_more : (t : Span) (new : List Span) → slice_get reached at ≡ Some t → Adds known (IsBelow rules tokens known t) reached new
+    pub reaching_more : (t : Span) (new : List Span) → slice_get reached at ≡ Some t → Adds known (IsPartOfSpan rules tokens known t) reached new
         → AreReaching rules tokens known new (at + 1)
     reaching_more t new get_t a = record {
       within = λ s c. elim (a.within s c) [
@@ -282,21 +283,21 @@ module _ (rules : List Rule) (tokens : List SymbolId) (known : List Span) (whole
         | inr d ↦ below_in_forest rules tokens known whole t s (inv.within t (contained reached at t get_t)) d.0 d.1
       ];
       spans = λ s c. elim (a.within s c) [ inl d ↦ inv.spans s d | inr d ↦ inr d.0 ];
-      first = kept known (IsBelow rules tokens known t) reached new a (span START 0 (length tokens)) inv.first;
+      first = kept known (IsPartOfSpan rules tokens known t) reached new a (span START 0 (length tokens)) inv.first;
       distinct = a.distinct inv.distinct;
       passed = omega (arith, slice_get_within reached at t get_t, ap length a.grown, length-append reached a.more);
       closed = λ k u s l get c b. elim (cases_lt k at) [
         | inl below ↦
             let old : slice_get (reached ++ a.more) k ≡ Some u = subst (λ q. slice_get q k ≡ Some u) a.grown get in
             let there = get_prefix reached a.more k u (omega (arith, inv.passed)) old in
-            kept known (IsBelow rules tokens known t) reached new a s (inv.closed k u s below there c b)
+            kept known (IsPartOfSpan rules tokens known t) reached new a s (inv.closed k u s below there c b)
         | inr above ↦
             let same : k ≡ at = omega arith in
             let old : slice_get (reached ++ a.more) at ≡ Some u = subst (λ q. slice_get q at ≡ Some u) a.grown
             (subst (λ m. slice_get new m ≡ Some u) same get) in
             let there = get_prefix reached a.more at u (slice_get_within reached at t get_t) old in
             let one : u ≡ t = some_same u t (sym there ∙ get_t) in
-            a.all s c (subst (λ q. IsBelow rules tokens known q s) one b)
+            a.all s c (subst (λ q. IsPartOfSpan rules tokens known q s) one b)
       ];
     }
 

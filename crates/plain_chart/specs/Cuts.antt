@@ -9,12 +9,12 @@ use Rattle.forest.specs.declared.nodes.Split.{Split}
 use Rattle.forest.specs.Orders.{split_cmp}
 use Rattle.forest.specs.Forests.{IsSplit}
 use Rattle.plain_chart.specs.declared.spans.Span.{Span}
-use Rattle.plain_chart.specs.Known.{IsKnown}
+use Rattle.plain_chart.specs.Known.{IsKnownToDerive}
 
 -- the cuts are those of the symbols from i to j, all parts known
 abbrev pub AreKnownCuts : List SymbolId → List Span → List SymbolId → ℕ → ℕ → List ℕ → Type 0
 AreKnownCuts tokens known [] i j cuts = (i ≡ j) × (cuts ≡ i ∷ [])
-AreKnownCuts tokens known (x ∷ xs) i j cuts = (k : ℕ) × (rest : List ℕ) × (i ≤ k) × (k ≤ j) × (cuts ≡ i ∷ rest) × IsKnown tokens known x i k
+AreKnownCuts tokens known (x ∷ xs) i j cuts = (k : ℕ) × (rest : List ℕ) × (i ≤ k) × (k ≤ j) × (cuts ≡ i ∷ rest) × IsKnownToDerive tokens known x i k
     × AreKnownCuts tokens known xs k j rest
 
 -- the list has exactly these cuts, in strictly ascending order

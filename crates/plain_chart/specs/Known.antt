@@ -9,13 +9,13 @@ use Rattle.plain_chart.specs.Span.{span}
 use Rattle.plain_chart.specs.declared.limits.TheConstants.{PLACES}
 
 -- x is known to derive the tokens from i to j
-abbrev pub IsKnown : List SymbolId → List Span → SymbolId → ℕ → ℕ → Type 0
-IsKnown tokens known x i j = ((slice_get tokens i ≡ Some x) × (j ≡ i + 1)) ⊎ Contains known (span x i j)
+abbrev pub IsKnownToDerive : List SymbolId → List Span → SymbolId → ℕ → ℕ → Type 0
+IsKnownToDerive tokens known x i j = ((slice_get tokens i ≡ Some x) × (j ≡ i + 1)) ⊎ Contains known (span x i j)
 
 -- the symbols are known to derive the tokens from i to j, along some cuts
 abbrev pub AreKnown : List SymbolId → List Span → List SymbolId → ℕ → ℕ → Type 0
 AreKnown tokens known [] i j = i ≡ j
-AreKnown tokens known (x ∷ xs) i j = (k : ℕ) × (i ≤ k) × (k ≤ j) × IsKnown tokens known x i k × AreKnown tokens known xs k j
+AreKnown tokens known (x ∷ xs) i j = (k : ℕ) × (i ≤ k) × (k ≤ j) × IsKnownToDerive tokens known x i k × AreKnown tokens known xs k j
 
 -- the places are those from which the symbols are known to derive the tokens up to j
 abbrev pub AreSources : List SymbolId → List Span → List SymbolId → ℕ → List Bool → Type 0
@@ -23,7 +23,7 @@ AreSources tokens known xs j places = (i : ℕ) → i < PLACES → (slice_get pl
 
 -- x is known to derive the tokens from i to a place up to j that is among those ahead
 abbrev pub ReachesAhead : List SymbolId → List Span → SymbolId → ℕ → List Bool → ℕ → Type 0
-ReachesAhead tokens known x i ahead j = (k : ℕ) × (i ≤ k) × (k ≤ j) × IsKnown tokens known x i k × (slice_get ahead k ≡ Some true)
+ReachesAhead tokens known x i ahead j = (k : ℕ) × (i ≤ k) × (k ≤ j) × IsKnownToDerive tokens known x i k × (slice_get ahead k ≡ Some true)
 
 -- the places are those from which x leads to one of those ahead
 abbrev pub AreLeads : List SymbolId → List Span → SymbolId → List Bool → ℕ → List Bool → Type 0
@@ -38,21 +38,21 @@ abbrev pub IsSettled : List SymbolId → List Span → Rule → ℕ → ℕ → 
 IsSettled tokens known rule i j = AreKnown tokens known rule.right i j → Contains known (span rule.left i j)
 
 -- the span is of a rule, and lies within the text
-abbrev pub IsWithin : List Rule → List SymbolId → Span → Type 0
-IsWithin rules tokens s = IsNonterminal rules s.symbol × (s.from ≤ length tokens) × (s.to ≤ length tokens)
+abbrev pub IsSpanWithin : List Rule → List SymbolId → Span → Type 0
+IsSpanWithin rules tokens s = IsNonterminal rules s.symbol × (s.from ≤ length tokens) × (s.to ≤ length tokens)
 
 -- the known spans are derived, come once, and are of rules within the text
 pub record AreFine (rules : List Rule) (tokens : List SymbolId) (known : List Span) : Type 0 where
   pub derived : AreDerived rules tokens known
   pub distinct : IsDistinct known
-  pub within : (s : Span) → Contains known s → IsWithin rules tokens s
+  pub within : (s : Span) → Contains known s → IsSpanWithin rules tokens s
 
 -- each rule is settled at each span within the text
 abbrev pub AreSettled : List Rule → List SymbolId → List Span → Type 0
 AreSettled rules tokens known = (r : Rule) (i j : ℕ) → Contains rules r → j ≤ length tokens → IsSettled tokens known r i j
 
 -- the known spans stay, stay fine, and there are more of them just where this is told
-pub record Grows (rules : List Rule) (tokens : List SymbolId) (old new : List Span) (changed : Bool) : Type 0 where
+pub record ExtendsKnown (rules : List Rule) (tokens : List SymbolId) (old new : List Span) (changed : Bool) : Type 0 where
   pub fine : AreFine rules tokens new
   pub kept : (s : Span) → Contains old s → Contains new s
   pub more : changed ≡ true → length old < length new
@@ -61,4 +61,4 @@ pub record Grows (rules : List Rule) (tokens : List SymbolId) (old new : List Sp
 -- known is just what is derived
 pub record IsWhole (rules : List Rule) (tokens : List SymbolId) (known : List Span) : Type 0 where
   pub fine : AreFine rules tokens known
-  pub all : (x : SymbolId) (i j : ℕ) → Derives rules tokens x i j → i ≤ length tokens → IsKnown tokens known x i j
+  pub all : (x : SymbolId) (i j : ℕ) → Derives rules tokens x i j → i ≤ length tokens → IsKnownToDerive tokens known x i j

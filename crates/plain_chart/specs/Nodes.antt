@@ -10,8 +10,8 @@ use Rattle.plain_chart.specs.Span.{span}
 use Rattle.plain_chart.specs.Cuts.{AreSplits}
 
 -- as the nodes of a forest: by from, then by to, then by symbol
-abbrev pub span_cmp : Span → Span → Ordering
-span_cmp a b = ordering_then (nat_cmp a.from b.from) (ordering_then (nat_cmp a.to b.to) (nat_cmp a.symbol.0 b.symbol.0))
+abbrev pub chart_span_cmp : Span → Span → Ordering
+chart_span_cmp a b = ordering_then (nat_cmp a.from b.from) (ordering_then (nat_cmp a.to b.to) (nat_cmp a.symbol.0 b.symbol.0))
 
 abbrev pub span_of : Node → Span
 span_of node = span node.symbol node.from node.to

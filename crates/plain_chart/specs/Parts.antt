@@ -6,16 +6,16 @@ use Rattle.forest.specs.Distinct.{IsDistinct}
 use Rattle.forest.specs.Forests.{InForest}
 use Rattle.plain_chart.specs.declared.spans.Span.{Span}
 use Rattle.plain_chart.specs.Span.{span}
-use Rattle.plain_chart.specs.Known.{IsKnown, AreKnown}
+use Rattle.plain_chart.specs.Known.{IsKnownToDerive, AreKnown}
 
 -- s is the span of a part of the symbols, along some known cuts from i to j
 abbrev pub IsPartSpan : List SymbolId → List Span → List SymbolId → ℕ → ℕ → Span → Type 0
 IsPartSpan tokens known [] i j s = ⊥
-IsPartSpan tokens known (x ∷ xs) i j s = (k : ℕ) × (i ≤ k) × (k ≤ j) × IsKnown tokens known x i k × AreKnown tokens known xs k j ×
+IsPartSpan tokens known (x ∷ xs) i j s = (k : ℕ) × (i ≤ k) × (k ≤ j) × IsKnownToDerive tokens known x i k × AreKnown tokens known xs k j ×
     ((span x i k ≡ s) ⊎ IsPartSpan tokens known xs k j s)
 
 -- s is the span of a part of a rule of the span t
-pub record IsBelow (rules : List Rule) (tokens : List SymbolId) (known : List Span) (t s : Span) : Type 0 where
+pub record IsPartOfSpan (rules : List Rule) (tokens : List SymbolId) (known : List Span) (t s : Span) : Type 0 where
   pub rule : Rule
   pub live : Contains rules rule
   pub left : rule.left ≡ t.symbol

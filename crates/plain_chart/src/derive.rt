@@ -2,7 +2,7 @@
 ghost use Rattle.std.specs.Prelude.{◌≡◌, ℕ, ◌+◌, ◌<◌, ◌≤◌, ◌↔◌, IsTrue, IsFalse, length, IfOk, Contains, slice_get, Some, true};
 ghost use Rattle.forest.specs.declared.symbols.SymbolId.{SymbolId};
 ghost use Rattle.forest.specs.declared.rules.Rule.{Rule};
-ghost use Rattle.plain_chart.specs.Known.{IsKnown, AreKnown, AreFine, AreSettled, Grows, IsSettled, IsWhole, ReachesAhead, AreLeads, AreSources};
+ghost use Rattle.plain_chart.specs.Known.{IsKnownToDerive, AreKnown, AreFine, AreSettled, ExtendsKnown, IsSettled, IsWhole, ReachesAhead, AreLeads, AreSources};
 ghost use Rattle.plain_chart.specs.declared.limits.TheConstants.{PLACES};
 
 use crate::limits::PLACES;
@@ -26,7 +26,7 @@ pub fn is_known(known: &Spans, tokens: &[SymbolId], symbol: SymbolId, from: u32,
     requires few { length tokens.now < PLACES }
     requires begins { from < PLACES }
     requires ends { to < PLACES }
-    ensures { IsTrue result ↔ IsKnown tokens.now known.now symbol from to }
+    ensures { IsTrue result ↔ IsKnownToDerive tokens.now known.now symbol from to }
 {
     is_token(tokens, symbol, from, to) || known.has(symbol, from, to)
 }
@@ -111,7 +111,7 @@ fn settle(
     requires at { at < length rules.now }
     requires ends { to ≤ length tokens.now }
     requires fine { AreFine rules.now tokens.now known.old }
-    ensures grows { IfOk result (λ yes. Grows rules.now tokens.now known.old known.new yes) }
+    ensures grows { IfOk result (λ yes. ExtendsKnown rules.now tokens.now known.old known.new yes) }
     ensures settled { IfOk result (λ yes. IsFalse yes → (r : Rule) (i : ℕ) → slice_get rules.now at ≡ Some r → IsSettled tokens.now known.new r i to) }
 {
     let rule = &rules[at];
@@ -137,7 +137,7 @@ fn settle_rule(
     requires few { length tokens.now < PLACES }
     requires at { at < length rules.now }
     requires fine { AreFine rules.now tokens.now known.old }
-    ensures grows { IfOk result (λ yes. Grows rules.now tokens.now known.old known.new yes) }
+    ensures grows { IfOk result (λ yes. ExtendsKnown rules.now tokens.now known.old known.new yes) }
     ensures settled { IfOk result (λ yes. IsFalse yes → (r : Rule) (i j : ℕ) → slice_get rules.now at ≡ Some r
         → j ≤ length tokens.now → IsSettled tokens.now known.new r i j) }
 {
@@ -157,7 +157,7 @@ fn round(
 ) -> Result<bool, AllocError>
     requires few { length tokens.now < PLACES }
     requires fine { AreFine rules.now tokens.now known.old }
-    ensures grows { IfOk result (λ yes. Grows rules.now tokens.now known.old known.new yes) }
+    ensures grows { IfOk result (λ yes. ExtendsKnown rules.now tokens.now known.old known.new yes) }
     ensures settled { IfOk result (λ yes. IsFalse yes → AreSettled rules.now tokens.now known.new) }
 {
     let mut changed = false;

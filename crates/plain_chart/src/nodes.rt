@@ -5,7 +5,7 @@ ghost use Rattle.forest.specs.Derivation.{IsSentence, AreTerminals};
 ghost use Rattle.forest.specs.Forests.{IsForestOf};
 ghost use Rattle.plain_chart.specs.declared.spans.Span.{Span};
 ghost use Rattle.plain_chart.specs.Known.{IsWhole};
-ghost use Rattle.plain_chart.specs.Nodes.{span_cmp, IsNodeAt, AreNodes};
+ghost use Rattle.plain_chart.specs.Nodes.{chart_span_cmp, IsNodeAt, AreNodes};
 ghost use Rattle.plain_chart.specs.declared.limits.TheConstants.{PLACES};
 
 use crate::cuts::splits_of;
@@ -16,7 +16,7 @@ use std::alloc::{AllocError, Global};
 
 /// The spans in the order of the nodes of a forest, each once.
 fn sorted_spans(spans: Spans) -> Result<Vec<Span>, AllocError>
-    ensures ordered { IfOk result (λ v. IsStrictlySortedBy span_cmp v.items) }
+    ensures ordered { IfOk result (λ v. IsStrictlySortedBy chart_span_cmp v.items) }
     ensures same { IfOk result (λ v. (s : Span) → Contains v.items s ↔ Contains spans s) }
 {
     let mut items = spans.into_vec();

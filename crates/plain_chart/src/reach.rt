@@ -5,7 +5,7 @@ ghost use Rattle.forest.specs.Derivation.{IsSentence, AreTerminals};
 ghost use Rattle.plain_chart.specs.declared.spans.Span.{Span};
 ghost use Rattle.plain_chart.specs.Span.{span as span_at};
 ghost use Rattle.plain_chart.specs.Known.{IsWhole};
-ghost use Rattle.plain_chart.specs.Parts.{IsPartSpan, IsBelow, Adds, AreReached};
+ghost use Rattle.plain_chart.specs.Parts.{IsPartSpan, IsPartOfSpan, Adds, AreReached};
 ghost use Rattle.plain_chart.specs.declared.limits.TheConstants.{PLACES};
 
 use crate::derive::{is_known, sources};
@@ -74,7 +74,7 @@ fn add_below(
     requires few { length tokens.now < PLACES }
     requires begins { span.from < PLACES }
     requires ends { span.to < PLACES }
-    ensures { OnOk result (Adds known.now (IsBelow rules.now tokens.now known.now span) reached.old reached.new) }
+    ensures { OnOk result (Adds known.now (IsPartOfSpan rules.now tokens.now known.now span) reached.old reached.new) }
 {
     for rule in rules {
         if is_same(rule.left, span.symbol) {

@@ -5,7 +5,7 @@ use Rattle.std.proofs.lemmas.Bool.{cases_lt}
 use Rattle.regex_ast.specs.Expressions.{Expression}
 use Rattle.regex_ast.specs.Spelling.{Cut, cuts_text, SpellsExpression}
 use Rattle.regex_ast.specs.Refusals.{HasContinuation, IsBrokenAt, IsEmptyClass, IsTooDeep, IsOneTooMany, IsFirstPlace, SpellsWithinLimits, IsCause}
-use Rattle.regex_ast.specs.Nests.{State, reading, nest_end, after_byte, after_bytes, first_state, judged, judged_if_whole, answer_of, Stops}
+use Rattle.regex_ast.specs.Nests.{State, reading, nest_end, after_byte, after_bytes, first_state, judged, judged_if_whole, answer_of, StopsReading}
 use Rattle.regex_ast.specs.declared.bad_regex.BadRegex.{BadRegex}
 use Rattle.regex_ast.specs.declared.bad_regex.BadRegex.TheVariants.{Shape, EmptyClass, TooDeep, TooManyPositions, NoMemory}
 use Rattle.regex_ast.specs.declared.breaches.Breaches.{Breaches}
@@ -210,12 +210,12 @@ HasCause text = (cause : BadRegex) × ¬ (cause ≡ NoMemory) × IsCause text ca
 -- the first byte that may not stand in its place
 step_stop : (text : List ℕ) (i : ℕ) (s : State) (o : Option State) → i < length text
     → after_bytes first_state 0 (take i text) ≡ Some s → after_byte s i (get_or text i 0) ≡ o
-    → ((u : State) → after_bytes first_state 0 (take (i + 1) text) ≡ Some u → (at : ℕ) × Stops text (Shape at)) → (at : ℕ) × Stops text (Shape at)
+    → ((u : State) → after_bytes first_state 0 (take (i + 1) text) ≡ Some u → (at : ℕ) × StopsReading text (Shape at)) → (at : ℕ) × StopsReading text (Shape at)
 step_stop text i s None within so_far next later = (i, stops_here text i s (Shape i) within so_far (refl, next))
 step_stop text i s (Some u) within so_far next later = later u (goes_on text i s u within so_far next)
 
 first_stop : (left i : ℕ) (text : List ℕ) (s : State) → i + left ≡ length text
-    → after_bytes first_state 0 (take i text) ≡ Some s → after_bytes first_state 0 text ≡ None → (at : ℕ) × Stops text (Shape at)
+    → after_bytes first_state 0 (take i text) ≡ Some s → after_bytes first_state 0 text ≡ None → (at : ℕ) × StopsReading text (Shape at)
 first_stop zero i text s all so_far none =
     let end : i ≡ length text = omega arith in
     absurd (none_some (sym none ∙ ap (after_bytes first_state 0) (sym (take_whole text) ∙ ap (λ n. take n text) (sym end)) ∙ so_far))

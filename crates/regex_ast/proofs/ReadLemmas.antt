@@ -10,10 +10,10 @@ use Rattle.regex_ast.specs.Expressions.{Expression, star, plus, maybe, tree_of}
 use Rattle.regex_ast.specs.declared.regex.Regex.{Regex}
 use Rattle.regex_ast.specs.Spelling.{Cut, cuts_text, pieces_of, AreCutTexts, IsPiece, SpellsInCuts}
 use Rattle.regex_ast.specs.Refusals.{HasContinuation, IsBrokenAt, is_class, is_opening, is_closing, IsEmptyClass, IsTooDeep, IsOneTooMany, NoPlace}
-use Rattle.regex_ast.specs.Refusals.{IsFirstPlace, IsWithinLimits, SpellsWithinLimits, IsCause}
+use Rattle.regex_ast.specs.Refusals.{IsFirstPlace, AreWithinLimits, SpellsWithinLimits, IsCause}
 use Rattle.regex_ast.specs.Lexing.{lexed}
 use Rattle.regex_ast.specs.Nests.{Nest, levels, put, signed, nest_end, depth_of, first_offset, is_nil, noted_piece, State, reading, accepted, stepped}
-use Rattle.regex_ast.specs.Nests.{after_byte, after_bytes, no_breaches, first_state, judged, judged_if_whole, answer_of, Stops, StopsAt}
+use Rattle.regex_ast.specs.Nests.{after_byte, after_bytes, no_breaches, first_state, judged, judged_if_whole, answer_of, StopsReading, StopsAt}
 use Rattle.regex_ast.specs.declared.bad_regex.BadRegex.{BadRegex}
 use Rattle.regex_ast.specs.declared.bad_regex.BadRegex.TheVariants.{Shape, EmptyClass, TooDeep, TooManyPositions, NoMemory}
 use Rattle.regex_ast.specs.declared.breaches.Breaches.{Breaches}
@@ -426,7 +426,7 @@ unfolding FoundAt
 no_place_found Bad cuts None h none = refl
 no_place_found Bad cuts (Some at) h none = absurd (none h.0 h.1 h.2 h.3 h.4)
 
-within_judged : (cuts : List Cut) (f : Breaches) (e : Expression) → FoundIn cuts f → IsWithinLimits cuts → judged f.empty f.deep f.many e ≡ Ok e
+within_judged : (cuts : List Cut) (f : Breaches) (e : Expression) → FoundIn cuts f → AreWithinLimits cuts → judged f.empty f.deep f.many e ≡ Ok e
 within_judged cuts f e h w =
     ap (λ o. judged o f.deep f.many e) (no_place_found IsEmptyClass cuts f.empty h.empties w.no_empty_class)
     ∙ ap (λ o. judged None o f.many e) (no_place_found IsTooDeep cuts f.deep h.deeps w.not_too_deep)
@@ -441,7 +441,7 @@ only_answer text e s end h k =
     subst (λ x. answer_of x end ≡ Ok e) same (ap (λ o. judged_if_whole o r.1 end) r.4 ∙ within_judged h.0 r.1 e r.5 h.2)
 
 -- a text that is spelled is read to its end
-pub not_stopped : (text : List ℕ) (e : Expression) (refusal : BadRegex) → SpellsWithinLimits text e → Stops text refusal → refusal ≡ NoMemory
+pub not_stopped : (text : List ℕ) (e : Expression) (refusal : BadRegex) → SpellsWithinLimits text e → StopsReading text refusal → refusal ≡ NoMemory
 not_stopped text e (Shape at) h k =
     absurd (stopped (take (at + 1) text) k.2 (drop (at + 1) text, e, (h.0, subst (λ x. SpellsInCuts x h.0 e) (sym (take-append-drop (at + 1) text)) h.1)))
 not_stopped text e (EmptyClass at) h k = absurd k
@@ -450,7 +450,7 @@ not_stopped text e (TooManyPositions at) h k = absurd k
 not_stopped text e NoMemory h k = refl
 
 -- where a byte may not stand
-pub stop_is_cause : (text : List ℕ) (refusal : BadRegex) → Stops text refusal → IsCause text refusal
+pub stop_is_cause : (text : List ℕ) (refusal : BadRegex) → StopsReading text refusal → IsCause text refusal
 stop_is_cause text (Shape at) k = (
   omega (arith, k.0),
   continued (take at text) k.1.0 (all_read (take at text) k.1.0 k.1.1),
@@ -493,8 +493,8 @@ pub goes_on : (text : List ℕ) (i : ℕ) (s u : State) → i < length text → 
 goes_on text i s u h e k = one_more_byte text i s h e ∙ k
 
 pub stops_here : (text : List ℕ) (i : ℕ) (s : State) (refusal : BadRegex) → i < length text → after_bytes first_state 0 (take i text) ≡ Some s
-    → StopsAt (after_byte s i (get_or text i 0)) i refusal → Stops text refusal
-stops_here text i s (Shape at) h e k = subst (λ n. Stops text (Shape n)) (sym k.0) (h, (s, e), one_more_byte text i s h e ∙ k.1)
+    → StopsAt (after_byte s i (get_or text i 0)) i refusal → StopsReading text refusal
+stops_here text i s (Shape at) h e k = subst (λ n. StopsReading text (Shape n)) (sym k.0) (h, (s, e), one_more_byte text i s h e ∙ k.1)
 stops_here text i s (EmptyClass at) h e k = absurd k
 stops_here text i s (TooDeep at) h e k = absurd k
 stops_here text i s (TooManyPositions at) h e k = absurd k
@@ -534,7 +534,7 @@ err_same e = cc
 
 limits_found : (cuts : List Cut) (f : Breaches) (e x : Expression) (empty deep many : Option ℕ) → FoundAt IsEmptyClass cuts empty → FoundAt IsTooDeep cuts deep
     → FoundAt IsOneTooMany cuts many
-    → judged empty deep many e ≡ Ok x → IsWithinLimits cuts × (e ≡ x)
+    → judged empty deep many e ≡ Ok x → AreWithinLimits cuts × (e ≡ x)
 unfolding FoundAt
 limits_found cuts f e x (Some at) deep many a b c h = absurd (ok_err (sym h))
 limits_found cuts f e x None (Some at) many a b c h = absurd (ok_err (sym h))

@@ -154,10 +154,10 @@ StopsAt after at (TooManyPositions offset) = ⊥
 StopsAt after at NoMemory = Unit {0}
 
 -- some byte of the text may not stand there, or memory ran out
-abbrev pub Stops : List ℕ → BadRegex → Type 0
-Stops text (Shape at) =
+abbrev pub StopsReading : List ℕ → BadRegex → Type 0
+StopsReading text (Shape at) =
     (at < length text) × ((s : State) × (after_bytes first_state 0 (take at text) ≡ Some s)) × (after_bytes first_state 0 (take (at + 1) text) ≡ None)
-Stops text (EmptyClass at) = ⊥
-Stops text (TooDeep at) = ⊥
-Stops text (TooManyPositions at) = ⊥
-Stops text NoMemory = Unit {0}
+StopsReading text (EmptyClass at) = ⊥
+StopsReading text (TooDeep at) = ⊥
+StopsReading text (TooManyPositions at) = ⊥
+StopsReading text NoMemory = Unit {0}

@@ -56,14 +56,14 @@ IsFirstPlace Bad cuts at =
     × (cuts ≡ before ++ cut ∷ after) × Bad before cut × NoPlace Bad before × (at ≡ length (cuts_text before))
 
 -- the limits on an expression
-pub record IsWithinLimits (cuts : List Cut) : Type 0 where
+pub record AreWithinLimits (cuts : List Cut) : Type 0 where
   pub no_empty_class : NoPlace IsEmptyClass cuts
   pub not_too_deep : NoPlace IsTooDeep cuts
   pub not_too_many : NoPlace IsOneTooMany cuts
 
 -- the text spells the expression within the limits
 abbrev pub SpellsWithinLimits : List ℕ → Expression → Type 0
-SpellsWithinLimits text e = (cuts : List Cut) × SpellsInCuts text cuts e × IsWithinLimits cuts
+SpellsWithinLimits text e = (cuts : List Cut) × SpellsInCuts text cuts e × AreWithinLimits cuts
 
 -- the text spells an expression, in cuts with P
 abbrev pub SpellsWith : (List Cut → Type 0) → List ℕ → Type 0

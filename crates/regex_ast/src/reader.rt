@@ -3,7 +3,7 @@
 ghost use Rattle.std.specs.Prelude.{◌≡◌, ◌<◌, ◌≤◌, ◌+◌, ◌^◌, ◌⊎◌, Some, Ok, Err, length, IfOk, IfErr, MatchResult};
 ghost use Rattle.regex_ast.specs.declared.limits.TheConstants.{REGEX_LIMIT, POSITION_LIMIT};
 ghost use Rattle.regex_ast.specs.Expressions.{Expression, tree_of, class_count};
-ghost use Rattle.regex_ast.specs.Nests.{first_state, after_byte, after_bytes, answer_of, judged, StopsAt, Stops};
+ghost use Rattle.regex_ast.specs.Nests.{first_state, after_byte, after_bytes, answer_of, judged, StopsAt, StopsReading};
 ghost use Rattle.regex_ast.specs.Held.{state_of};
 ghost use Rattle.regex_ast.specs.Refusals.{SpellsWithinLimits, IsCause};
 
@@ -133,7 +133,7 @@ pub fn read_regex(alloc: Global, text: &[u8]) -> Result<Regex, BadRegex>
 fn read_bytes(alloc: Global, text: &[u8]) -> Result<Reader, BadRegex>
     requires { length text.now ≤ REGEX_LIMIT }
     ensures stands { IfOk result (λ reader. after_bytes first_state 0 text.now ≡ Some (state_of reader)) }
-    ensures stops { IfErr result (λ refusal. Stops text.now refusal) }
+    ensures stops { IfErr result (λ refusal. StopsReading text.now refusal) }
 {
     let mut reader = Reader::new(alloc);
     for (at, byte) in text.iter().enumerate() {

@@ -5,15 +5,15 @@ use Rattle.std.specs.declared.vec.Vec.{Vec}
 use Rattle.std.proofs.lemmas.Option.{slice_get_within}
 use Rattle.forest.specs.declared.symbols.SymbolId.{SymbolId}
 use Rattle.forest.specs.declared.rules.Rule.{Rule}
-use Rattle.gss.specs.PlaceGraphs.{place_of}
+use Rattle.gss.specs.PlaceGraphs.{place_with}
 use Rattle.rekers.specs.declared.parser.Parser.{Parser}
 use Rattle.rekers.specs.Found.{found}
-use Rattle.rekers.specs.Sound.{IsSound, IsLevel, IsOpener, AreOpeners}
+use Rattle.rekers.specs.Sound.{IsSoundParser, IsLevel, IsOpener, AreOpeners}
 use Rattle.rekers.proofs.Growth.{node_below}
 use Rattle.rekers.proofs.NewNodes.{old_or_last}
 use Rattle.rekers.proofs.PlacedNodes.{highest}
 
-module _ (rules : List Rule) (tokens : List SymbolId) (p : Parser) (sound : IsSound rules tokens p) where
+module _ (rules : List Rule) (tokens : List SymbolId) (p : Parser) (sound : IsSoundParser rules tokens p) where
   next_is_level : IsLevel (found p) (p.level.at + 1) (length p.stacks.nodes) (length p.stacks.links)
   next_is_level = record {
     nodes_within = omega arith;
@@ -30,7 +30,7 @@ module _ (rules : List Rule) (tokens : List SymbolId) (p : Parser) (sound : IsSo
     behind = λ other place e l. absurd (omega (arith, l, slice_get_within p.stacks.nodes other place e));
     none_before = λ other kernel n l opens. absurd (omega (
       arith,
-      highest (found p) p.level.at p.level.first_node p.level.first_link sound.level other (place_of n.state (p.level.at + 1)) n.there,
+      highest (found p) p.level.at p.level.first_node p.level.first_link sound.level other (place_with n.state (p.level.at + 1)) n.there,
     ));
   }
 
@@ -45,7 +45,7 @@ module _ (rules : List Rule) (tokens : List SymbolId) (p : Parser) (sound : IsSo
   }
 
   pub advanced : (openers : Vec ℕ Global) → openers.items ≡ p.openers.items ++ length p.stacks.nodes ∷ []
-      → IsSound rules tokens (record p {
+      → IsSoundParser rules tokens (record p {
         openers = openers;
         level = record { at = p.level.at + 1; first_node = length p.stacks.nodes; first_link = length p.stacks.links };
         is_flat = true;
@@ -64,15 +64,16 @@ module _ (rules : List Rule) (tokens : List SymbolId) (p : Parser) (sound : IsSo
   -- the same, where the numbers of nodes and links were counted
   pub advanced_to : (openers : Vec ℕ Global) (nodes links : ℕ) → nodes ≡ length p.stacks.nodes → links ≡ length p.stacks.links
       → openers.items ≡ p.openers.items ++ nodes ∷ []
-      → IsSound rules tokens (record p { openers = openers; level = record { at = p.level.at + 1; first_node = nodes; first_link = links }; is_flat = true })
+      → IsSoundParser rules tokens (record p { openers = openers; level = record { at = p.level.at + 1; first_node = nodes; first_link = links }; is_flat =
+          true })
   advanced_to openers nodes links counts_nodes counts_links is =
-      subst (λ n. IsSound rules tokens (record p {
+      subst (λ n. IsSoundParser rules tokens (record p {
         openers = openers;
         level = record { at = p.level.at + 1; first_node = n; first_link = links };
         is_flat = true;
       }))
       (sym counts_nodes)
-      (subst (λ n. IsSound rules tokens (record p {
+      (subst (λ n. IsSoundParser rules tokens (record p {
         openers = openers;
         level = record { at = p.level.at + 1; first_node = length p.stacks.nodes; first_link = n };
         is_flat = true;

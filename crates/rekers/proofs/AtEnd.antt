@@ -20,7 +20,7 @@ use Rattle.rekers.specs.Size.{IsSize}
 use Rattle.rekers.specs.Answers.{kinds_of}
 use Rattle.rekers.specs.Found.{found}
 use Rattle.rekers.specs.Reductions.{IsWorked}
-use Rattle.rekers.specs.Sound.{IsSound, IsLevel}
+use Rattle.rekers.specs.Sound.{IsSoundParser, IsLevel}
 use Rattle.rekers.specs.Steps.{AreShifted}
 use Rattle.rekers.proofs.Trails.{part_cases}
 use Rattle.rekers.proofs.Whole.{IsDone}
@@ -30,7 +30,7 @@ use Rattle.rekers.proofs.FoundSizes.{size}
 
 -- all levels are done
 pub record IsAtEnd (rules : List Rule) (tokens : List Token) (parser : Parser) : Type 0 where
-  pub sound : IsSound rules (kinds_of tokens) parser
+  pub sound : IsSoundParser rules (kinds_of tokens) parser
   pub worked : IsWorked rules (found parser) (length parser.stacks.links) (length parser.stacks.nodes)
   pub shifted : AreShifted rules (kinds_of tokens) (found parser) parser.level.at
   pub at : parser.level.at ≡ length tokens

@@ -7,13 +7,14 @@ use Rattle.forest.specs.declared.rules.Rule.{Rule}
 use Rattle.forest.specs.Derivation.{Derives, token, IsNonterminal, IsSentence}
 use Rattle.gss.specs.declared.stack_graph.Place.{Place}
 use Rattle.gss.specs.declared.stack_graph.Edge.{Edge}
-use Rattle.gss.specs.PlaceGraphs.{place_of, edge_of, LeadsToBy}
+use Rattle.gss.specs.PlaceGraphs.{place_with, edge_of, LeadsToBy}
 use Rattle.gss.specs.Numbers.{HasNone}
 use Rattle.packed_spans.specs.declared.span.Span.{Span}
 use Rattle.packed_spans.specs.Packed.{PackedSplit, Packed}
-use Rattle.packed_spans.specs.Complete.{IsPartAt, of_token, of_span, StandsAlong, no_parts, next_part, Tells, IsComplete}
+use Rattle.packed_spans.specs.Complete.{IsPartAt, of_token, of_span, StandsAlong, no_parts, next_part, TellsSplit, IsComplete}
 use Rattle.rekers.specs.States.{IsLastViable}
-use Rattle.rekers.specs.Found.{Found, Keeps}
+use Rattle.forest.specs.Numbers.{KeepsNumbers}
+use Rattle.rekers.specs.Found.{Findings}
 use Rattle.rekers.specs.Sound.{IsLevel}
 use Rattle.rekers.proofs.Growth.{keeps_append, node_below}
 use Rattle.rekers.proofs.NewNodes.{at_end, old_or_last}
@@ -21,28 +22,29 @@ use Rattle.rekers.proofs.Trails.{between_from}
 use Rattle.rekers.proofs.Whole.{IsDone, same_node, all_placed, links_over, start_moves}
 use Rattle.rekers.proofs.FoundSpans.{span_of, made, different, known, packed}
 
-abbrev pub packed_of : Found → Packed
+abbrev pub packed_of : Findings → Packed
 packed_of f = record { spans = f.spans; splits = f.splits }
 
 -- the spans with one more
-abbrev pub with_span : Found → Span → Packed
+abbrev pub with_span : Findings → Span → Packed
 with_span f span = record { spans = f.spans ++ span ∷ []; splits = f.splits }
 
-part_grows : {rules : List Rule} {tokens : List SymbolId} {spans more : List Span} {x : SymbolId} {i label j : ℕ} → Keeps spans more
+part_grows : {rules : List Rule} {tokens : List SymbolId} {spans more : List Span} {x : SymbolId} {i label j : ℕ} → KeepsNumbers spans more
     → IsPartAt rules tokens spans x i label j → IsPartAt rules tokens more x i label j
 part_grows k (of_token e n) = of_token e n
 part_grows k (of_span y e) = of_span y (k _ _ e)
 
-stands_grow : {rules : List Rule} {tokens : List SymbolId} {spans more : List Span} {xs : List SymbolId} {i j : ℕ} {parts cuts : List ℕ} → Keeps spans more
+stands_grow : {rules : List Rule} {tokens : List SymbolId} {spans more : List Span} {xs : List SymbolId} {i j : ℕ} {parts cuts : List ℕ}
+    → KeepsNumbers spans more
     → StandsAlong rules tokens spans xs i parts cuts j → StandsAlong rules tokens more xs i parts cuts j
 stands_grow k no_parts = no_parts
 stands_grow k (next_part p s) = next_part (part_grows k p) (stands_grow k s)
 
-tells_grow : {rules : List Rule} {tokens : List SymbolId} {spans more : List Span} {rule : Rule} {cuts : List ℕ} {split : PackedSplit} → Keeps spans more
-    → Tells rules tokens spans rule cuts split → Tells rules tokens more rule cuts split
+tells_grow : {rules : List Rule} {tokens : List SymbolId} {spans more : List Span} {rule : Rule} {cuts : List ℕ} {split : PackedSplit} → KeepsNumbers spans more
+    → TellsSplit rules tokens spans rule cuts split → TellsSplit rules tokens more rule cuts split
 tells_grow k t = record { span = t.span; at = k _ _ t.at; number = t.number; left = t.left; along = stands_grow k t.along }
 
-module _ (rules : List Rule) (tokens : List SymbolId) (f : Found) (end : IsDone rules tokens f) where
+module _ (rules : List Rule) (tokens : List SymbolId) (f : Findings) (end : IsDone rules tokens f) where
   -- the root is among the spans
   pub complete : (root : ℕ) → slice_get f.spans root ≡ Some (span_of START 0 (length tokens)) → IsComplete rules tokens (packed_of f) root
   complete root e = record {
@@ -105,7 +107,7 @@ module _ (rules : List Rule) (tokens : List SymbolId) (f : Found) (end : IsDone 
         reached = reached;
         none_behind = λ other i state.
             let (node, n) = all_placed rules tokens f end state in
-            end.graph.rising node last (place_of n.state i) place n.there e (omega (arith, node_below n, count));
+            end.graph.rising node last (place_with n.state i) place n.there e (omega (arith, node_below n, count));
       }
 
   module _ (first_node first_link : ℕ) (level : IsLevel f (length tokens) first_node first_link) where

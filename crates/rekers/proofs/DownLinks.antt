@@ -11,20 +11,21 @@ use Rattle.forest.specs.declared.rules.Rule.{Rule}
 use Rattle.forest.proofs.Ascending.{contains_here, contains_there, contains_cases}
 use Rattle.edit_log.specs.History.{Grammar}
 use Rattle.item_sets.proofs.Chains.{at_below}
-use Rattle.live_graph.specs.Meaning.{Meaning}
+use Rattle.live_graph.specs.Meaning.{GraphMeaning}
 use Rattle.gss.specs.declared.stack_graph.Edge.{Edge}
 use Rattle.gss.specs.Numbers.{IsLeast, HasNone}
-use Rattle.gss.specs.PlaceGraphs.{LeadsFrom, LeadsFromSame, edge_of}
-use Rattle.parser_states.specs.Asked.{Stands}
+use Rattle.gss.specs.PlaceGraphs.{LeadsDownFrom, LeadsFromSame, edge_of}
+use Rattle.parser_states.specs.Asked.{StandsButKernels}
 use Rattle.rekers.specs.declared.parser.Parser.{Parser}
 use Rattle.rekers.specs.declared.walk.Walk.{Walk}
 use Rattle.rekers.specs.declared.parse_error.ParseError.{ParseError}
 use Rattle.rekers.specs.declared.parse_error.ParseError.TheVariants.{TooLarge, NoMemory}
-use Rattle.rekers.specs.Answers.{UnlessNoMemory}
+use Rattle.rekers.specs.Answers.{UnlessParseNoMemory}
 use Rattle.rekers.specs.declared.level.Level.{Level}
-use Rattle.rekers.specs.Found.{Found, found, Keeps, Grows}
+use Rattle.forest.specs.Numbers.{KeepsNumbers}
+use Rattle.rekers.specs.Found.{Findings, found, Grows}
 use Rattle.rekers.specs.Reductions.{IsPartial}
-use Rattle.rekers.specs.Sound.{IsSound}
+use Rattle.rekers.specs.Sound.{IsSoundParser}
 use Rattle.rekers.specs.Steps.{IsStep, IsWithinLimit, IsWalking, IsWalked, IsFresh, IsThrough, IsToReduce, Reduces}
 use Rattle.rekers.proofs.Growth.{one_at, node_grows, partial_grows}
 use Rattle.rekers.proofs.Trails.{one_down}
@@ -38,10 +39,10 @@ links_left None through = 0
 links_left (Some link) through = suc through - link
 
 -- the parser has gone down the links of the node before the next one
-pub record IsDown {Base : Type 0} (tokens : List SymbolId) (old new : Parser) (graph graph' : Meaning Base) (before after : ℕ) (walk : Walk)
+pub record IsDown {Base : Type 0} (tokens : List SymbolId) (old new : Parser) (graph graph' : GraphMeaning Base) (before after : ℕ) (walk : Walk)
     (node left : ℕ) (next : Option ℕ) : Type 0 where
   pub step : IsStep tokens old new graph graph' before after
-  pub stands : Stands graph graph'
+  pub stands : StandsButKernels graph graph'
   pub back : before ≤ after
   pub within : IsWithinLimit new
   pub end : drop left new.trail.items ≡ drop left old.trail.items
@@ -50,31 +51,32 @@ pub record IsDown {Base : Type 0} (tokens : List SymbolId) (old new : Parser) (g
   pub walked : IsWalkedTo graph.grammar.rules (found old) (found new) walk old.level.at node (drop left old.trail.items) bound
   pub next_is : IsNext new.stacks.links node bound next
 
-pub next_first : (links : List Edge) (node : ℕ) (next : Option ℕ) → IfSome next (IsLeast (LeadsFrom links node)) → IfNone next (HasNone (LeadsFrom links node))
+pub next_first : (links : List Edge) (node : ℕ) (next : Option ℕ) → IfSome next (IsLeast (LeadsDownFrom links node))
+    → IfNone next (HasNone (LeadsDownFrom links node))
     → IsNext links node 0 next
 next_first links node None some none = λ link (above, leads). none link leads
 next_first links node (Some first) some none = record { is = (omega arith, some.is); least = λ link less (above, leads). some.least link less leads }
 
-pub next_after : (links : List Edge) (node link : ℕ) (next : Option ℕ) → LeadsFrom links node link → IfSome next (IsLeast (LeadsFromSame links link))
+pub next_after : (links : List Edge) (node link : ℕ) (next : Option ℕ) → LeadsDownFrom links node link → IfSome next (IsLeast (LeadsFromSame links link))
     → IfNone next (HasNone (LeadsFromSame links link)) → IsNext links node (link + 1) next
 next_after links node link next (edge, there, upper) = by next
   where
     same : (l : ℕ) → LeadsFromBehind links node (link + 1) l → LeadsFromSame links link l
-    same l (above, leads) = (omega (arith, above), edge, there, subst (λ n. LeadsFrom links n l) (sym upper) leads)
+    same l (above, leads) = (omega (arith, above), edge, there, subst (λ n. LeadsDownFrom links n l) (sym upper) leads)
 
     back : (l : ℕ) → LeadsFromSame links link l → LeadsFromBehind links node (link + 1) l
     back l (above, other, at, leads) =
         let is : other ≡ edge = one_at links link other edge at there in
-        (omega (arith, above), subst (λ n. LeadsFrom links n l) (ap (λ (e : Edge). e.upper) is ∙ upper) leads)
+        (omega (arith, above), subst (λ n. LeadsDownFrom links n l) (ap (λ (e : Edge). e.upper) is ∙ upper) leads)
 
     by : (next : Option ℕ) → IfSome next (IsLeast (LeadsFromSame links link)) → IfNone next (HasNone (LeadsFromSame links link))
         → IsNext links node (link + 1) next
     by None some none = λ l leads. none l (same l leads)
     by (Some first) some none = record { is = back first some.is; least = λ l less leads. some.least l less (same l leads) }
 
-pub down_none : {Base : Type 0} (tokens : List SymbolId) (p : Parser) (graph : Meaning Base) (steps : ℕ) (walk : Walk) (node left : ℕ) (next : Option ℕ)
-    → IsSound graph.grammar.rules tokens p → IsWithinLimit p → IfSome next (IsLeast (LeadsFrom p.stacks.links node))
-    → IfNone next (HasNone (LeadsFrom p.stacks.links node)) → IsDown tokens p p graph graph steps steps walk node left next
+pub down_none : {Base : Type 0} (tokens : List SymbolId) (p : Parser) (graph : GraphMeaning Base) (steps : ℕ) (walk : Walk) (node left : ℕ) (next : Option ℕ)
+    → IsSoundParser graph.grammar.rules tokens p → IsWithinLimit p → IfSome next (IsLeast (LeadsDownFrom p.stacks.links node))
+    → IfNone next (HasNone (LeadsDownFrom p.stacks.links node)) → IsDown tokens p p graph graph steps steps walk node left next
 down_none tokens p graph steps walk node left next sound within some none = record {
   step = step_none tokens p graph steps sound;
   stands = stands_none graph;
@@ -87,8 +89,8 @@ down_none tokens p graph steps walk node left next sound within some none = reco
   next_is = next_first p.stacks.links node next some none;
 }
 
-pub sound_trail : (rules : List Rule) (tokens : List SymbolId) (p : Parser) (trail : Vec ℕ Global) → IsSound rules tokens p
-    → IsSound rules tokens (record p { trail = trail })
+pub sound_trail : (rules : List Rule) (tokens : List SymbolId) (p : Parser) (trail : Vec ℕ Global) → IsSoundParser rules tokens p
+    → IsSoundParser rules tokens (record p { trail = trail })
 sound_trail rules tokens p trail sound = record {
   numbered = sound.numbered;
   terminals = sound.terminals;
@@ -100,7 +102,7 @@ sound_trail rules tokens p trail sound = record {
   spans_below = sound.spans_below;
 }
 
-still_below : {X : Type 0} (old new : List X) (n : ℕ) → Keeps old new → n < length old → n < length new
+still_below : {X : Type 0} (old new : List X) (n : ℕ) → KeepsNumbers old new → n < length old → n < length new
 still_below old new n keeps l = let (x, e) = at_below old n l in slice_get_within new n x (keeps n x e)
 
 drop_one : {X : Type 0} (n : ℕ) (xs : List X) → drop 1 (drop n xs) ≡ drop (suc n) xs
@@ -108,14 +110,14 @@ drop_one zero xs = refl
 drop_one (suc n) [] = refl
 drop_one (suc n) (x ∷ xs) = drop_one n xs
 
-module _ {Base : Type 0} (tokens : List SymbolId) (old p : Parser) (graph first : Meaning Base) (before between : ℕ) (walk : Walk) (node left : ℕ)
-    (met : Bool) (sound : IsSound graph.grammar.rules tokens old)
+module _ {Base : Type 0} (tokens : List SymbolId) (old p : Parser) (graph first : GraphMeaning Base) (before between : ℕ) (walk : Walk) (node left : ℕ)
+    (met : Bool) (sound : IsSoundParser graph.grammar.rules tokens old)
     (walking : IsWalking graph.grammar.rules (found old) old.level.first_link old.level.at walk node left met old.trail.items) where
   -- the walk goes on from one of the links
   module _ (link : ℕ) (down : IsDown tokens old p graph first before between walk node left (Some link)) (some : 0 < left) (trail : Vec ℕ Global)
       (puts : drop (left - 1) trail.items ≡ link ∷ drop (left - 1 + 1) p.trail.items) where
-    now : IsSound graph.grammar.rules tokens p
-    now = subst (λ (gr : Grammar). IsSound gr.rules tokens p) down.stands.grammar down.step.sound
+    now : IsSoundParser graph.grammar.rules tokens p
+    now = subst (λ (gr : Grammar). IsSoundParser gr.rules tokens p) down.stands.grammar down.step.sound
 
     pub inside : link < length p.stacks.links
     inside = let (edge, there, upper) = down.next_is.is.1 in slice_get_within p.stacks.links link edge there
@@ -174,7 +176,7 @@ module _ {Base : Type 0} (tokens : List SymbolId) (old p : Parser) (graph first 
         (sym down.stands.grammar) leveled
 
     -- and comes back
-    module _ (q : Parser) (second : Meaning Base) (after : ℕ) (step : IsStep tokens (record p { trail = trail }) q first second between after) where
+    module _ (q : Parser) (second : GraphMeaning Base) (after : ℕ) (step : IsStep tokens (record p { trail = trail }) q first second between after) where
       step_both : IsStep tokens old q graph second before after
       step_both =
           let on : IsStep tokens p q first second between after =
@@ -186,13 +188,13 @@ module _ {Base : Type 0} (tokens : List SymbolId) (old p : Parser) (graph first 
 
       pub down_more : IsWalked first.grammar.rules (found p) (found q) walk p.level.at (drop (left - 1) trail.items) → IsWithinLimit q
           → drop (left - 1) q.trail.items ≡ drop (left - 1) trail.items → length q.trail.items ≡ length trail.items → length trail.items ≡ length p.trail.items
-          → Stands first second → between ≤ after → (next : Option ℕ) → IfSome next (IsLeast (LeadsFromSame q.stacks.links link))
+          → StandsButKernels first second → between ≤ after → (next : Option ℕ) → IfSome next (IsLeast (LeadsFromSame q.stacks.links link))
           → IfNone next (HasNone (LeadsFromSame q.stacks.links link)) → IsDown tokens old q graph second before after walk node left next
       down_more walked within kept size same_size stands back next is_some is_none =
           let rules = graph.grammar.rules in
           let end = drop left old.trail.items in
           let both = stands_on graph first second down.stands stands in
-          let later : IsSound rules tokens q = subst (λ (gr : Grammar). IsSound gr.rules tokens q) both.grammar step_both.sound in
+          let later : IsSoundParser rules tokens q = subst (λ (gr : Grammar). IsSoundParser gr.rules tokens q) both.grammar step_both.sound in
           let by_rules : IsWalked rules (found p) (found q) walk p.level.at (drop (left - 1) trail.items) =
           subst (λ (gr : Grammar). IsWalked gr.rules (found p) (found q) walk p.level.at (drop (left - 1) trail.items)) down.stands.grammar walked in
           let by_level : IsWalked rules (found p) (found q) walk old.level.at (drop (left - 1) trail.items) =
@@ -235,13 +237,13 @@ module _ {Base : Type 0} (tokens : List SymbolId) (old p : Parser) (graph first 
 pub is_left : (n : ℕ) → (n ≡ 0 → ⊥) → 0 < n
 is_left n not = omega arith
 
-pub whole_through : (rules : List Rule) (f : Found) (first_link at : ℕ) (walk : Walk) (node : ℕ) (met : Bool) (trail : List ℕ) → IsTrue met
+pub whole_through : (rules : List Rule) (f : Findings) (first_link at : ℕ) (walk : Walk) (node : ℕ) (met : Bool) (trail : List ℕ) → IsTrue met
     → IsWalking rules f first_link at walk node 0 met trail → IsThrough walk.through trail
 whole_through rules f first_link at walk node met trail is_met walking =
     record { has = walking.meets.0 is_met; none_behind = walking.none_behind }
 
 -- the trail is whole and goes through the link
-pub whole_reduces : (rules : List Rule) (f : Found) (first_link at : ℕ) (walk : Walk) (node left : ℕ) (met : Bool) (trail : List ℕ) → left ≡ 0 → IsTrue met
+pub whole_reduces : (rules : List Rule) (f : Findings) (first_link at : ℕ) (walk : Walk) (node left : ℕ) (met : Bool) (trail : List ℕ) → left ≡ 0 → IsTrue met
     → IsWalking rules f first_link at walk node left met trail → IsToReduce rules f walk.reduction node trail walk.top at
 whole_reduces rules f first_link at walk node left met trail zero_left is_met walking = record {
   labels = here.labels;
@@ -260,7 +262,7 @@ whole_reduces rules f first_link at walk node left met trail zero_left is_met wa
     here = subst (λ n. IsWalking rules f first_link at walk node n met trail) zero_left walking
 
 -- the reduction along the whole trail was made
-pub walked_reduced : (rules : List Rule) (f g : Found) → Grows f g → (first_link at : ℕ) (walk : Walk) (node left : ℕ) (met : Bool) (trail : List ℕ)
+pub walked_reduced : (rules : List Rule) (f g : Findings) → Grows f g → (first_link at : ℕ) (walk : Walk) (node left : ℕ) (met : Bool) (trail : List ℕ)
     → left ≡ 0 → IsTrue met → IsWalking rules f first_link at walk node left met trail → Reduces rules f g walk.reduction node trail walk.top at
     → IsWalked rules f g walk at (drop left trail)
 walked_reduced rules f g grows first_link at walk node left met trail zero_left is_met walking made =
@@ -271,7 +273,7 @@ walked_reduced rules f g grows first_link at walk node left met trail zero_left 
     here = subst (λ n. IsWalking rules f first_link at walk node n met trail) zero_left walking
 
 -- the whole trail does not go through the link
-pub walked_missed : (rules : List Rule) (f : Found) (first_link at : ℕ) (walk : Walk) (node left : ℕ) (met : Bool) (trail : List ℕ) → left ≡ 0
+pub walked_missed : (rules : List Rule) (f : Findings) (first_link at : ℕ) (walk : Walk) (node left : ℕ) (met : Bool) (trail : List ℕ) → left ≡ 0
     → (IsTrue met → ⊥) → IsWalking rules f first_link at walk node left met trail → IsWalked rules f f walk at (drop left trail)
 walked_missed rules f first_link at walk node left met trail zero_left not_met walking =
     subst (λ n. IsWalked rules f f walk at (drop n trail)) (sym zero_left)
@@ -281,7 +283,7 @@ walked_missed rules f first_link at walk node left met trail zero_left not_met w
     here = subst (λ n. IsWalking rules f first_link at walk node n met trail) zero_left walking
 
 -- the trail has left the level without the link
-pub walked_out : (rules : List Rule) (tokens : List SymbolId) (p : Parser) → IsSound rules tokens p → (walk : Walk) (node left : ℕ) (met : Bool)
+pub walked_out : (rules : List Rule) (tokens : List SymbolId) (p : Parser) → IsSoundParser rules tokens p → (walk : Walk) (node left : ℕ) (met : Bool)
     → (IsTrue met → ⊥) → node < p.level.first_node → IsWalking rules (found p) p.level.first_link p.level.at walk node left met p.trail.items
     → IsWalked rules (found p) (found p) walk p.level.at (drop left p.trail.items)
 walked_out rules tokens p sound walk node left met not_met before walking = walked_below rules tokens (found p) sound.graph p.level.at p.level.first_node
@@ -290,10 +292,10 @@ walked_out rules tokens p sound walk node left met not_met before walking = walk
 
 -- what holds unless memory ran out is passed on with the error
 pub unless_on : {Y : Type 0} {P Q : Type 0} (e : ParseError) (r : Result Y ParseError) → ((y : ParseError) × (r ≡ Err y) × (y ≡ e)) → (P → Q)
-    → UnlessNoMemory {X = Unit {0}} (Err e) P → UnlessNoMemory r Q
-unless_on {Y} {P} {Q} e r (y, is, same) on holds = subst (λ x. UnlessNoMemory {X = Y} x Q) (sym (is ∙ ap Err same)) (by e holds)
+    → UnlessParseNoMemory {X = Unit {0}} (Err e) P → UnlessParseNoMemory r Q
+unless_on {Y} {P} {Q} e r (y, is, same) on holds = subst (λ x. UnlessParseNoMemory {X = Y} x Q) (sym (is ∙ ap Err same)) (by e holds)
   where
-    by : (e : ParseError) → UnlessNoMemory {X = Unit {0}} (Err e) P → UnlessNoMemory {X = Y} (Err e) Q
+    by : (e : ParseError) → UnlessParseNoMemory {X = Unit {0}} (Err e) P → UnlessParseNoMemory {X = Y} (Err e) Q
     by (TooLarge count) p = on p
     by NoMemory p = tt
 

@@ -10,19 +10,19 @@ use Rattle.edit_log.specs.History.{Grammar}
 use Rattle.item_sets.specs.declared.item.Item.{Item}
 use Rattle.item_sets.proofs.Chains.{at_below}
 use Rattle.gss.specs.declared.stack_graph.Place.{Place}
-use Rattle.gss.specs.PlaceGraphs.{place_of}
-use Rattle.live_graph.specs.Meaning.{Meaning}
+use Rattle.gss.specs.PlaceGraphs.{place_with}
+use Rattle.live_graph.specs.Meaning.{GraphMeaning}
 use Rattle.packed_spans.specs.Packed.{PackedSplit}
 use Rattle.packed_spans.proofs.Lists.{contains_at, at_contained}
 use Rattle.parser_states.specs.declared.reduction.Reduction.{Reduction}
 use Rattle.parser_states.specs.Reductions.{ListsReductions}
 use Rattle.parser_states.specs.Expanded.{OfState}
-use Rattle.parser_states.specs.Asked.{Stands}
+use Rattle.parser_states.specs.Asked.{StandsButKernels}
 use Rattle.rekers.specs.declared.parser.Parser.{Parser}
 use Rattle.rekers.specs.declared.level.Level.{Level}
 use Rattle.rekers.specs.Found.{found, IsNode}
-use Rattle.rekers.specs.Reductions.{IsReducible, IsReduced, IsTold, IsWorked}
-use Rattle.rekers.specs.Sound.{IsSound}
+use Rattle.rekers.specs.Reductions.{IsReducible, IsReduced, IsFoundAlong, IsWorked}
+use Rattle.rekers.specs.Sound.{IsSoundParser}
 use Rattle.rekers.specs.Steps.{IsStep, IsWithinLimit, IsToReduce, Reduces}
 use Rattle.rekers.proofs.Growth.{one_at, one_kernel, kernel_at, node_grows, told_grows}
 use Rattle.rekers.proofs.Walks.{partial_left, reduced_on, told_back}
@@ -32,10 +32,10 @@ use Rattle.rekers.proofs.Worked.{worked_node}
 use Rattle.rekers.proofs.EmptyRules.{one_listing, other_rule, along_none, listed_reducible, reducible_listed}
 
 -- the reductions of the node by empty rules that stand before this number are made
-pub record HasEmptied {Base : Type 0} (tokens : List SymbolId) (old new : Parser) (graph graph' : Meaning Base) (before after node past : ℕ) : Type 0 where
+pub record HasEmptied {Base : Type 0} (tokens : List SymbolId) (old new : Parser) (graph graph' : GraphMeaning Base) (before after node past : ℕ) : Type 0 where
   pub step : IsStep tokens old new graph graph' before after
   pub within : IsWithinLimit new
-  pub stands : Stands graph graph'
+  pub stands : StandsButKernels graph graph'
   pub never_back : before ≤ after
   pub trail : new.trail.items ≡ []
   pub kernel : List Item
@@ -44,15 +44,15 @@ pub record HasEmptied {Base : Type 0} (tokens : List SymbolId) (old new : Parser
   pub lists : ListsReductions graph.grammar.rules kernel (λ size. size ≡ 0) reductions
   pub made : (n : ℕ) (r : Reduction) → n < past → slice_get reductions n ≡ Some r → IsReduced (found new) r node [] old.level.at
   pub only : (split : PackedSplit) → Contains new.spans.splits split → Contains old.spans.splits split
-      ⊎ (IsTold graph.grammar.rules (found new) split [] node × (n : ℕ) × (r : Reduction) × (n < past) × (slice_get reductions n ≡ Some r)
+      ⊎ (IsFoundAlong graph.grammar.rules (found new) split [] node × (n : ℕ) × (r : Reduction) × (n < past) × (slice_get reductions n ≡ Some r)
       × (r.rule ≡ split.rule))
 
 -- the list is that of the empty reductions of the state
 abbrev pub AreEmpties : Parser → (state : ℕ) → List Reduction → Type 0
 AreEmpties parser state list = OfState parser.states state (λ rules kernel. ListsReductions rules kernel (λ size. size ≡ 0) list)
 
-pub none_emptied : {Base : Type 0} (tokens : List SymbolId) (p : Parser) (trail : Vec ℕ Global) (graph : Meaning Base) (steps node : ℕ) (place : Place)
-    (list : List Reduction) → IsSound graph.grammar.rules tokens p → IsWithinLimit p → trail.items ≡ [] → p.level.first_node ≤ node
+pub none_emptied : {Base : Type 0} (tokens : List SymbolId) (p : Parser) (trail : Vec ℕ Global) (graph : GraphMeaning Base) (steps node : ℕ) (place : Place)
+    (list : List Reduction) → IsSoundParser graph.grammar.rules tokens p → IsWithinLimit p → trail.items ≡ [] → p.level.first_node ≤ node
     → slice_get p.stacks.nodes node ≡ Some place → AreEmpties p place.state list
     → HasEmptied tokens p (record p { trail = trail }) graph graph steps steps node 0
 none_emptied tokens p trail graph steps node place list sound within none of_level there empties =
@@ -69,7 +69,7 @@ none_emptied tokens p trail graph steps node place list sound within none of_lev
       kernel = kernel;
       node_is = record {
         state = place.state;
-        there = subst (λ i. slice_get p.stacks.nodes node ≡ Some (place_of place.state i)) level there;
+        there = subst (λ i. slice_get p.stacks.nodes node ≡ Some (place_with place.state i)) level there;
         is_kernel = named;
       };
       reductions = list;
@@ -78,10 +78,10 @@ none_emptied tokens p trail graph steps node place list sound within none of_lev
       only = λ split c. inl c;
     }
 
-module _ {Base : Type 0} (tokens : List SymbolId) (p q : Parser) (graph graph' : Meaning Base) (before between node past : ℕ)
-    (sound : IsSound graph.grammar.rules tokens p) (so_far : HasEmptied tokens p q graph graph' before between node past) where
-  now : IsSound graph.grammar.rules tokens q
-  now = subst (λ (gr : Grammar). IsSound gr.rules tokens q) so_far.stands.grammar so_far.step.sound
+module _ {Base : Type 0} (tokens : List SymbolId) (p q : Parser) (graph graph' : GraphMeaning Base) (before between node past : ℕ)
+    (sound : IsSoundParser graph.grammar.rules tokens p) (so_far : HasEmptied tokens p q graph graph' before between node past) where
+  now : IsSoundParser graph.grammar.rules tokens q
+  now = subst (λ (gr : Grammar). IsSoundParser gr.rules tokens q) so_far.stands.grammar so_far.step.sound
 
   node_now : IsNode (found q) node so_far.kernel p.level.at
   node_now = node_grows (found p) (found q) so_far.step.grows so_far.node_is
@@ -143,9 +143,9 @@ module _ {Base : Type 0} (tokens : List SymbolId) (p q : Parser) (graph graph' :
       subst (λ (gr : Grammar). IsToReduce gr.rules (found q) r node q.trail.items node q.level.at) (sym so_far.stands.grammar) trailed
 
   -- it is made
-  pub emptied_more : (r : Reduction) → slice_get so_far.reductions past ≡ Some r → (t : Parser) (graph'' : Meaning Base) (after : ℕ)
+  pub emptied_more : (r : Reduction) → slice_get so_far.reductions past ≡ Some r → (t : Parser) (graph'' : GraphMeaning Base) (after : ℕ)
       → IsStep tokens q t graph' graph'' between after → Reduces graph'.grammar.rules (found q) (found t) r node q.trail.items node q.level.at
-      → IsWithinLimit t → t.trail ≡ q.trail → Stands graph' graph'' → between ≤ after
+      → IsWithinLimit t → t.trail ≡ q.trail → StandsButKernels graph' graph'' → between ≤ after
       → HasEmptied tokens p t graph graph'' before after node (past + 1)
   emptied_more r there t graph'' after step reduces within trail stands never_back =
       let by_rules = subst (λ (gr : Grammar). Reduces gr.rules (found q) (found t) r node q.trail.items node q.level.at) so_far.stands.grammar reduces in

@@ -17,7 +17,7 @@ use Rattle.item_sets.proofs.Numbering.{IsNumbered, one_right}
 use Rattle.gss.specs.declared.stack_graph.Edge.{Edge}
 use Rattle.parser_states.specs.declared.reduction.Reduction.{Reduction}
 use Rattle.parser_states.specs.Reductions.{number_cmp, ListsReductions}
-use Rattle.rekers.specs.Found.{Found, IsNode, IsTrail, here, over}
+use Rattle.rekers.specs.Found.{Findings, IsNode, IsTrail, here, over}
 use Rattle.rekers.specs.Reductions.{IsReducible}
 use Rattle.rekers.proofs.Growth.{one_kernel}
 use Rattle.rekers.proofs.Walks.{trail_size}
@@ -59,7 +59,7 @@ pub along_none : {links : List Edge} {lower top : ℕ} {trail labels : List ℕ}
 along_none here e = (refl, refl)
 along_none (over edge on) e = absurd cc
 
-module _ (rules : List Rule) (numbers : IsNumbered rules) (f : Found) (node at : ℕ) (kernel : List Item) (node_is : IsNode f node kernel at)
+module _ (rules : List Rule) (numbers : IsNumbered rules) (f : Findings) (node at : ℕ) (kernel : List Item) (node_is : IsNode f node kernel at)
     (reductions : List Reduction) (lists : ListsReductions rules kernel (λ size. size ≡ 0) reductions) where
   -- what is listed is a reduction along no links
   pub listed_reducible : (r : Reduction) → Contains reductions r → IsReducible rules f r node [] [] node at

@@ -17,14 +17,14 @@ use Rattle.item_sets.specs.Expansions.{HasMove}
 use Rattle.item_sets.proofs.Numbering.{IsNumbered}
 use Rattle.gss.specs.declared.stack_graph.Place.{Place}
 use Rattle.gss.specs.declared.stack_graph.Edge.{Edge}
-use Rattle.gss.specs.PlaceGraphs.{place_of, edge_of}
+use Rattle.gss.specs.PlaceGraphs.{place_with, edge_of}
 use Rattle.packed_spans.specs.declared.span.Span.{Span}
 use Rattle.packed_spans.specs.declared.span.TheConstants.{TOKEN_PART}
 use Rattle.packed_spans.specs.Packed.{PackedSplit}
-use Rattle.packed_spans.specs.Complete.{IsPartAt, StandsAlong, no_parts, next_part, Tells}
-use Rattle.rekers.specs.Size.{Link, IsLink, IsVisited, AreSome, IsSize, IsAbove}
-use Rattle.rekers.specs.Found.{Found, IsNode}
-use Rattle.rekers.specs.Sound.{IsSoundGraph, link_of}
+use Rattle.packed_spans.specs.Complete.{IsPartAt, StandsAlong, no_parts, next_part, TellsSplit}
+use Rattle.rekers.specs.Size.{StateLink, IsLink, IsVisited, AreSome, IsSize, IsAbove}
+use Rattle.rekers.specs.Found.{Findings, IsNode}
+use Rattle.rekers.specs.Sound.{IsSoundGraph, state_link_of}
 use Rattle.rekers.proofs.Growth.{one_at}
 use Rattle.rekers.proofs.Sound.{move_on_left}
 use Rattle.rekers.proofs.Trails.{part_cases}
@@ -51,48 +51,48 @@ at_of xs x (k, below, is) = (k, slice_get_read xs (length xs) k x refl below (sy
 
 -- ---- links
 
-place_at : Found → ℕ → Place
-place_at f node = get_or f.nodes node (place_of 0 0)
+place_at : Findings → ℕ → Place
+place_at f node = get_or f.nodes node (place_with 0 0)
 
-kernel_at : Found → ℕ → List Item
+kernel_at : Findings → ℕ → List Item
 kernel_at f node = get_or f.kernels (place_at f node).state []
 
 -- the link that the edge is
-link_in : Found → Edge → Link
-link_in f edge = link_of (kernel_at f edge.lower) (place_at f edge.lower).at edge.symbol (kernel_at f edge.upper) (place_at f edge.upper).at
+link_in : Findings → Edge → StateLink
+link_in f edge = state_link_of (kernel_at f edge.lower) (place_at f edge.lower).at edge.symbol (kernel_at f edge.upper) (place_at f edge.upper).at
 
-node_reads : (f : Found) (node : ℕ) (s : List Item) (i : ℕ) → IsNode f node s i → (kernel_at f node ≡ s) × ((place_at f node).at ≡ i)
+node_reads : (f : Findings) (node : ℕ) (s : List Item) (i : ℕ) → IsNode f node s i → (kernel_at f node ≡ s) × ((place_at f node).at ≡ i)
 unfolding kernel_at place_at
 node_reads f node s i n =
-    let place : place_at f node ≡ place_of n.state i = get_or_from_slice_get f.nodes node (place_of n.state i) (place_of 0 0) n.there in
+    let place : place_at f node ≡ place_with n.state i = get_or_from_slice_get f.nodes node (place_with n.state i) (place_with 0 0) n.there in
     let state : (place_at f node).state ≡ n.state = ap (λ (p : Place). p.state) place in (
       ap (λ k. get_or f.kernels k []) state ∙ get_or_from_slice_get f.kernels n.state s [] n.is_kernel,
       ap (λ (p : Place). p.at) place,
     )
 
-link_reads : (f : Found) (upper lower label : ℕ) (x : SymbolId) (s v : List Item) (i j : ℕ) → IsNode f lower s i → IsNode f upper v j
-    → link_in f (edge_of upper x lower label) ≡ link_of s i x v j
+link_reads : (f : Findings) (upper lower label : ℕ) (x : SymbolId) (s v : List Item) (i j : ℕ) → IsNode f lower s i → IsNode f upper v j
+    → link_in f (edge_of upper x lower label) ≡ state_link_of s i x v j
 unfolding link_in
 link_reads f upper lower label x s v i j n m =
     let (below, from) = node_reads f lower s i n in
     let (above, to) = node_reads f upper v j m in
-    ap (λ t. link_of t (place_at f lower).at x (kernel_at f upper) (place_at f upper).at) below
-    ∙ ap (λ k. link_of s k x (kernel_at f upper) (place_at f upper).at) from
-    ∙ ap (λ t. link_of s i x t (place_at f upper).at) above
-    ∙ ap (λ k. link_of s i x v k) to
+    ap (λ t. state_link_of t (place_at f lower).at x (kernel_at f upper) (place_at f upper).at) below
+    ∙ ap (λ k. state_link_of s k x (kernel_at f upper) (place_at f upper).at) from
+    ∙ ap (λ t. state_link_of s i x t (place_at f upper).at) above
+    ∙ ap (λ k. state_link_of s i x v k) to
 
 -- an edge with the link that it is
-record IsRead (rules : List Rule) (tokens : List SymbolId) (f : Found) (edge : Edge) : Type 0 where
+record IsRead (rules : List Rule) (tokens : List SymbolId) (f : Findings) (edge : Edge) : Type 0 where
   lower : List Item
   from : ℕ
   lower_is : IsNode f edge.lower lower from
   upper : List Item
   to : ℕ
   upper_is : IsNode f edge.upper upper to
-  is : link_in f edge ≡ link_of lower from edge.symbol upper to
-  link : IsLink rules tokens (link_of lower from edge.symbol upper to)
+  is : link_in f edge ≡ state_link_of lower from edge.symbol upper to
+  link : IsLink rules tokens (state_link_of lower from edge.symbol upper to)
 
-module _ (rules : List Rule) (tokens : List SymbolId) (f : Found) (graph : IsSoundGraph rules tokens f) where
+module _ (rules : List Rule) (tokens : List SymbolId) (f : Findings) (graph : IsSoundGraph rules tokens f) where
   reads : (number : ℕ) (edge : Edge) → slice_get f.links number ≡ Some edge → IsRead rules tokens f edge
   reads number edge e =
       let b = graph.links number edge e in
@@ -111,13 +111,14 @@ module _ (rules : List Rule) (tokens : List SymbolId) (f : Found) (graph : IsSou
   one_edge a b x y e g same =
       let p = reads a x e in
       let q = reads b y g in
-      let links : link_of p.lower p.from x.symbol p.upper p.to ≡ link_of q.lower q.from y.symbol q.upper q.to = sym p.is ∙ same ∙ q.is in
-      let from : q.from ≡ p.from = ap (λ (l : Link). l.from) (sym links) in
-      let kernel : q.lower ≡ p.lower = ap (λ (l : Link). l.lower) (sym links) in
+      let links : state_link_of p.lower p.from x.symbol p.upper p.to ≡ state_link_of q.lower q.from y.symbol q.upper q.to = sym p.is ∙ same ∙ q.is in
+      let from : q.from ≡ p.from = ap (λ (l : StateLink). l.from) (sym links) in
+      let kernel : q.lower ≡ p.lower = ap (λ (l : StateLink). l.lower) (sym links) in
       let other : IsNode f y.lower p.lower p.from =
       subst (λ t. IsNode f y.lower t p.from) kernel (subst (λ k. IsNode f y.lower q.lower k) from q.lower_is) in
-      graph.one_link a b x y _ _ e g (same_node rules tokens f graph p.lower_is other) (ap (λ (l : Link). l.symbol) links) p.upper_is.there q.upper_is.there
-      (ap (λ (l : Link). l.to) links)
+      graph.one_link a b x y _ _ e g (same_node rules tokens f graph p.lower_is other) (ap (λ
+          (l : StateLink). l.symbol) links) p.upper_is.there q.upper_is.there
+      (ap (λ (l : StateLink). l.to) links)
 
   -- the links that were found are some of the links
   some_links : AreSome (map (link_in f) f.links) (IsLink rules tokens)
@@ -140,11 +141,11 @@ ends_of : List Span → ℕ → List ℕ → List ℕ
 ends_of spans from [] = []
 ends_of spans from (label ∷ labels) = end_of spans from label ∷ ends_of spans (end_of spans from label) labels
 
-start_of : Found → PackedSplit → ℕ
+start_of : Findings → PackedSplit → ℕ
 start_of f split = (get_or f.spans split.span (span_of START 0 0)).from
 
 -- the split that the packed split tells
-split_in : Found → PackedSplit → Split
+split_in : Findings → PackedSplit → Split
 split_in f split = record { rule = split.rule; cuts = start_of f split ∷ ends_of f.spans (start_of f split) split.parts }
 
 end_reads : {rules : List Rule} {tokens : List SymbolId} (spans : List Span) → length spans ≤ TOKEN_PART → {x : SymbolId} {i label j : ℕ}
@@ -188,8 +189,8 @@ split_by rule cuts = record { rule = rule; cuts = cuts }
 abbrev packed_by : ℕ → RuleId → List ℕ → PackedSplit
 packed_by span rule parts = record { span = span; rule = rule; parts = parts }
 
-tells_read : (rules : List Rule) (tokens : List SymbolId) (f : Found) → length f.spans ≤ TOKEN_PART → (split : PackedSplit) (rule : Rule) (cuts : List ℕ)
-    (t : Tells rules tokens f.spans rule cuts split) → split_in f split ≡ split_by rule.number (t.span.from ∷ cuts)
+tells_read : (rules : List Rule) (tokens : List SymbolId) (f : Findings) → length f.spans ≤ TOKEN_PART → (split : PackedSplit) (rule : Rule) (cuts : List ℕ)
+    (t : TellsSplit rules tokens f.spans rule cuts split) → split_in f split ≡ split_by rule.number (t.span.from ∷ cuts)
 unfolding split_in start_of
 tells_read rules tokens f few split rule cuts t =
     let start : start_of f split ≡ t.span.from =
@@ -198,7 +199,7 @@ tells_read rules tokens f few split rule cuts t =
     ∙ ap (λ ns. split_by split.rule (t.span.from ∷ ns)) (ends_read f.spans few t.along)
     ∙ ap (λ r. split_by r (t.span.from ∷ cuts)) (sym t.number)
 
-module _ (rules : List Rule) (tokens : List SymbolId) (f : Found) (numbers : IsNumbered rules) (graph : IsSoundGraph rules tokens f)
+module _ (rules : List Rule) (tokens : List SymbolId) (f : Findings) (numbers : IsNumbered rules) (graph : IsSoundGraph rules tokens f)
     (few : length f.spans ≤ TOKEN_PART) where
   split_reads : (split : PackedSplit) (k : IsKnown rules tokens f split) → split_in f split ≡ split_by k.rule.number (k.tells.span.from ∷ k.cuts)
   split_reads split k = tells_read rules tokens f few split k.rule k.cuts k.tells
@@ -263,8 +264,8 @@ module _ (rules : List Rule) (tokens : List SymbolId) (f : Found) (numbers : IsN
     more = omega (arith, more, length-map f.links (link_in f), length-map f.splits (split_in f));
   }
 
-module _ (rules : List Rule) (tokens : List SymbolId) (f : Found) (end : IsDone rules tokens f) (few : length f.spans ≤ TOKEN_PART) where
-  link_found : (link : Link) → IsLink rules tokens link → Contains (map (link_in f) f.links) link
+module _ (rules : List Rule) (tokens : List SymbolId) (f : Findings) (end : IsDone rules tokens f) (few : length f.spans ≤ TOKEN_PART) where
+  link_found : (link : StateLink) → IsLink rules tokens link → Contains (map (link_in f) f.links) link
   link_found link is =
       let l = all_linked rules tokens f end link is in
       subst (λ k. Contains (map (link_in f) f.links) k)
@@ -302,9 +303,9 @@ module _ (rules : List Rule) (tokens : List SymbolId) (f : Found) (end : IsDone 
     splits = map (split_in f) f.splits;
     all_links =
         let some = some_links rules tokens f end.graph in
-        record { distinct = some.distinct; members = λ link. (some.within link, link_found link) };
+        record { distinct = some.distinct; within = some.within; all = link_found };
     all_splits =
         let some = some_splits rules tokens f end.numbered end.graph few in
-        record { distinct = some.distinct; members = λ split. (some.within split, split_found split) };
+        record { distinct = some.distinct; within = some.within; all = split_found };
     sum = omega (arith, length-map f.links (link_in f), length-map f.splits (split_in f));
   }

@@ -15,13 +15,13 @@ use Rattle.gss.specs.declared.stack_graph.Edge.{Edge}
 use Rattle.gss.specs.PlaceGraphs.{edge_of}
 use Rattle.packed_spans.specs.declared.span.Span.{Span}
 use Rattle.packed_spans.specs.Packed.{PackedSplit}
-use Rattle.packed_spans.specs.Complete.{Tells, AreDifferent}
+use Rattle.packed_spans.specs.Complete.{TellsSplit, AreDifferent}
 use Rattle.parser_states.specs.declared.reduction.Reduction.{Reduction}
 use Rattle.rekers.specs.States.{IsStateAt}
 use Rattle.rekers.specs.Size.{IsLink}
-use Rattle.rekers.specs.Found.{Found, IsNode}
-use Rattle.rekers.specs.Reductions.{IsTold}
-use Rattle.rekers.specs.Sound.{IsSoundGraph, IsFirst, link_of}
+use Rattle.rekers.specs.Found.{Findings, IsNode}
+use Rattle.rekers.specs.Reductions.{IsFoundAlong}
+use Rattle.rekers.specs.Sound.{IsSoundGraph, IsFirstMover, state_link_of}
 use Rattle.rekers.proofs.Growth.{one_at}
 use Rattle.rekers.proofs.Saturated.{added_by, walk}
 use Rattle.rekers.proofs.Trails.{between_from, part_cases, derived, node_state}
@@ -31,7 +31,7 @@ abbrev pub span_of : SymbolId → ℕ → ℕ → Span
 span_of x i j = record { symbol = x; from = i; to = j }
 
 -- the link that made the span, between its ends
-pub record IsMade (rules : List Rule) (tokens : List SymbolId) (f : Found) (number : ℕ) (span : Span) : Type 0 where
+pub record IsMade (rules : List Rule) (tokens : List SymbolId) (f : Findings) (number : ℕ) (span : Span) : Type 0 where
   pub owner : ℕ
   pub owns : slice_get f.owners number ≡ Some owner
   pub lower : ℕ
@@ -41,29 +41,29 @@ pub record IsMade (rules : List Rule) (tokens : List SymbolId) (f : Found) (numb
   pub above : List Item
   pub upper_is : IsNode f upper above span.to
   pub there : slice_get f.links owner ≡ Some (edge_of upper span.symbol lower number)
-  pub link : IsLink rules tokens (link_of below span.from span.symbol above span.to)
+  pub link : IsLink rules tokens (state_link_of below span.from span.symbol above span.to)
   pub nonterminal : IsNonterminal rules span.symbol
-  pub first : IsFirst rules f lower span.symbol
+  pub first : IsFirstMover rules f lower span.symbol
 
 -- a split as it was found: it tells a rule with cuts, all parts are derived, and the rule begins in a state that is reached
-pub record IsKnown (rules : List Rule) (tokens : List SymbolId) (f : Found) (split : PackedSplit) : Type 0 where
+pub record IsKnown (rules : List Rule) (tokens : List SymbolId) (f : Findings) (split : PackedSplit) : Type 0 where
   pub rule : Rule
   pub live : Contains rules rule
   pub cuts : List ℕ
-  pub tells : Tells rules tokens f.spans rule cuts split
+  pub tells : TellsSplit rules tokens f.spans rule cuts split
   pub derives : DerivesAlong rules tokens rule.right tells.span.from cuts tells.span.to
   pub state : List Item
   pub reached : IsStateAt rules tokens state tells.span.from
   pub begun : InClosure rules (Contains state) (item_at rule.number 0)
 
 -- the split of a span by the rule and the cuts is among those that were found
-pub record IsPacked (rules : List Rule) (tokens : List SymbolId) (f : Found) (number : ℕ) (rule : Rule) (cuts : List ℕ) : Type 0 where
+pub record IsPacked (rules : List Rule) (tokens : List SymbolId) (f : Findings) (number : ℕ) (rule : Rule) (cuts : List ℕ) : Type 0 where
   pub split : PackedSplit
   pub there : Contains f.splits split
   pub of : split.span ≡ number
-  pub tells : Tells rules tokens f.spans rule cuts split
+  pub tells : TellsSplit rules tokens f.spans rule cuts split
 
-module _ (rules : List Rule) (tokens : List SymbolId) (f : Found) (graph : IsSoundGraph rules tokens f) where
+module _ (rules : List Rule) (tokens : List SymbolId) (f : Findings) (graph : IsSoundGraph rules tokens f) where
   pub made : (number : ℕ) (span : Span) → slice_get f.spans number ≡ Some span → IsMade rules tokens f number span
   made number span e =
       let (owner, owns) = at_below f.owners number (omega (arith, slice_get_within f.spans number span e, graph.owned)) in
@@ -109,7 +109,7 @@ module _ (rules : List Rule) (tokens : List SymbolId) (f : Found) (graph : IsSou
       let edges = one_at f.links b.owner _ _ (subst (λ l. slice_get f.links l ≡ Some (edge_of a.upper span.symbol a.lower m)) owner a.there) b.there in
       ap (λ (edge : Edge). edge.label) edges
 
-  pub known_by : {split : PackedSplit} {trail : List ℕ} {top : ℕ} → IsTold rules f split trail top → IsKnown rules tokens f split
+  pub known_by : {split : PackedSplit} {trail : List ℕ} {top : ℕ} → IsFoundAlong rules f split trail top → IsKnown rules tokens f split
   known_by {split} told =
       let p = told.reducible in
       let d = derived rules tokens f graph p.along p.node_is p.top_is in
@@ -141,7 +141,7 @@ module _ (rules : List Rule) (tokens : List SymbolId) (f : Found) (graph : IsSou
   known split c = let (trail, top, told) = graph.told split c in known_by told
 
 -- at the end each split of a span was found
-pub packed : (rules : List Rule) (tokens : List SymbolId) (f : Found) → IsDone rules tokens f → (number : ℕ) (span : Span)
+pub packed : (rules : List Rule) (tokens : List SymbolId) (f : Findings) → IsDone rules tokens f → (number : ℕ) (span : Span)
     → slice_get f.spans number ≡ Some span
     → (rule : Rule) → Contains rules rule → rule.left ≡ span.symbol → (cuts : List ℕ) → DerivesAlong rules tokens rule.right span.from cuts span.to
     → IsPacked rules tokens f number rule cuts

@@ -3,14 +3,14 @@ use Rattle.std.proofs.Common.{◌≡◌, ℕ, ◌+◌, ◌<◌, ◌≤◌, List,
 use Rattle.forest.specs.declared.symbols.SymbolId.{SymbolId}
 use Rattle.forest.specs.declared.rules.Rule.{Rule}
 use Rattle.item_sets.proofs.Chains.{at_below}
-use Rattle.live_graph.specs.Meaning.{Meaning}
+use Rattle.live_graph.specs.Meaning.{GraphMeaning}
 use Rattle.gss.specs.PlaceGraphs.{PlaceGraph}
 use Rattle.parser_states.specs.Asked.{AsksNew}
 use Rattle.rekers.specs.declared.level.Level.{Level}
 use Rattle.rekers.specs.declared.parser.Parser.{Parser}
-use Rattle.rekers.specs.Found.{Found, found, IsNode, Grows}
+use Rattle.rekers.specs.Found.{Findings, found, IsNode, Grows}
 use Rattle.rekers.specs.Reductions.{IsWorked}
-use Rattle.rekers.specs.Sound.{IsSound, IsLevel, ArePlaced}
+use Rattle.rekers.specs.Sound.{IsSoundParser, IsLevel, ArePlaced}
 use Rattle.rekers.specs.Shifts.{AreBefore, AreShiftedFrom}
 use Rattle.rekers.specs.Steps.{IsStep, IsWithinLimit, AreShifted, Advances}
 use Rattle.rekers.proofs.Shifted.{worked_on, are_shifted}
@@ -22,7 +22,7 @@ within_same p q stacks spans within = record {
   limit = rw (stacks, spans) within.limit;
 }
 
-module _ (rules : List Rule) (tokens : List SymbolId) (p q : Parser) (sound : IsSound rules tokens p)
+module _ (rules : List Rule) (tokens : List SymbolId) (p q : Parser) (sound : IsSoundParser rules tokens p)
     (same : q ≡ record p { openers = q.openers; level = q.level; is_flat = q.is_flat }) (next : Advances p q) where
   found_same : found q ≡ found p
   found_same = ap found same
@@ -45,9 +45,9 @@ module _ (rules : List Rule) (tokens : List SymbolId) (p q : Parser) (sound : Is
       )
 
   pub no_links : q.level.first_link ≡ length q.stacks.links
-  no_links = next.first_link ∙ ap (λ (f : Found). length f.links) (sym found_same)
+  no_links = next.first_link ∙ ap (λ (f : Findings). length f.links) (sym found_same)
 
-  module _ {Base : Type 0} (r : Parser) (graph graph' : Meaning Base) (before after : ℕ) (step : IsStep tokens q r graph graph' before after) where
+  module _ {Base : Type 0} (r : Parser) (graph graph' : GraphMeaning Base) (before after : ℕ) (step : IsStep tokens q r graph graph' before after) where
     pub shift_grows : Grows (found p) (found r)
     shift_grows = subst (λ f. Grows f (found r)) found_same step.grows
 
@@ -55,17 +55,17 @@ module _ (rules : List Rule) (tokens : List SymbolId) (p q : Parser) (sound : Is
     shift_placed = subst (λ f. ArePlaced f → ArePlaced (found r)) found_same step.placed
 
     pub shift_asks : AsksNew p.states.kernels r.states.kernels graph graph' before after
-    shift_asks = subst (λ (f : Found). AsksNew f.kernels r.states.kernels graph graph' before after) found_same step.asks
+    shift_asks = subst (λ (f : Findings). AsksNew f.kernels r.states.kernels graph graph' before after) found_same step.asks
 
     pub shift_at : r.level.at ≡ p.level.at + 1
     shift_at = ap (λ (l : Level). l.at) step.level ∙ next.at
 
     module _ (rules_are : graph'.grammar.rules ≡ rules) (splits : r.spans.splits ≡ q.spans.splits) where
-      sound_after : IsSound rules tokens r
-      sound_after = subst (λ rs. IsSound rs tokens r) rules_are step.sound
+      sound_after : IsSoundParser rules tokens r
+      sound_after = subst (λ rs. IsSoundParser rs tokens r) rules_are step.sound
 
       splits_same : r.spans.splits ≡ p.spans.splits
-      splits_same = splits ∙ ap (λ (f : Found). f.splits) found_same
+      splits_same = splits ∙ ap (λ (f : Findings). f.splits) found_same
 
       pub shift_worked : IsWorked rules (found p) (length p.stacks.links) (length p.stacks.nodes)
           → IsWorked rules (found r) r.level.first_link r.level.first_node

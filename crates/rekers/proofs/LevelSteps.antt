@@ -6,13 +6,14 @@ use Rattle.forest.specs.declared.symbols.SymbolId.{SymbolId}
 use Rattle.forest.specs.declared.rules.Rule.{Rule}
 use Rattle.item_sets.specs.declared.item.Item.{Item}
 use Rattle.item_sets.proofs.Chains.{at_below}
-use Rattle.gss.specs.PlaceGraphs.{place_of}
-use Rattle.live_graph.specs.Meaning.{Meaning}
+use Rattle.gss.specs.PlaceGraphs.{place_with}
+use Rattle.live_graph.specs.Meaning.{GraphMeaning}
 use Rattle.live_graph.proofs.Rises.{rise_join}
 use Rattle.parser_states.specs.Asked.{IsNew, AsksNew}
-use Rattle.rekers.specs.States.{IsStateAt, IsReached}
+use Rattle.rekers.specs.States.{IsStateAt, IsStateReached}
 use Rattle.rekers.specs.Asked.{AsksStates, AsksSomeStates}
-use Rattle.rekers.specs.Found.{Found, IsNode, Keeps, Grows}
+use Rattle.forest.specs.Numbers.{KeepsNumbers}
+use Rattle.rekers.specs.Found.{Findings, IsNode, Grows}
 use Rattle.rekers.specs.Sound.{IsSoundGraph, IsLevel, ArePlaced}
 use Rattle.rekers.specs.Steps.{AreShifted}
 use Rattle.rekers.proofs.Growth.{link_grows}
@@ -23,7 +24,7 @@ use Rattle.rekers.proofs.Whole.{IsDone, all_placed}
 -- ---- shifts
 
 -- shifts that are made stay made, since later nodes are at the level
-pub shifted_grows : (rules : List Rule) (tokens : List SymbolId) (f g : Found) (at first_node first_link : ℕ) → IsSoundGraph rules tokens f → Grows f g
+pub shifted_grows : (rules : List Rule) (tokens : List SymbolId) (f g : Findings) (at first_node first_link : ℕ) → IsSoundGraph rules tokens f → Grows f g
     → first_node ≤ length f.nodes → IsLevel g at first_node first_link → AreShifted rules tokens f at → AreShifted rules tokens g at
 shifted_grows rules tokens f g at first_node first_link sound grows within level shifted node i kernel x n e below moves =
     elim (cases_lt node first_node) [
@@ -31,12 +32,12 @@ shifted_grows rules tokens f g at first_node first_link sound grows within level
           let old : IsNode f node kernel i = node_back rules tokens f g sound grows (omega (arith, before, within)) n in
           let (link, there) = shifted node i kernel x old e below moves in
           (link, link_grows f g grows there)
-      | inr here ↦ absurd (omega (arith, level.nodes_here node (place_of n.state i) n.there (omega (arith, here)), below))
+      | inr here ↦ absurd (omega (arith, level.nodes_here node (place_with n.state i) n.there (omega (arith, here)), below))
     ]
 
 -- ---- what is asked
 
-keeps_longer : {X : Type 0} (xs ys : List X) → Keeps xs ys → length xs ≤ length ys
+keeps_longer : {X : Type 0} (xs ys : List X) → KeepsNumbers xs ys → length xs ≤ length ys
 keeps_longer xs ys keeps = elim (cases_lt (length ys) (length xs)) [
   | inl less ↦
       let (x, e) = at_below xs (length ys) less in
@@ -44,19 +45,19 @@ keeps_longer xs ys keeps = elim (cases_lt (length ys) (length xs)) [
   | inr most ↦ omega (arith, most)
 ]
 
-pub keeps_none : {X : Type 0} (xs : List X) → Keeps [] xs
+pub keeps_none : {X : Type 0} (xs : List X) → KeepsNumbers [] xs
 keeps_none xs place x e = absurd (omega (arith, slice_get_within [] place x e))
 
 -- a state that has a node is reached
-reached : (rules : List Rule) (tokens : List SymbolId) (f : Found) → IsSoundGraph rules tokens f → ArePlaced f → (kernel : List Item)
-    → IsNew [] f.kernels kernel → IsReached rules tokens kernel
+reached : (rules : List Rule) (tokens : List SymbolId) (f : Findings) → IsSoundGraph rules tokens f → ArePlaced f → (kernel : List Item)
+    → IsNew [] f.kernels kernel → IsStateReached rules tokens kernel
 reached rules tokens f graph placed kernel is =
     let (number, past, there) = is in
     let (node, i, at) = placed number kernel there in
     (i, node_state rules tokens f graph at)
 
 module _ {Base : Type 0} where
-  pub asks_join : (a b c : List (List Item)) (old middle new : Meaning Base) (before between after : ℕ) → Keeps a b → Keeps b c
+  pub asks_join : (a b c : List (List Item)) (old middle new : GraphMeaning Base) (before between after : ℕ) → KeepsNumbers a b → KeepsNumbers b c
       → AsksNew a b old middle before between → AsksNew b c middle new between after → AsksNew a c old new before after
   asks_join a b c old middle new before between after ab bc first second = record {
     kept = λ kernel has. second.kept kernel (first.kept kernel has);
@@ -78,17 +79,17 @@ module _ {Base : Type 0} where
     rises = rise_join old middle new before between after first.rises second.rises;
   }
 
-  pub asks_some : (rules : List Rule) (tokens : List SymbolId) (f : Found) (old new : Meaning Base) (before after : ℕ) → rules ≡ old.grammar.rules
+  pub asks_some : (rules : List Rule) (tokens : List SymbolId) (f : Findings) (old new : GraphMeaning Base) (before after : ℕ) → rules ≡ old.grammar.rules
       → IsSoundGraph rules tokens f → ArePlaced f → AsksNew [] f.kernels old new before after → AsksSomeStates tokens old new
   asks_some rules tokens f old new before after is graph placed asks = record {
     kept = asks.kept;
     within = λ kernel has. elim (asks.within kernel has) [
       | inl old_one ↦ inl old_one
-      | inr one ↦ inr (subst (λ rs. IsReached rs tokens kernel) is (reached rules tokens f graph placed kernel one))
+      | inr one ↦ inr (subst (λ rs. IsStateReached rs tokens kernel) is (reached rules tokens f graph placed kernel one))
     ];
   }
 
-  pub asks_all : (rules : List Rule) (tokens : List SymbolId) (f : Found) (old new : Meaning Base) (before after : ℕ) → rules ≡ old.grammar.rules
+  pub asks_all : (rules : List Rule) (tokens : List SymbolId) (f : Findings) (old new : GraphMeaning Base) (before after : ℕ) → rules ≡ old.grammar.rules
       → IsDone rules tokens f → ArePlaced f → AsksNew [] f.kernels old new before after → AsksStates tokens old new
   asks_all rules tokens f old new before after is end placed asks kernel = (
     (asks_some rules tokens f old new before after is end.graph placed asks).within kernel,

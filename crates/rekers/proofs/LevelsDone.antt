@@ -7,19 +7,20 @@ use Rattle.forest.specs.declared.symbols.Token.{Token}
 use Rattle.forest.specs.declared.rules.Rule.{Rule}
 use Rattle.edit_log.specs.History.{Grammar}
 use Rattle.item_sets.specs.declared.item.Item.{Item}
-use Rattle.live_graph.specs.Meaning.{Meaning}
+use Rattle.live_graph.specs.Meaning.{GraphMeaning}
 use Rattle.live_graph.specs.Cost.{RisesAsCost}
-use Rattle.parser_states.specs.Asked.{Stands, AsksNew}
+use Rattle.parser_states.specs.Asked.{StandsButKernels, AsksNew}
 use Rattle.rekers.specs.declared.level.Level.{Level}
 use Rattle.rekers.specs.declared.parser.Parser.{Parser}
 use Rattle.rekers.specs.declared.limits.TheConstants.{SIZE_LIMIT}
 use Rattle.rekers.specs.declared.parse_error.ParseError.{ParseError}
 use Rattle.rekers.specs.declared.parse_error.ParseError.TheVariants.{TooLarge, NoMemory}
-use Rattle.rekers.specs.Answers.{kinds_of, UnlessNoMemory, IfTooLarge, IsWithin, TellsTooLarge}
+use Rattle.rekers.specs.Answers.{kinds_of, UnlessParseNoMemory, IfTooLarge, IsWithin, TellsTooLarge}
 use Rattle.rekers.specs.Asked.{AsksStates, AsksSomeStates}
-use Rattle.rekers.specs.Found.{found, Keeps}
+use Rattle.forest.specs.Numbers.{KeepsNumbers}
+use Rattle.rekers.specs.Found.{found}
 use Rattle.rekers.specs.Reductions.{IsWorked}
-use Rattle.rekers.specs.Sound.{IsSound, ArePlaced}
+use Rattle.rekers.specs.Sound.{IsSoundParser, ArePlaced}
 use Rattle.rekers.specs.Steps.{IsStep, IsWithinLimit, IsAboveLimit, AreShifted}
 use Rattle.rekers.specs.Levels.{AreLevelsDone, IsStopped}
 use Rattle.rekers.proofs.Growth.{keeps_on}
@@ -37,31 +38,34 @@ is_err_of : {Y : Type 0} (r : Result Y ParseError) (error : ParseError) → IsEr
 is_err_of r error (y, is, same) = is ∙ ap Err same
 
 -- what holds unless memory ran out
-pub unless_mapped : {Y P Q : Type 0} (error : ParseError) (r : Result Y ParseError) → IsErrorOf r error → (P → Q) → UnlessNoMemory {X = Unit {0}} (Err error) P
-    → UnlessNoMemory r Q
-unless_mapped {Y} {P} {Q} error r is on holds = subst (λ z. UnlessNoMemory {X = Y} z Q) (sym (is_err_of r error is)) (by error holds)
+pub unless_mapped : {Y P Q : Type 0} (error : ParseError) (r : Result Y ParseError) → IsErrorOf r error → (P → Q)
+    → UnlessParseNoMemory {X = Unit {0}} (Err error) P
+    → UnlessParseNoMemory r Q
+unless_mapped {Y} {P} {Q} error r is on holds = subst (λ z. UnlessParseNoMemory {X = Y} z Q) (sym (is_err_of r error is)) (by error holds)
   where
-    by : (e : ParseError) → UnlessNoMemory {X = Unit {0}} (Err e) P → UnlessNoMemory {X = Y} (Err e) Q
+    by : (e : ParseError) → UnlessParseNoMemory {X = Unit {0}} (Err e) P → UnlessParseNoMemory {X = Y} (Err e) Q
     by (TooLarge count) p = on p
     by NoMemory p = tt
 
 pub unless_both : {Y P Q R : Type 0} (error : ParseError) (r : Result Y ParseError) → IsErrorOf r error → (P → Q → R)
-    → UnlessNoMemory {X = Unit {0}} (Err error) P
-    → UnlessNoMemory {X = Unit {0}} (Err error) Q → UnlessNoMemory r R
-unless_both {Y} {P} {Q} {R} error r is on one two = subst (λ z. UnlessNoMemory {X = Y} z R) (sym (is_err_of r error is)) (by error one two)
+    → UnlessParseNoMemory {X = Unit {0}} (Err error) P
+    → UnlessParseNoMemory {X = Unit {0}} (Err error) Q → UnlessParseNoMemory r R
+unless_both {Y} {P} {Q} {R} error r is on one two = subst (λ z. UnlessParseNoMemory {X = Y} z R) (sym (is_err_of r error is)) (by error one two)
   where
-    by : (e : ParseError) → UnlessNoMemory {X = Unit {0}} (Err e) P → UnlessNoMemory {X = Unit {0}} (Err e) Q → UnlessNoMemory {X = Y} (Err e) R
+    by : (e : ParseError) → UnlessParseNoMemory {X = Unit {0}} (Err e) P → UnlessParseNoMemory {X = Unit {0}} (Err e) Q → UnlessParseNoMemory {X = Y} (Err e) R
     by (TooLarge count) p q = on p q
     by NoMemory p q = tt
 
 -- where what was found is sound and too much, the parser stopped for that
 pub stopped_by : {Y P Q : Type 0} (rules : List Rule) (tokens : List SymbolId) (q : Parser) (error : ParseError) (r : Result Y ParseError) → IsErrorOf r error
-    → (P → IsSound rules tokens q) → (Q → ArePlaced (found q)) → UnlessNoMemory {X = Unit {0}} (Err error) P → UnlessNoMemory {X = Unit {0}} (Err error) Q
+    → (P → IsSoundParser rules tokens q) → (Q → ArePlaced (found q)) → UnlessParseNoMemory {X = Unit {0}} (Err error) P
+        → UnlessParseNoMemory {X = Unit {0}} (Err error) Q
     → IsAboveLimit q error → IfErr r (IsStopped rules tokens q)
 stopped_by {Y} {P} {Q} rules tokens q error r is sound placed one two more =
     subst (λ z. IfErr {T = Y} z (IsStopped rules tokens q)) (sym (is_err_of r error is)) (by error one two more)
   where
-    by : (e : ParseError) → UnlessNoMemory {X = Unit {0}} (Err e) P → UnlessNoMemory {X = Unit {0}} (Err e) Q → IsAboveLimit q e → IsStopped rules tokens q e
+    by : (e : ParseError) → UnlessParseNoMemory {X = Unit {0}} (Err e) P → UnlessParseNoMemory {X = Unit {0}} (Err e) Q → IsAboveLimit q e
+        → IsStopped rules tokens q e
     by (TooLarge count) a b c = record { sound = sound a; placed = placed b; above = c }
     by NoMemory a b c = tt
 
@@ -75,7 +79,7 @@ stopped_on {Y} rules other tokens q error r is same stopped =
 
 -- a level whose shifts are made, and whose reductions are not
 pub record IsLevelBegun (rules : List Rule) (tokens : List SymbolId) (p : Parser) : Type 0 where
-  pub sound : IsSound rules tokens p
+  pub sound : IsSoundParser rules tokens p
   pub placed : ArePlaced (found p)
   pub shifted : AreShifted rules tokens (found p) p.level.at
 
@@ -83,33 +87,34 @@ pub record IsLevelBegun (rules : List Rule) (tokens : List SymbolId) (p : Parser
 pub shifted_none : (rules : List Rule) (tokens : List SymbolId) (p : Parser) → p.level.at ≡ 0 → AreShifted rules tokens (found p) p.level.at
 shifted_none rules tokens p first node i kernel x n e below moves = absurd (omega (arith, below, first))
 
-pub rules_in : {Base : Type 0} {old new : Meaning Base} → Stands old new → new.grammar.rules ≡ old.grammar.rules
+pub rules_in : {Base : Type 0} {old new : GraphMeaning Base} → StandsButKernels old new → new.grammar.rules ≡ old.grammar.rules
 rules_in stands = ap (λ (g : Grammar). g.rules) stands.grammar
 
-pub sound_in : {Base : Type 0} {old new : Meaning Base} (tokens : List SymbolId) (q : Parser) → Stands old new → IsSound new.grammar.rules tokens q
-    → IsSound old.grammar.rules tokens q
-sound_in tokens q stands sound = subst (λ rs. IsSound rs tokens q) (rules_in stands) sound
+pub sound_in : {Base : Type 0} {old new : GraphMeaning Base} (tokens : List SymbolId) (q : Parser) → StandsButKernels old new
+    → IsSoundParser new.grammar.rules tokens q
+    → IsSoundParser old.grammar.rules tokens q
+sound_in tokens q stands sound = subst (λ rs. IsSoundParser rs tokens q) (rules_in stands) sound
 
-pub stands_then : {Base : Type 0} {old middle new : Meaning Base} → Stands old middle → Stands middle new → Stands old new
+pub stands_then : {Base : Type 0} {old middle new : GraphMeaning Base} → StandsButKernels old middle → StandsButKernels middle new → StandsButKernels old new
 stands_then one two = record {
   grammar = two.grammar ∙ one.grammar;
   base = two.base ∙ one.base;
   scans = two.scans ∙ one.scans;
 }
 
-module _ {Base : Type 0} (tokens : List SymbolId) (old middle new : Meaning Base) (between after : ℕ) (p q : Parser) (one : Stands old middle)
-    (two : Stands middle new) where
-  pub sound_then : IsStep tokens p q middle new between after → IsSound old.grammar.rules tokens q
+module _ {Base : Type 0} (tokens : List SymbolId) (old middle new : GraphMeaning Base) (between after : ℕ) (p q : Parser) (one : StandsButKernels old middle)
+    (two : StandsButKernels middle new) where
+  pub sound_then : IsStep tokens p q middle new between after → IsSoundParser old.grammar.rules tokens q
   sound_then step = sound_in tokens q (stands_then one two) step.sound
 
-  pub asks_reduced : (first : List (List Item)) (before : ℕ) → Keeps first p.states.kernels → AsksNew first p.states.kernels old middle before between
+  pub asks_reduced : (first : List (List Item)) (before : ℕ) → KeepsNumbers first p.states.kernels → AsksNew first p.states.kernels old middle before between
       → IsStep tokens p q middle new between after → AsksNew first q.states.kernels old new before after
   asks_reduced first before keeps asks step =
       asks_join first p.states.kernels q.states.kernels old middle new before between after keeps step.grows.kernels asks step.asks
 
   -- the reductions of a level that was begun are too many
   pub stopped_reducing : {Y : Type 0} (error : ParseError) (r : Result Y ParseError) → IsErrorOf r error → ArePlaced (found p)
-      → UnlessNoMemory {X = Unit {0}} (Err error) (IsStep tokens p q middle new between after) → IsAboveLimit q error
+      → UnlessParseNoMemory {X = Unit {0}} (Err error) (IsStep tokens p q middle new between after) → IsAboveLimit q error
       → IfErr r (IsStopped old.grammar.rules tokens q)
   stopped_reducing {Y} error r is placed step more =
       stopped_by {Y = Y} {P = IsStep tokens p q middle new between after} {Q = IsStep tokens p q middle new between after}
@@ -117,15 +122,15 @@ module _ {Base : Type 0} (tokens : List SymbolId) (old middle new : Meaning Base
 
   -- what was asked for up to there, and for them
   pub asks_reducing : {Y : Type 0} (error : ParseError) (r : Result Y ParseError) → IsErrorOf r error → (first : List (List Item)) (before : ℕ)
-      → Keeps first p.states.kernels → AsksNew first p.states.kernels old middle before between
-      → UnlessNoMemory {X = Unit {0}} (Err error) (IsStep tokens p q middle new between after)
-      → UnlessNoMemory r (AsksNew first q.states.kernels old new before after)
+      → KeepsNumbers first p.states.kernels → AsksNew first p.states.kernels old middle before between
+      → UnlessParseNoMemory {X = Unit {0}} (Err error) (IsStep tokens p q middle new between after)
+      → UnlessParseNoMemory r (AsksNew first q.states.kernels old new before after)
   asks_reducing {Y} error r is first before keeps asks step =
       unless_mapped {Y = Y} {P = IsStep tokens p q middle new between after} error r is (asks_reduced first before keeps asks) step
 
   pub kernels_reducing : {Y : Type 0} (error : ParseError) (r : Result Y ParseError) → IsErrorOf r error → (first : List (List Item))
-      → Keeps first p.states.kernels → UnlessNoMemory {X = Unit {0}} (Err error) (IsStep tokens p q middle new between after)
-      → UnlessNoMemory r (Keeps first q.states.kernels)
+      → KeepsNumbers first p.states.kernels → UnlessParseNoMemory {X = Unit {0}} (Err error) (IsStep tokens p q middle new between after)
+      → UnlessParseNoMemory r (KeepsNumbers first q.states.kernels)
   kernels_reducing {Y} error r is first keeps step =
       unless_mapped {Y = Y} {P = IsStep tokens p q middle new between after} error r is
       (λ s. keeps_on first p.states.kernels q.states.kernels keeps s.grows.kernels) step
@@ -155,21 +160,21 @@ module _ {Base : Type 0} (tokens : List SymbolId) (old middle new : Meaning Base
 -- ---- one level after the other
 
 -- all levels up to this place are done, and the graph was asked for their states
-pub record AreDoneTo {Base : Type 0} (tokens : List Token) (old new : Meaning Base) (before after : ℕ) (p : Parser) (at : ℕ) : Type 0 where
+pub record AreDoneTo {Base : Type 0} (tokens : List Token) (old new : GraphMeaning Base) (before after : ℕ) (p : Parser) (at : ℕ) : Type 0 where
   pub done : AreLevelsDone old.grammar.rules (kinds_of tokens) p at
   pub asks : AsksNew [] p.states.kernels old new before after
-  pub stands : Stands old new
+  pub stands : StandsButKernels old new
   pub never_back : before ≤ after
   pub inside : at ≤ length tokens
 
 -- what holds by the rules of the graph before it was asked holds by those after it
-pub done_in : {Base : Type 0} {old new : Meaning Base} (tokens : List SymbolId) (p : Parser) (at : ℕ) → Stands old new
+pub done_in : {Base : Type 0} {old new : GraphMeaning Base} (tokens : List SymbolId) (p : Parser) (at : ℕ) → StandsButKernels old new
     → AreLevelsDone old.grammar.rules tokens p at → AreLevelsDone new.grammar.rules tokens p p.level.at
 done_in {old = old} {new = new} tokens p at stands done =
     let here : AreLevelsDone old.grammar.rules tokens p p.level.at = subst (λ n. AreLevelsDone old.grammar.rules tokens p n) (sym done.at_is) done in
     subst (λ rs. AreLevelsDone rs tokens p p.level.at) (sym (rules_in stands)) here
 
-pub done_back : {Base : Type 0} {old new : Meaning Base} (tokens : List SymbolId) (p : Parser) (at : ℕ) → Stands old new
+pub done_back : {Base : Type 0} {old new : GraphMeaning Base} (tokens : List SymbolId) (p : Parser) (at : ℕ) → StandsButKernels old new
     → AreLevelsDone new.grammar.rules tokens p at → AreLevelsDone old.grammar.rules tokens p at
 done_back tokens p at stands done = subst (λ rs. AreLevelsDone rs tokens p at) (rules_in stands) done
 
@@ -182,15 +187,16 @@ kind_at tokens i at default same below =
     slice_get-map (λ (t : Token). t.kind) tokens i ∙ ap (λ o. option_map (λ (t : Token). t.kind) o) there in
     subst (λ n. slice_get (kinds_of tokens) n ≡ Some (get_or tokens i default).kind) (sym same) kind
 
-module _ {Base : Type 0} (tokens : List Token) (old middle new : Meaning Base) (before between after : ℕ) (p q : Parser) (at : ℕ)
+module _ {Base : Type 0} (tokens : List Token) (old middle new : GraphMeaning Base) (before between after : ℕ) (p q : Parser) (at : ℕ)
     (so_far : AreDoneTo tokens old middle before between p at) where
-  pub asks_then : AsksNew p.states.kernels q.states.kernels middle new between after → Keeps p.states.kernels q.states.kernels
+  pub asks_then : AsksNew p.states.kernels q.states.kernels middle new between after → KeepsNumbers p.states.kernels q.states.kernels
       → AsksNew [] q.states.kernels old new before after
   asks_then asks keeps =
       asks_join [] p.states.kernels q.states.kernels old middle new before between after (keeps_none p.states.kernels) keeps so_far.asks asks
 
   pub done_then : AreLevelsDone middle.grammar.rules (kinds_of tokens) q (p.level.at + 1) → AsksNew p.states.kernels q.states.kernels middle new between after
-      → Keeps p.states.kernels q.states.kernels → Stands middle new → between ≤ after → at < length tokens → AreDoneTo tokens old new before after q (at + 1)
+      → KeepsNumbers p.states.kernels q.states.kernels → StandsButKernels middle new → between ≤ after → at < length tokens
+          → AreDoneTo tokens old new before after q (at + 1)
   done_then done asks keeps stands later below = record {
     done = subst (λ n. AreLevelsDone old.grammar.rules (kinds_of tokens) q (n + 1)) so_far.done.at_is
         (done_back (kinds_of tokens) q (p.level.at + 1) so_far.stands done);
@@ -202,16 +208,17 @@ module _ {Base : Type 0} (tokens : List Token) (old middle new : Meaning Base) (
 
   -- what was asked for where the next level stopped
   pub asks_stopped : {Y : Type 0} (error : ParseError) (r : Result Y ParseError) → IsErrorOf r error
-      → UnlessNoMemory {X = Unit {0}} (Err error) (AsksNew p.states.kernels q.states.kernels middle new between after)
-      → UnlessNoMemory {X = Unit {0}} (Err error) (Keeps p.states.kernels q.states.kernels)
-      → UnlessNoMemory r (AsksNew [] q.states.kernels old new before after)
+      → UnlessParseNoMemory {X = Unit {0}} (Err error) (AsksNew p.states.kernels q.states.kernels middle new between after)
+      → UnlessParseNoMemory {X = Unit {0}} (Err error) (KeepsNumbers p.states.kernels q.states.kernels)
+      → UnlessParseNoMemory r (AsksNew [] q.states.kernels old new before after)
   asks_stopped {Y} error r is asks keeps =
-      unless_both {Y = Y} {P = AsksNew p.states.kernels q.states.kernels middle new between after} {Q = Keeps p.states.kernels q.states.kernels} error r is
+      unless_both {Y = Y} {P = AsksNew p.states.kernels q.states.kernels middle new between after} {Q = KeepsNumbers p.states.kernels q.states.kernels} error
+          r is
       asks_then asks keeps
 
 -- ---- the parse
 
-module _ {Base : Type 0} (tokens : List Token) (old new : Meaning Base) (before after : ℕ) (q : Parser) where
+module _ {Base : Type 0} (tokens : List Token) (old new : GraphMeaning Base) (before after : ℕ) (q : Parser) where
   pub at_end : AreLevelsDone old.grammar.rules (kinds_of tokens) q (length tokens) → IsAtEnd old.grammar.rules tokens q
   at_end done = record { sound = done.sound; worked = done.worked; shifted = done.shifted; at = done.at_is }
 
@@ -228,7 +235,8 @@ module _ {Base : Type 0} (tokens : List Token) (old new : Meaning Base) (before 
       asks_all old.grammar.rules (kinds_of tokens) (found q) old new before after refl (is_done old.grammar.rules tokens q (at_end done)) done.placed asks
 
   pub parse_steps : {Y : Type 0} (error : ParseError) (r : Result Y ParseError) → IsErrorOf r error
-      → UnlessNoMemory {X = Unit {0}} (Err error) (AsksNew [] q.states.kernels old new before after) → UnlessNoMemory r (RisesAsCost old new before after)
+      → UnlessParseNoMemory {X = Unit {0}} (Err error) (AsksNew [] q.states.kernels old new before after)
+          → UnlessParseNoMemory r (RisesAsCost old new before after)
   parse_steps {Y} error r is asks =
       unless_mapped {Y = Y} {P = AsksNew [] q.states.kernels old new before after} error r is (λ a. a.rises) asks
 
@@ -245,13 +253,14 @@ module _ {Base : Type 0} (tokens : List Token) (old new : Meaning Base) (before 
       by NoMemory s = tt
 
   pub parse_asks_some : {Y : Type 0} (error : ParseError) (r : Result Y ParseError) → IsErrorOf r error
-      → IsStopped old.grammar.rules (kinds_of tokens) q error → UnlessNoMemory {X = Unit {0}} (Err error) (AsksNew [] q.states.kernels old new before after)
+      → IsStopped old.grammar.rules (kinds_of tokens) q error → UnlessParseNoMemory {X = Unit {0}} (Err error)
+          (AsksNew [] q.states.kernels old new before after)
       → IfTooLarge r (AsksSomeStates (kinds_of tokens) old new)
   parse_asks_some {Y} error r is stopped asks =
       subst (λ z. IfTooLarge {X = Y} z (AsksSomeStates (kinds_of tokens) old new)) (sym (is_err_of r error is)) (by error stopped asks)
     where
       by : (e : ParseError) → IsStopped old.grammar.rules (kinds_of tokens) q e
-          → UnlessNoMemory {X = Unit {0}} (Err e) (AsksNew [] q.states.kernels old new before after)
+          → UnlessParseNoMemory {X = Unit {0}} (Err e) (AsksNew [] q.states.kernels old new before after)
           → IfTooLarge {X = Y} (Err e) (AsksSomeStates (kinds_of tokens) old new)
       by (TooLarge count) s a = asks_some old.grammar.rules (kinds_of tokens) (found q) old new before after refl s.sound.graph s.placed a
       by NoMemory s a = tt

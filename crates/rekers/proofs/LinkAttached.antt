@@ -6,7 +6,8 @@ use Rattle.gss.specs.declared.stack_graph.Edge.{Edge}
 use Rattle.packed_spans.specs.declared.span.Span.{Span}
 use Rattle.packed_spans.specs.Complete.{IsPartAt}
 use Rattle.rekers.specs.declared.parser.Parser.{Parser}
-use Rattle.rekers.specs.Found.{found, Keeps, Grows}
+use Rattle.forest.specs.Numbers.{KeepsNumbers}
+use Rattle.rekers.specs.Found.{found, Grows}
 use Rattle.rekers.proofs.Growth.{keeps_append, keeps_equal}
 
 -- only a link was added
@@ -15,7 +16,7 @@ pub attached_grows : (p q : Parser) (edge : Edge) → q.stacks.links ≡ p.stack
 attached_grows p q edge links nodes same = record {
   kernels = keeps_equal p.states.kernels q.states.kernels (ap (λ (x : Parser). x.states.kernels) same);
   nodes = keeps_equal p.stacks.nodes q.stacks.nodes nodes;
-  links = subst (λ ls. Keeps p.stacks.links ls) (sym links) (keeps_append p.stacks.links (edge ∷ []));
+  links = subst (λ ls. KeepsNumbers p.stacks.links ls) (sym links) (keeps_append p.stacks.links (edge ∷ []));
   spans = keeps_equal p.spans.spans q.spans.spans (ap (λ (x : Parser). x.spans.spans) same);
   splits = λ split c. subst (λ ss. Contains ss split) (sym (ap (λ (x : Parser). x.spans.splits) same)) c;
   owners = keeps_equal p.owners.items q.owners.items (ap (λ (x : Parser). x.owners.items) same);

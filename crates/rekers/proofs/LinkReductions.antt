@@ -8,17 +8,18 @@ use Rattle.edit_log.specs.History.{Grammar}
 use Rattle.item_sets.specs.declared.item.Item.{Item}
 use Rattle.item_sets.proofs.Numbering.{IsNumbered}
 use Rattle.item_sets.proofs.Chains.{at_below}
-use Rattle.live_graph.specs.Meaning.{Meaning}
+use Rattle.live_graph.specs.Meaning.{GraphMeaning}
 use Rattle.gss.specs.declared.stack_graph.Edge.{Edge}
-use Rattle.gss.specs.PlaceGraphs.{place_of}
+use Rattle.gss.specs.PlaceGraphs.{place_with}
 use Rattle.packed_spans.specs.Packed.{PackedSplit}
 use Rattle.parser_states.specs.declared.reduction.Reduction.{Reduction}
-use Rattle.parser_states.specs.Asked.{Stands}
+use Rattle.parser_states.specs.Asked.{StandsButKernels}
 use Rattle.rekers.specs.declared.parser.Parser.{Parser}
 use Rattle.rekers.specs.declared.level.Level.{Level}
-use Rattle.rekers.specs.Found.{Found, found, IsNode, Grows, Keeps}
-use Rattle.rekers.specs.Reductions.{IsReducible, IsReduced, IsTold, IsBelow, IsWorked}
-use Rattle.rekers.specs.Sound.{IsSound, IsSoundGraph}
+use Rattle.forest.specs.Numbers.{KeepsNumbers}
+use Rattle.rekers.specs.Found.{Findings, found, IsNode, Grows}
+use Rattle.rekers.specs.Reductions.{IsReducible, IsReduced, IsFoundAlong, IsBelow, IsWorked}
+use Rattle.rekers.specs.Sound.{IsSoundParser, IsSoundGraph}
 use Rattle.rekers.specs.Steps.{IsThrough, IsAnyFresh, IsNodeWalked, IsStep, IsWithinLimit, IsOfLevel}
 use Rattle.rekers.proofs.Growth.{node_below, told_grows}
 use Rattle.rekers.proofs.Trails.{between, one_told, trail_rises}
@@ -28,24 +29,24 @@ use Rattle.rekers.proofs.Stepping.{step_none, step_on, stands_none, stands_on}
 use Rattle.rekers.proofs.StartedWalks.{ends_up}
 
 -- all reductions from the top along trails through the link are made
-abbrev pub AreTopMade : List Rule → Found → (top through at : ℕ) → Type 0
+abbrev pub AreTopMade : List Rule → Findings → (top through at : ℕ) → Type 0
 AreTopMade rules f top through at = (reduction : Reduction) (lower : ℕ) (trail labels : List ℕ) → IsReducible rules f reduction lower trail labels top at
     → IsThrough through trail → IsReduced f reduction lower labels at
 
 -- the reductions from the nodes before this one are made along all trails through the link, and no other splits are new
-pub record AreNodesWalked (rules : List Rule) (old new : Found) (first past through at : ℕ) : Type 0 where
+pub record AreNodesWalked (rules : List Rule) (old new : Findings) (first past through at : ℕ) : Type 0 where
   pub all : (top : ℕ) → first ≤ top → top < past → AreTopMade rules new top through at
   pub only : (split : PackedSplit) → Contains new.splits split
-      → Contains old.splits split ⊎ ((trail : List ℕ) × (top : ℕ) × (top < past) × IsTold rules new split trail top × IsThrough through trail)
+      → Contains old.splits split ⊎ ((trail : List ℕ) × (top : ℕ) × (top < past) × IsFoundAlong rules new split trail top × IsThrough through trail)
 
-pub nodes_walked_none : (rules : List Rule) (f : Found) (first through at : ℕ) → AreNodesWalked rules f f first first through at
+pub nodes_walked_none : (rules : List Rule) (f : Findings) (first through at : ℕ) → AreNodesWalked rules f f first first through at
 nodes_walked_none rules f first through at = record { all = λ top above before. absurd (omega (arith, above, before)); only = λ split c. inl c }
 
 -- a trail that is below has no link that is not
 not_through : (links nodes : ℕ) (trail : List ℕ) (top : ℕ) → IsBelow links nodes trail top → IsThrough links trail → ⊥
 not_through links nodes trail top below through = omega (arith, below_each links nodes trail top below links through.has)
 
-module _ (rules : List Rule) (tokens : List SymbolId) (numbers : IsNumbered rules) (old f : Found) (graph : IsSoundGraph rules tokens old)
+module _ (rules : List Rule) (tokens : List SymbolId) (numbers : IsNumbered rules) (old f : Findings) (graph : IsSoundGraph rules tokens old)
     (graph' : IsSoundGraph rules tokens f) (grows : Grows old f) (through at : ℕ) where
   -- no split was found from the next node
   pub any_fresh : (first node nodes : ℕ) → IsWorked rules old through nodes → AreNodesWalked rules old f first node through at → IsAnyFresh rules f node through
@@ -57,7 +58,7 @@ module _ (rules : List Rule) (tokens : List SymbolId) (numbers : IsNumbered rule
   ]
 
   -- the next node is walked too
-  pub nodes_walked_next : (g : Found) → IsSoundGraph rules tokens g → Grows f g → through < length f.links → (first node : ℕ)
+  pub nodes_walked_next : (g : Findings) → IsSoundGraph rules tokens g → Grows f g → through < length f.links → (first node : ℕ)
       → AreNodesWalked rules old f first node through at → IsNodeWalked rules f g node through at → AreNodesWalked rules old g first (node + 1) through at
   nodes_walked_next g graph'' grows' below first node walked more = record {
     all = λ top above before reduction lower trail labels p by. elim (cases_lt top node) [
@@ -79,7 +80,7 @@ module _ (rules : List Rule) (tokens : List SymbolId) (numbers : IsNumbered rule
 
 -- ---- one link more is worked
 
-module _ (rules : List Rule) (tokens : List SymbolId) (p : Parser) (sound : IsSound rules tokens p) (g : Found) (graph' : IsSoundGraph rules tokens g)
+module _ (rules : List Rule) (tokens : List SymbolId) (p : Parser) (sound : IsSoundParser rules tokens p) (g : Findings) (graph' : IsSoundGraph rules tokens g)
     (grows : Grows (found p) g) (through nodes : ℕ) (worked : IsWorked rules (found p) through nodes) (all_nodes : nodes ≡ length p.stacks.nodes)
     (of_level : IsOfLevel (found p) p.level.first_link through) where
   are_nodes : (node : ℕ) → node < nodes → (w : List Item) × (i : ℕ) × IsNode (found p) node w i
@@ -104,8 +105,8 @@ module _ (rules : List Rule) (tokens : List SymbolId) (p : Parser) (sound : IsSo
   top_here {top = top} {at = at} q has =
       let (edge, there) = at_below p.stacks.links through of_level.is in
       let b = between rules tokens (found p) sound.graph through {upper = edge.upper} {x = edge.symbol} {lower = edge.lower} {label = edge.label} there in
-      let rises : b.to ≤ at = trail_rises rules tokens (found p) sound.graph q.along through has edge there (place_of b.upper_is.state b.to)
-      (place_of q.top_is.state at) b.upper_is.there q.top_is.there in
+      let rises : b.to ≤ at = trail_rises rules tokens (found p) sound.graph q.along through has edge there (place_with b.upper_is.state b.to)
+      (place_with q.top_is.state at) b.upper_is.there q.top_is.there in
       let here : b.to ≡ p.level.at = sound.level.nodes_here edge.upper _ b.upper_is.there (sound.level.links_here through edge there of_level.of_level) in
       let above : p.level.first_node ≤ top = elim (cases_lt top p.level.first_node) [
         | inl less ↦ absurd (omega (arith, sound.level.nodes_before top _ q.top_is.there less, rises, here))
@@ -149,21 +150,22 @@ module _ (rules : List Rule) (tokens : List SymbolId) (p : Parser) (sound : IsSo
       ])
 
 -- no split was found along a trail through the link
-pub none_through : (rules : List Rule) (f : Found) (through nodes node : ℕ) → IsWorked rules f through nodes → IsAnyFresh rules f node through
+pub none_through : (rules : List Rule) (f : Findings) (through nodes node : ℕ) → IsWorked rules f through nodes → IsAnyFresh rules f node through
 none_through rules f through nodes node worked split trail c told by = not_through through nodes trail node (worked.only split trail node c told) by
 
 -- ---- the loop over the nodes
 
 -- The parser has made the reductions from the nodes before this one.
-pub record IsLinkUnderWay {Base : Type 0} (tokens : List SymbolId) (old new : Parser) (graph graph' : Meaning Base) (before after : ℕ)
+pub record IsLinkUnderWay {Base : Type 0} (tokens : List SymbolId) (old new : Parser) (graph graph' : GraphMeaning Base) (before after : ℕ)
     (first node link : ℕ) : Type 0 where
   pub step : IsStep tokens old new graph graph' before after
-  pub stands : Stands graph graph'
+  pub stands : StandsButKernels graph graph'
   pub back : before ≤ after
   pub within : IsWithinLimit new
   pub walked : AreNodesWalked graph.grammar.rules (found old) (found new) first node link old.level.at
 
-pub link_way_none : {Base : Type 0} (tokens : List SymbolId) (p : Parser) (graph : Meaning Base) (steps first link : ℕ) → IsSound graph.grammar.rules tokens p
+pub link_way_none : {Base : Type 0} (tokens : List SymbolId) (p : Parser) (graph : GraphMeaning Base) (steps first link : ℕ)
+    → IsSoundParser graph.grammar.rules tokens p
     → IsWithinLimit p → IsLinkUnderWay tokens p p graph graph steps steps first first link
 link_way_none tokens p graph steps first link sound within = record {
   step = step_none tokens p graph steps sound;
@@ -173,14 +175,14 @@ link_way_none tokens p graph steps first link sound within = record {
   walked = nodes_walked_none graph.grammar.rules (found p) first link p.level.at;
 }
 
-still_within : {X : Type 0} (xs ys : List X) (n : ℕ) → Keeps xs ys → n < length xs → n < length ys
+still_within : {X : Type 0} (xs ys : List X) (n : ℕ) → KeepsNumbers xs ys → n < length xs → n < length ys
 still_within xs ys n keeps l = let (x, e) = at_below xs n l in slice_get_within ys n x (keeps n x e)
 
-module _ {Base : Type 0} (tokens : List SymbolId) (old p : Parser) (graph first : Meaning Base) (before between : ℕ) (begin node link nodes : ℕ)
-    (sound : IsSound graph.grammar.rules tokens old) (of_level : IsOfLevel (found old) old.level.first_link link)
+module _ {Base : Type 0} (tokens : List SymbolId) (old p : Parser) (graph first : GraphMeaning Base) (before between : ℕ) (begin node link nodes : ℕ)
+    (sound : IsSoundParser graph.grammar.rules tokens old) (of_level : IsOfLevel (found old) old.level.first_link link)
     (way : IsLinkUnderWay tokens old p graph first before between begin node link) where
-  now : IsSound graph.grammar.rules tokens p
-  now = subst (λ (gr : Grammar). IsSound gr.rules tokens p) way.stands.grammar way.step.sound
+  now : IsSoundParser graph.grammar.rules tokens p
+  now = subst (λ (gr : Grammar). IsSoundParser gr.rules tokens p) way.stands.grammar way.step.sound
 
   pub link_still : IsOfLevel (found p) p.level.first_link link
   link_still = record {
@@ -196,16 +198,16 @@ module _ {Base : Type 0} (tokens : List SymbolId) (old p : Parser) (graph first 
       (any_fresh graph.grammar.rules tokens now.numbered (found old) (found p) sound.graph now.graph way.step.grows link old.level.at begin node nodes
       worked way.walked)
 
-  pub link_way_on : (q : Parser) (second : Meaning Base) (after : ℕ) → IsStep tokens p q first second between after
+  pub link_way_on : (q : Parser) (second : GraphMeaning Base) (after : ℕ) → IsStep tokens p q first second between after
       → IsStep tokens old q graph second before after
   link_way_on q second after step = step_on tokens old p q graph first second before between after way.step step
 
-  pub link_way_more : (q : Parser) (second : Meaning Base) (after : ℕ) → IsStep tokens p q first second between after
-      → IsNodeWalked first.grammar.rules (found p) (found q) node link p.level.at → IsWithinLimit q → Stands first second → between ≤ after
+  pub link_way_more : (q : Parser) (second : GraphMeaning Base) (after : ℕ) → IsStep tokens p q first second between after
+      → IsNodeWalked first.grammar.rules (found p) (found q) node link p.level.at → IsWithinLimit q → StandsButKernels first second → between ≤ after
       → IsLinkUnderWay tokens old q graph second before after begin (node + 1) link
   link_way_more q second after step walked within stands back =
       let stood = stands_on graph first second way.stands stands in
-      let later : IsSound graph.grammar.rules tokens q = subst (λ (gr : Grammar). IsSound gr.rules tokens q) stood.grammar step.sound in
+      let later : IsSoundParser graph.grammar.rules tokens q = subst (λ (gr : Grammar). IsSoundParser gr.rules tokens q) stood.grammar step.sound in
       let by_rules : IsNodeWalked graph.grammar.rules (found p) (found q) node link p.level.at =
       subst (λ (gr : Grammar). IsNodeWalked gr.rules (found p) (found q) node link p.level.at) way.stands.grammar walked in
       let by_level : IsNodeWalked graph.grammar.rules (found p) (found q) node link old.level.at =
@@ -232,8 +234,8 @@ module _ {Base : Type 0} (tokens : List SymbolId) (old p : Parser) (graph first 
 
 -- ---- the upper end alone
 
-module _ {Base : Type 0} (tokens : List SymbolId) (p : Parser) (graph : Meaning Base) (link nodes : ℕ) (edge : Edge)
-    (sound : IsSound graph.grammar.rules tokens p) (of_level : IsOfLevel (found p) p.level.first_link link)
+module _ {Base : Type 0} (tokens : List SymbolId) (p : Parser) (graph : GraphMeaning Base) (link nodes : ℕ) (edge : Edge)
+    (sound : IsSoundParser graph.grammar.rules tokens p) (of_level : IsOfLevel (found p) p.level.first_link link)
     (there : slice_get p.stacks.links link ≡ Some edge) where
   pub upper_within : edge.upper < length p.stacks.nodes
   upper_within =
@@ -241,11 +243,11 @@ module _ {Base : Type 0} (tokens : List SymbolId) (p : Parser) (graph : Meaning 
       {label = edge.label} there in
       node_below b.upper_is
 
-  pub upper_worked : (q : Parser) (second : Meaning Base) (before after : ℕ) → IsStep tokens p q graph second before after → Stands graph second
+  pub upper_worked : (q : Parser) (second : GraphMeaning Base) (before after : ℕ) → IsStep tokens p q graph second before after → StandsButKernels graph second
       → IsTrue p.is_flat → nodes ≡ length p.stacks.nodes → IsWorked graph.grammar.rules (found p) link nodes
       → IsNodeWalked graph.grammar.rules (found p) (found q) edge.upper link p.level.at → IsWorked graph.grammar.rules (found q) (link + 1) nodes
   upper_worked q second before after step stands is_flat all_nodes worked walked =
-      let later : IsSound graph.grammar.rules tokens q = subst (λ (gr : Grammar). IsSound gr.rules tokens q) stands.grammar step.sound in
+      let later : IsSoundParser graph.grammar.rules tokens q = subst (λ (gr : Grammar). IsSoundParser gr.rules tokens q) stands.grammar step.sound in
       let one_more : suc link ≡ link + 1 = omega arith in
       subst (λ n. IsWorked graph.grammar.rules (found q) n nodes) one_more
       (link_worked_flat graph.grammar.rules tokens p sound (found q) later.graph step.grows link nodes worked all_nodes of_level is_flat edge there walked)

@@ -9,17 +9,17 @@ use Rattle.item_sets.specs.declared.item.Item.{Item}
 use Rattle.item_sets.specs.Expansions.{HasMove}
 use Rattle.gss.specs.declared.stack_graph.Place.{Place}
 use Rattle.gss.specs.declared.stack_graph.Edge.{Edge}
-use Rattle.gss.specs.PlaceGraphs.{place_of, edge_of, LeadsToBy}
+use Rattle.gss.specs.PlaceGraphs.{place_with, edge_of, LeadsToBy}
 use Rattle.edit_log.specs.History.{Grammar}
-use Rattle.live_graph.specs.Meaning.{Meaning}
+use Rattle.live_graph.specs.Meaning.{GraphMeaning}
 use Rattle.packed_spans.specs.Complete.{IsPartAt}
 use Rattle.parser_states.specs.Asked.{AsksNew}
 use Rattle.parser_states.proofs.AskedKernels.{asks_none, asks_join}
 use Rattle.rekers.specs.declared.parser.Parser.{Parser}
 use Rattle.rekers.specs.declared.level.Level.{Level}
-use Rattle.rekers.specs.Found.{Found, found, IsNode, Grows}
+use Rattle.rekers.specs.Found.{Findings, found, IsNode, Grows}
 use Rattle.rekers.specs.Reductions.{IsLinkTo}
-use Rattle.rekers.specs.Sound.{IsSound, IsSoundGraph, IsFirst}
+use Rattle.rekers.specs.Sound.{IsSoundParser, IsSoundGraph, IsFirstMover}
 use Rattle.rekers.specs.Steps.{IsStep, IsLinkable, IsUnlinked, IsLinkBy, IsFirstOf}
 use Rattle.rekers.proofs.Growth.{one_at, one_kernel, grows_same, grows_on, node_grows}
 use Rattle.rekers.proofs.Trails.{between, part_cases}
@@ -29,7 +29,7 @@ use Rattle.rekers.proofs.NewNodes.{old_or_last, first_stays}
 -- ---- steps
 
 module _ {Base : Type 0} (tokens : List SymbolId) where
-  pub step_none : (p : Parser) (graph : Meaning Base) (steps : ℕ) → IsSound graph.grammar.rules tokens p → IsStep tokens p p graph graph steps steps
+  pub step_none : (p : Parser) (graph : GraphMeaning Base) (steps : ℕ) → IsSoundParser graph.grammar.rules tokens p → IsStep tokens p p graph graph steps steps
   step_none p graph steps sound = record {
     sound = sound;
     grows = grows_same (found p);
@@ -39,7 +39,8 @@ module _ {Base : Type 0} (tokens : List SymbolId) where
   }
 
   -- a step for which the graph is not asked
-  pub step_alone : (p q : Parser) (graph : Meaning Base) (steps : ℕ) → IsSound graph.grammar.rules tokens q → Grows (found p) (found q) → q.states ≡ p.states
+  pub step_alone : (p q : Parser) (graph : GraphMeaning Base) (steps : ℕ) → IsSoundParser graph.grammar.rules tokens q → Grows (found p) (found q)
+      → q.states ≡ p.states
       → q.level ≡ p.level → IsStep tokens p q graph graph steps steps
   step_alone p q graph steps sound grows states level = record {
     sound = sound;
@@ -51,7 +52,7 @@ module _ {Base : Type 0} (tokens : List SymbolId) where
     asks = subst (λ ss. AsksNew p.states.kernels ss.kernels graph graph steps steps) (sym states) (asks_none p.states.kernels graph steps);
   }
 
-  pub step_on : (p q r : Parser) (first second third : Meaning Base) (a b c : ℕ) → IsStep tokens p q first second a b → IsStep tokens q r second third b c
+  pub step_on : (p q r : Parser) (first second third : GraphMeaning Base) (a b c : ℕ) → IsStep tokens p q first second a b → IsStep tokens q r second third b c
       → IsStep tokens p r first third a c
   step_on p q r first second third a b c one two = record {
     sound = two.sound;
@@ -63,7 +64,7 @@ module _ {Base : Type 0} (tokens : List SymbolId) where
 
 -- ---- links
 
-module _ (rules : List Rule) (tokens : List SymbolId) (p : Parser) (sound : IsSound rules tokens p) where
+module _ (rules : List Rule) (tokens : List SymbolId) (p : Parser) (sound : IsSoundParser rules tokens p) where
   -- the label of a link by a left side is a span that a link made
   pub label_owned : {link lower at label : ℕ} {x : SymbolId} → IsNonterminal rules x → IsLinkTo (found p) link lower x at label → label < length p.owners.items
   label_owned {link} {label = label} nonterminal is =
@@ -78,13 +79,13 @@ module _ (rules : List Rule) (tokens : List SymbolId) (p : Parser) (sound : IsSo
       → IsLinkBy (found p) link lower x p.level.at
   link_found {link} {lower} {x} nonterminal (here, edge, there, low, symbol) =
       let ends = (sound.graph.links link edge there).ends in
-      let at = sound.level.nodes_here edge.upper (place_of ends.upper_is.state ends.to) ends.upper_is.there (sound.level.links_here link edge there here) in
+      let at = sound.level.nodes_here edge.upper (place_with ends.upper_is.state ends.to) ends.upper_is.there (sound.level.links_here link edge there here) in
       let is : IsLinkTo (found p) link lower x p.level.at edge.label = record {
         upper = edge.upper;
         state = ends.upper_is.state;
         there = subst (λ n. slice_get p.stacks.links link ≡ Some (edge_of edge.upper x n edge.label)) low
             (subst (λ y. slice_get p.stacks.links link ≡ Some (edge_of edge.upper y edge.lower edge.label)) symbol there);
-        upper_is = subst (λ i. slice_get p.stacks.nodes edge.upper ≡ Some (place_of ends.upper_is.state i)) at ends.upper_is.there;
+        upper_is = subst (λ i. slice_get p.stacks.nodes edge.upper ≡ Some (place_with ends.upper_is.state i)) at ends.upper_is.there;
       } in
       record { label = edge.label; is = is; owned = label_owned nonterminal is }
 
@@ -105,7 +106,7 @@ module _ (rules : List Rule) (tokens : List SymbolId) (p : Parser) (sound : IsSo
       omega (arith, (sound.openers.each i from noted).behind other place e above, sound.graph.rising other node place _ e n.there below)
 
 -- the place of a node has a noted opener
-pub openers_within : (rules : List Rule) (tokens : List SymbolId) (p : Parser) → IsSound rules tokens p → (node i : ℕ) (kernel : List Item)
+pub openers_within : (rules : List Rule) (tokens : List SymbolId) (p : Parser) → IsSoundParser rules tokens p → (node i : ℕ) (kernel : List Item)
     → IsNode (found p) node kernel i → i < length p.openers.items
 openers_within rules tokens p sound node i kernel n =
     omega (arith, sound.openers.size, highest (found p) p.level.at p.level.first_node p.level.first_link sound.level node _ n.there)
@@ -118,7 +119,7 @@ others_unlinked links edge first_link lower other x low differs none link (here,
   | inr last ↦ differs (sym below ∙ ap (λ (q : Edge). q.lower) last.1 ∙ low)
 ]
 
-pub linkable_grows : (rules : List Rule) (tokens : List SymbolId) (f g : Found) → Grows f g → {lower at : ℕ} {x : SymbolId}
+pub linkable_grows : (rules : List Rule) (tokens : List SymbolId) (f g : Findings) → Grows f g → {lower at : ℕ} {x : SymbolId}
     → IsLinkable rules tokens f lower x at
     → IsLinkable rules tokens g lower x at
 linkable_grows rules tokens f g grows is = record {
@@ -130,7 +131,7 @@ linkable_grows rules tokens f g grows is = record {
 }
 
 -- the state of a node has a number
-pub state_within : (rules : List Rule) (tokens : List SymbolId) (f : Found) → IsSoundGraph rules tokens f → (node : ℕ) (place : Place)
+pub state_within : (rules : List Rule) (tokens : List SymbolId) (f : Findings) → IsSoundGraph rules tokens f → (node : ℕ) (place : Place)
     → slice_get f.nodes node ≡ Some place → place.state < length f.kernels
 state_within rules tokens f sound node place e = let (kernel, is, reached) = sound.nodes node place e in slice_get_within f.kernels place.state kernel is
 
@@ -143,10 +144,11 @@ module _ (tokens : List SymbolId) (G H : Grammar) (same : H ≡ G) (p q : Parser
       subst (λ (gr : Grammar). IsLinkable gr.rules tokens (found q) lower x q.level.at) (sym same)
       (subst (λ (l : Level). IsLinkable G.rules tokens (found q) lower x l.at) (sym level) there)
 
-  pub first_on : {lower : ℕ} {x : SymbolId} → IsSound G.rules tokens p → lower < length p.stacks.nodes → IsFirst G.rules (found p) lower x
-      → IsFirst H.rules (found q) lower x
+  pub first_on : {lower : ℕ} {x : SymbolId} → IsSoundParser G.rules tokens p → lower < length p.stacks.nodes → IsFirstMover G.rules (found p) lower x
+      → IsFirstMover H.rules (found q) lower x
   first_on {lower} {x} sound below first =
-      subst (λ (gr : Grammar). IsFirst gr.rules (found q) lower x) (sym same) (first_stays G.rules tokens (found p) (found q) sound.graph grows below first)
+      subst (λ (gr : Grammar). IsFirstMover gr.rules (found q) lower x) (sym same) (first_stays G.rules tokens (found p)
+          (found q) sound.graph grows below first)
 
   pub nonterminal_on : {x : SymbolId} → IsNonterminal G.rules x → IsNonterminal H.rules x
   nonterminal_on {x} is = subst (λ (gr : Grammar). IsNonterminal gr.rules x) (sym same) is
@@ -161,7 +163,7 @@ pub link_by_on : (p q : Parser) (link lower : ℕ) (x : SymbolId) → q.level �
 link_by_on p q link lower x level is = subst (λ (l : Level). IsLinkBy (found q) link lower x l.at) level is
 
 -- the link of the first node is linkable as the node itself is
-pub linkable_first : (rules : List Rule) (tokens : List SymbolId) (f : Found) {lower at first : ℕ} {x : SymbolId} (is : IsFirstOf rules f lower x first)
+pub linkable_first : (rules : List Rule) (tokens : List SymbolId) (f : Findings) {lower at first : ℕ} {x : SymbolId} (is : IsFirstOf rules f lower x first)
     → IsLinkable rules tokens f lower x at → IsLinkable rules tokens f first x at
 linkable_first rules tokens f {at = at} {x = x} is own = record {
   kernel = is.kernel;
@@ -172,7 +174,7 @@ linkable_first rules tokens f {at = at} {x = x} is own = record {
 }
 
 -- the label of the first node's link serves the other nodes of its place
-pub label_of_first : (rules : List Rule) (tokens : List SymbolId) (p : Parser) → IsSound rules tokens p
+pub label_of_first : (rules : List Rule) (tokens : List SymbolId) (p : Parser) → IsSoundParser rules tokens p
     → {link lower at label from : ℕ} {x : SymbolId} {own : List Item}
     → IsLinkTo (found p) link lower x at label → IsNode (found p) lower own from → IsPartAt rules tokens p.spans.spans x from label at
 label_of_first rules tokens p sound {link} {lower} {at} {label} {from} {x} is node =

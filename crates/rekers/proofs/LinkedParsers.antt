@@ -13,9 +13,10 @@ use Rattle.packed_spans.specs.declared.span.TheConstants.{TOKEN_PART}
 use Rattle.packed_spans.specs.Packed.{Packed, PackedSplit}
 use Rattle.packed_spans.specs.Complete.{IsPartAt, of_span}
 use Rattle.rekers.specs.declared.parser.Parser.{Parser}
-use Rattle.rekers.specs.Found.{found, Keeps, Grows}
+use Rattle.forest.specs.Numbers.{KeepsNumbers}
+use Rattle.rekers.specs.Found.{found, Grows}
 use Rattle.rekers.specs.Reductions.{IsLinkTo}
-use Rattle.rekers.specs.Sound.{IsSound, IsFirst, IsFlat, IsOwner}
+use Rattle.rekers.specs.Sound.{IsSoundParser, IsFirstMover, IsFlat, IsOwner}
 use Rattle.rekers.specs.Steps.{IsLinkable, IsUpper, IsUnlinked}
 use Rattle.rekers.proofs.Growth.{keeps_same, keeps_append}
 use Rattle.rekers.proofs.NewNodes.{at_end, old_or_last}
@@ -29,7 +30,7 @@ packed_is packed spans p e g =
     sym (ap (λ ss. let it : Packed = record { spans = ss; splits = packed.splits } in it) e
     ∙ ap (λ ts. let it : Packed = record { spans = spans; splits = ts } in it) g)
 
-module _ (rules : List Rule) (tokens : List SymbolId) (p : Parser) (sound : IsSound rules tokens p) (lower upper : ℕ) (x : SymbolId)
+module _ (rules : List Rule) (tokens : List SymbolId) (p : Parser) (sound : IsSoundParser rules tokens p) (lower upper : ℕ) (x : SymbolId)
     (linkable : IsLinkable rules tokens (found p) lower x p.level.at) (is_upper : IsUpper rules (found p) p.level.at lower x upper)
     (unlinked : IsUnlinked (found p) p.level.first_link lower x) where
   -- the level stays flat where the link leads down from it
@@ -43,12 +44,12 @@ module _ (rules : List Rule) (tokens : List SymbolId) (p : Parser) (sound : IsSo
   pub attach_sound : (graph : PlaceGraph) (label : ℕ) (flag : Bool) → graph.nodes ≡ p.stacks.nodes
       → graph.links ≡ p.stacks.links ++ edge_of upper x lower label ∷ []
       → (IsTrue flag → IsTrue p.is_flat × (lower < p.level.first_node)) → IsPartAt rules tokens p.spans.spans x linkable.from label p.level.at
-      → IsSound rules tokens (record p { stacks = graph; is_flat = flag })
+      → IsSoundParser rules tokens (record p { stacks = graph; is_flat = flag })
   attach_sound graph label flag nodes links says part =
       let edge = edge_of upper x lower label in
       let keep = keeps_same p.spans.spans in
       let keeps = keeps_same p.owners.items in
-      let joined : IsSound rules tokens (record p { stacks = record { nodes = p.stacks.nodes; links = p.stacks.links ++ edge ∷ [] }; is_flat = flag }) =
+      let joined : IsSoundParser rules tokens (record p { stacks = record { nodes = p.stacks.nodes; links = p.stacks.links ++ edge ∷ [] }; is_flat = flag }) =
       record {
         numbered = sound.numbered;
         terminals = sound.terminals;
@@ -65,26 +66,26 @@ module _ (rules : List Rule) (tokens : List SymbolId) (p : Parser) (sound : IsSo
         flat = flat_on label p.spans.spans p.owners.items flag says;
         spans_below = sound.spans_below;
       } in
-      subst (λ (g : PlaceGraph). IsSound rules tokens (record p { stacks = g; is_flat = flag }))
+      subst (λ (g : PlaceGraph). IsSoundParser rules tokens (record p { stacks = g; is_flat = flag }))
       (graph_is graph p.stacks.nodes (p.stacks.links ++ edge ∷ []) nodes links) joined
 
   -- a span of its own
   abbrev pub own_span : Span
   own_span = record { symbol = x; from = linkable.from; to = p.level.at }
 
-  pub own_sound : (graph : PlaceGraph) (packed : Packed) (owners : Vec ℕ Global) (flag : Bool) → IsNonterminal rules x → IsFirst rules (found p) lower x
+  pub own_sound : (graph : PlaceGraph) (packed : Packed) (owners : Vec ℕ Global) (flag : Bool) → IsNonterminal rules x → IsFirstMover rules (found p) lower x
       → length p.spans.spans < TOKEN_PART → graph.nodes ≡ p.stacks.nodes
       → graph.links ≡ p.stacks.links ++ edge_of upper x lower (length p.spans.spans) ∷ [] → packed.spans ≡ p.spans.spans ++ own_span ∷ []
       → packed.splits ≡ p.spans.splits → owners.items ≡ p.owners.items ++ length p.stacks.links ∷ []
       → (IsTrue flag → IsTrue p.is_flat × (lower < p.level.first_node))
-      → IsSound rules tokens (record p { stacks = graph; spans = packed; owners = owners; is_flat = flag })
+      → IsSoundParser rules tokens (record p { stacks = graph; spans = packed; owners = owners; is_flat = flag })
       × Grows (found p) (found (record p { stacks = graph; spans = packed; owners = owners; is_flat = flag }))
   own_sound graph packed owners flag nonterminal first few nodes links spans splits owns says =
       let label = length p.spans.spans in
       let edge = edge_of upper x lower label in
       let spans' = p.spans.spans ++ own_span ∷ [] in
       let keep = keeps_append p.spans.spans (own_span ∷ []) in
-      let keeps = subst (λ os. Keeps p.owners.items os) (sym owns) (keeps_append p.owners.items (length p.stacks.links ∷ [])) in
+      let keeps = subst (λ os. KeepsNumbers p.owners.items os) (sym owns) (keeps_append p.owners.items (length p.stacks.links ∷ [])) in
       let part : IsPartAt rules tokens spans' x linkable.from label p.level.at = of_span nonterminal (at_end p.spans.spans own_span) in
       let owned : length owners.items ≡ length spans' = omega (
         arith,
@@ -96,7 +97,7 @@ module _ (rules : List Rule) (tokens : List SymbolId) (p : Parser) (sound : IsSo
       let owner_is = new_owner rules tokens (found p) sound.graph p.level.at p.level.first_node p.level.first_link sound.level lower upper label x linkable
       is_upper unlinked
       spans' owners.items keep keeps nonterminal first in
-      let joined : IsSound rules tokens (record p {
+      let joined : IsSoundParser rules tokens (record p {
         stacks = record { nodes = p.stacks.nodes; links = p.stacks.links ++ edge ∷ [] };
         spans = record { spans = spans'; splits = p.spans.splits };
         owners = owners;
@@ -129,8 +130,8 @@ module _ (rules : List Rule) (tokens : List SymbolId) (p : Parser) (sound : IsSo
       spans' owners.items keep keeps in
       let graphs = graph_is graph p.stacks.nodes (p.stacks.links ++ edge ∷ []) nodes links in
       let packs = packed_is packed spans' p.spans spans splits in (
-        subst (λ (k : Packed). IsSound rules tokens (record p { stacks = graph; spans = k; owners = owners; is_flat = flag })) packs
-            (subst (λ (g : PlaceGraph). IsSound rules tokens (record p {
+        subst (λ (k : Packed). IsSoundParser rules tokens (record p { stacks = graph; spans = k; owners = owners; is_flat = flag })) packs
+            (subst (λ (g : PlaceGraph). IsSoundParser rules tokens (record p {
               stacks = g;
               spans = record { spans = spans'; splits = p.spans.splits };
               owners = owners;

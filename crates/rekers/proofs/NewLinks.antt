@@ -7,24 +7,25 @@ use Rattle.forest.specs.Derivation.{IsNonterminal}
 use Rattle.item_sets.specs.Expansions.{IsMoveOf}
 use Rattle.gss.specs.declared.stack_graph.Place.{Place}
 use Rattle.gss.specs.declared.stack_graph.Edge.{Edge}
-use Rattle.gss.specs.PlaceGraphs.{place_of, edge_of}
+use Rattle.gss.specs.PlaceGraphs.{place_with, edge_of}
 use Rattle.packed_spans.specs.declared.span.Span.{Span}
 use Rattle.packed_spans.specs.Complete.{IsPartAt}
-use Rattle.rekers.specs.Found.{Found, Keeps, Grows}
+use Rattle.forest.specs.Numbers.{KeepsNumbers}
+use Rattle.rekers.specs.Found.{Findings, Grows}
 use Rattle.rekers.specs.Reductions.{IsLinkTo}
-use Rattle.rekers.specs.Sound.{IsSoundGraph, IsSoundLink, IsOwner, IsFirst, IsLevel, AreOpeners}
+use Rattle.rekers.specs.Sound.{IsSoundGraph, IsSoundLink, IsOwner, IsFirstMover, IsLevel, AreOpeners}
 use Rattle.rekers.specs.Steps.{IsLinkable, IsUpper, IsUnlinked}
 use Rattle.rekers.proofs.Growth.{one_at, one_kernel, keeps_same, keeps_append, node_grows, node_below, told_grows}
 use Rattle.rekers.proofs.NewNodes.{at_end, old_or_last, link_stays, owner_stays, first_stays}
 use Rattle.rekers.proofs.Trails.{node_state}
 
 -- the link, with more spans and owners
-abbrev pub with_link : Found → Edge → List Span → List ℕ → Found
+abbrev pub with_link : Findings → Edge → List Span → List ℕ → Findings
 with_link f edge spans owners =
     record { kernels = f.kernels; nodes = f.nodes; links = f.links ++ edge ∷ []; spans = spans; splits = f.splits; owners = owners }
 
 -- a node that the level's move leads to is of the level
-pub upper_here : (f : Found) (at first_node first_link : ℕ) → IsLevel f at first_node first_link → (node : ℕ) (place : Place)
+pub upper_here : (f : Findings) (at first_node first_link : ℕ) → IsLevel f at first_node first_link → (node : ℕ) (place : Place)
     → slice_get f.nodes node ≡ Some place
     → place.at ≡ at → first_node ≤ node
 upper_here f at first_node first_link level node place e here = elim (cases_lt node first_node) [
@@ -33,7 +34,8 @@ upper_here f at first_node first_link level node place e here = elim (cases_lt n
 ]
 
 -- a link whose upper end is at the level's place is of the level
-pub link_here : (f : Found) (at first_node first_link : ℕ) → IsLevel f at first_node first_link → (link : ℕ) (edge : Edge) → slice_get f.links link ≡ Some edge
+pub link_here : (f : Findings) (at first_node first_link : ℕ) → IsLevel f at first_node first_link → (link : ℕ) (edge : Edge)
+    → slice_get f.links link ≡ Some edge
     → (place : Place) → slice_get f.nodes edge.upper ≡ Some place → place.at ≡ at → first_link ≤ link
 link_here f at first_node first_link level link edge e place up here = elim (cases_lt link first_link) [
   | inl below ↦ absurd (omega (
@@ -44,14 +46,14 @@ link_here f at first_node first_link level link edge e place up here = elim (cas
   | inr above ↦ above
 ]
 
-module _ (rules : List Rule) (tokens : List SymbolId) (f : Found) (sound : IsSoundGraph rules tokens f) (at first_node first_link : ℕ)
+module _ (rules : List Rule) (tokens : List SymbolId) (f : Findings) (sound : IsSoundGraph rules tokens f) (at first_node first_link : ℕ)
     (level : IsLevel f at first_node first_link) (lower upper label : ℕ) (x : SymbolId) (linkable : IsLinkable rules tokens f lower x at)
     (is_upper : IsUpper rules f at lower x upper) (unlinked : IsUnlinked f first_link lower x) (spans : List Span) (owners : List ℕ)
-    (spans_keep : Keeps f.spans spans) (owners_keep : Keeps f.owners owners) where
+    (spans_keep : KeepsNumbers f.spans spans) (owners_keep : KeepsNumbers f.owners owners) where
   abbrev edge : Edge
   edge = edge_of upper x lower label
 
-  abbrev g : Found
+  abbrev g : Findings
   g = with_link f (edge_of upper x lower label) spans owners
 
   pub link_grows_by : Grows f (with_link f (edge_of upper x lower label) spans owners)
@@ -131,7 +133,7 @@ module _ (rules : List Rule) (tokens : List SymbolId) (f : Found) (sound : IsSou
   }
 
   -- the link makes the span that is its label
-  pub new_owner : IsNonterminal rules x → IsFirst rules f lower x
+  pub new_owner : IsNonterminal rules x → IsFirstMover rules f lower x
       → IsOwner rules (with_link f (edge_of upper x lower label) spans owners) label (length f.links)
   new_owner nonterminal first = record {
     edge = edge;
@@ -154,7 +156,7 @@ module _ (rules : List Rule) (tokens : List SymbolId) (f : Found) (sound : IsSou
     links_here = λ link old e l. elim (old_or_last f.links edge link old e) [
       | inl before ↦ level.links_here link old before l
       | inr last ↦ subst (λ (q : Edge). first_node ≤ q.upper) (sym last.1)
-          (upper_here f at first_node first_link level upper (place_of is_upper.state at) is_upper.there refl)
+          (upper_here f at first_node first_link level upper (place_with is_upper.state at) is_upper.there refl)
     ];
   }
 

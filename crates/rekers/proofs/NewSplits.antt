@@ -18,9 +18,9 @@ use Rattle.packed_spans.specs.declared.span.Span.{Span}
 use Rattle.packed_spans.specs.Packed.{Packed, PackedSplit}
 use Rattle.parser_states.specs.declared.reduction.Reduction.{Reduction}
 use Rattle.rekers.specs.declared.parser.Parser.{Parser}
-use Rattle.rekers.specs.Found.{Found, found, Grows, IsTrail, here, over}
-use Rattle.rekers.specs.Reductions.{IsReducible, IsLinkTo, IsTold}
-use Rattle.rekers.specs.Sound.{IsSound, IsSoundGraph, IsLevel, AreOpeners}
+use Rattle.rekers.specs.Found.{Findings, found, Grows, IsTrail, here, over}
+use Rattle.rekers.specs.Reductions.{IsReducible, IsLinkTo, IsFoundAlong}
+use Rattle.rekers.specs.Sound.{IsSoundParser, IsSoundGraph, IsLevel, AreOpeners}
 use Rattle.rekers.specs.Steps.{IsToReduce, Reduces, labels_of}
 use Rattle.rekers.proofs.Growth.{keeps_same, node_grows, link_grows, told_grows, partial_grows}
 use Rattle.rekers.proofs.NewNodes.{link_stays, owner_stays}
@@ -86,10 +86,10 @@ distinct_push (y ∷ ys) x d n = (
 -- ---- one more split
 
 -- the same but for more splits
-abbrev pub with_split : Found → PackedSplit → Found
+abbrev pub with_split : Findings → PackedSplit → Findings
 with_split f split = record { kernels = f.kernels; nodes = f.nodes; links = f.links; spans = f.spans; splits = f.splits ++ split ∷ []; owners = f.owners }
 
-pub split_grows : (f : Found) (split : PackedSplit) → Grows f (with_split f split)
+pub split_grows : (f : Findings) (split : PackedSplit) → Grows f (with_split f split)
 split_grows f split = record {
   kernels = keeps_same f.kernels;
   nodes = keeps_same f.nodes;
@@ -99,10 +99,10 @@ split_grows f split = record {
   owners = keeps_same f.owners;
 }
 
-module _ (rules : List Rule) (tokens : List SymbolId) (f : Found) (sound : IsSoundGraph rules tokens f) (split : PackedSplit) (trail : List ℕ) (top : ℕ)
-    (told : IsTold rules f split trail top)
-    (untold : (other : PackedSplit) → Contains f.splits other → other.rule ≡ split.rule → IsTold rules f other trail top → ⊥) where
-  abbrev g : Found
+module _ (rules : List Rule) (tokens : List SymbolId) (f : Findings) (sound : IsSoundGraph rules tokens f) (split : PackedSplit) (trail : List ℕ) (top : ℕ)
+    (told : IsFoundAlong rules f split trail top)
+    (untold : (other : PackedSplit) → Contains f.splits other → other.rule ≡ split.rule → IsFoundAlong rules f other trail top → ⊥) where
+  abbrev g : Findings
   g = with_split f split
 
   grows : Grows f (with_split f split)
@@ -121,13 +121,13 @@ module _ (rules : List Rule) (tokens : List SymbolId) (f : Found) (sound : IsSou
     owners = λ span owner e. owner_stays rules tokens f g sound grows (sound.owners span owner e);
     told = λ other c. elim (Contains-push_cases f.splits split other c) [
       | inl old ↦ let (trail', top', is) = sound.told other old in (trail', top', told_grows f g grows is)
-      | inr same ↦ subst (λ (s : PackedSplit). (way : List ℕ) × (upper : ℕ) × IsTold rules g s way upper) same (trail, top, told_grows f g grows told)
+      | inr same ↦ subst (λ (s : PackedSplit). (way : List ℕ) × (upper : ℕ) × IsFoundAlong rules g s way upper) same (trail, top, told_grows f g grows told)
     ];
     distinct = distinct_push f.splits split sound.distinct (λ c. untold split c refl told);
   }
 
 -- what is noted of a level and of openers does not look at splits
-pub split_level : (f : Found) (split : PackedSplit) (at first_node first_link : ℕ) → IsLevel f at first_node first_link
+pub split_level : (f : Findings) (split : PackedSplit) (at first_node first_link : ℕ) → IsLevel f at first_node first_link
     → IsLevel (with_split f split) at first_node first_link
 split_level f split at first_node first_link level = record {
   nodes_within = level.nodes_within;
@@ -138,7 +138,7 @@ split_level f split at first_node first_link level = record {
   links_here = level.links_here;
 }
 
-pub split_openers : (rules : List Rule) (f : Found) (split : PackedSplit) (openers : List ℕ) (at : ℕ) → AreOpeners rules f openers at
+pub split_openers : (rules : List Rule) (f : Findings) (split : PackedSplit) (openers : List ℕ) (at : ℕ) → AreOpeners rules f openers at
     → AreOpeners rules (with_split f split) openers at
 split_openers rules f split openers at are = record {
   size = are.size;
@@ -159,13 +159,13 @@ packed_with packed spans splits e g =
     ∙ ap (λ ts. let it : Packed = record { spans = spans; splits = ts } in it) g)
 
 -- a parser with one more split is sound
-pub split_sound : (rules : List Rule) (tokens : List SymbolId) (p : Parser) → IsSound rules tokens p → (split : PackedSplit) (trail : List ℕ) (top : ℕ)
-    → IsTold rules (found p) split trail top
-    → ((other : PackedSplit) → Contains p.spans.splits other → other.rule ≡ split.rule → IsTold rules (found p) other trail top → ⊥)
+pub split_sound : (rules : List Rule) (tokens : List SymbolId) (p : Parser) → IsSoundParser rules tokens p → (split : PackedSplit) (trail : List ℕ) (top : ℕ)
+    → IsFoundAlong rules (found p) split trail top
+    → ((other : PackedSplit) → Contains p.spans.splits other → other.rule ≡ split.rule → IsFoundAlong rules (found p) other trail top → ⊥)
     → (packed : Packed) (parts : Vec ℕ Global) → packed.spans ≡ p.spans.spans → packed.splits ≡ p.spans.splits ++ split ∷ []
-    → IsSound rules tokens (record p { spans = packed; parts = parts })
+    → IsSoundParser rules tokens (record p { spans = packed; parts = parts })
 split_sound rules tokens p sound split trail top told untold packed parts spans splits =
-    let joined : IsSound rules tokens (record p { spans = record { spans = p.spans.spans; splits = p.spans.splits ++ split ∷ [] }; parts = parts }) =
+    let joined : IsSoundParser rules tokens (record p { spans = record { spans = p.spans.spans; splits = p.spans.splits ++ split ∷ [] }; parts = parts }) =
     record {
       numbered = sound.numbered;
       terminals = sound.terminals;
@@ -176,7 +176,7 @@ split_sound rules tokens p sound split trail top told untold packed parts spans 
       flat = sound.flat;
       spans_below = sound.spans_below;
     } in
-    subst (λ (k : Packed). IsSound rules tokens (record p { spans = k; parts = parts }))
+    subst (λ (k : Packed). IsSoundParser rules tokens (record p { spans = k; parts = parts }))
     (packed_with packed p.spans.spans (p.spans.splits ++ split ∷ []) spans splits) joined
 
 -- all that was found stays beside the split
@@ -189,7 +189,7 @@ split_found p split packed parts spans splits =
 -- ---- reductions
 
 -- a reduction whose link did not make the span asks for no split
-pub reduces_none : (rules : List Rule) (f : Found) (reduction : Reduction) (lower : ℕ) (trail : List ℕ) (top at link label : ℕ)
+pub reduces_none : (rules : List Rule) (f : Findings) (reduction : Reduction) (lower : ℕ) (trail : List ℕ) (top at link label : ℕ)
     → IsLinkTo f link lower reduction.left at label → (slice_get f.owners label ≡ Some link → ⊥) → Reduces rules f f reduction lower trail top at
 reduces_none rules f reduction lower trail top at link label is other = record {
   made = λ labels r. record { link = link; label = label; link_is = is; split = λ e. absurd (other e) };
@@ -200,8 +200,8 @@ reduces_none rules f reduction lower trail top at link label is other = record {
 abbrev pub split_of : Reduction → ℕ → List ℕ → PackedSplit
 split_of reduction label labels = record { span = label; rule = reduction.rule; parts = labels }
 
-pub reduces_one : (rules : List Rule) (f : Found) (reduction : Reduction) (lower : ℕ) (trail : List ℕ) (top at link label : ℕ)
-    → IsLinkTo f link lower reduction.left at label → IsTold rules f (split_of reduction label (labels_of f.links trail)) trail top
+pub reduces_one : (rules : List Rule) (f : Findings) (reduction : Reduction) (lower : ℕ) (trail : List ℕ) (top at link label : ℕ)
+    → IsLinkTo f link lower reduction.left at label → IsFoundAlong rules f (split_of reduction label (labels_of f.links trail)) trail top
     → Reduces rules f (with_split f (split_of reduction label (labels_of f.links trail))) reduction lower trail top at
 reduces_one rules f reduction lower trail top at link label is told =
     let split = split_of reduction label (labels_of f.links trail) in
@@ -217,15 +217,15 @@ reduces_one rules f reduction lower trail top at link label is told =
         | inl old ↦ inl old
         | inr same ↦ inr (
           ap (λ (s : PackedSplit). s.rule) (sym same),
-          subst (λ (s : PackedSplit). IsTold rules g s trail top) same (told_grows f g (split_grows f split) told),
+          subst (λ (s : PackedSplit). IsFoundAlong rules g s trail top) same (told_grows f g (split_grows f split) told),
         )
       ];
     }
 
 -- the reduction is told by the link that made the span
-pub is_told : (rules : List Rule) (f : Found) (reduction : Reduction) (lower : ℕ) (trail : List ℕ) (top at link label : ℕ)
+pub is_told : (rules : List Rule) (f : Findings) (reduction : Reduction) (lower : ℕ) (trail : List ℕ) (top at link label : ℕ)
     → IsLinkTo f link lower reduction.left at label → slice_get f.owners label ≡ Some link → {labels : List ℕ}
-    → IsReducible rules f reduction lower trail labels top at → IsTold rules f (split_of reduction label (labels_of f.links trail)) trail top
+    → IsReducible rules f reduction lower trail labels top at → IsFoundAlong rules f (split_of reduction label (labels_of f.links trail)) trail top
 is_told rules f reduction lower trail top at link label is owns {labels} r = record {
   reduction = reduction;
   number = refl;
@@ -239,14 +239,15 @@ is_told rules f reduction lower trail top at link label is owns {labels} r = rec
 
 -- ---- where more was found, but no split
 
-module _ (rules : List Rule) (tokens : List SymbolId) (f g : Found) (sound : IsSoundGraph rules tokens f) (numbers : IsNumbered rules)
+module _ (rules : List Rule) (tokens : List SymbolId) (f g : Findings) (sound : IsSoundGraph rules tokens f) (numbers : IsNumbered rules)
     (sound' : IsSoundGraph rules tokens g) (grows : Grows f g) (same : g.splits ≡ f.splits) where
   -- a split that is told now was told before, along the same trail
-  pub told_before : (split : PackedSplit) (trail : List ℕ) (top : ℕ) → Contains f.splits split → IsTold rules g split trail top → IsTold rules f split trail top
+  pub told_before : (split : PackedSplit) (trail : List ℕ) (top : ℕ) → Contains f.splits split → IsFoundAlong rules g split trail top
+      → IsFoundAlong rules f split trail top
   told_before split trail top c told =
       let (trail', top', is) = sound.told split c in
       let (trails, tops) = one_told rules tokens g sound' numbers told (told_grows f g grows is) in
-      subst (λ ns. IsTold rules f split ns top) (sym trails) (subst (λ n. IsTold rules f split trail' n) (sym tops) is)
+      subst (λ ns. IsFoundAlong rules f split ns top) (sym trails) (subst (λ n. IsFoundAlong rules f split trail' n) (sym tops) is)
 
   pub still_to_reduce : {reduction : Reduction} {lower : ℕ} {trail : List ℕ} {top at : ℕ} → IsToReduce rules f reduction lower trail top at
       → IsToReduce rules g reduction lower trail top at
@@ -258,7 +259,7 @@ module _ (rules : List Rule) (tokens : List SymbolId) (f g : Found) (sound : IsS
         r.untold split was rule (told_before split trail top was told);
   }
 
-  pub reduces_on : {h : Found} {reduction : Reduction} {lower : ℕ} {trail : List ℕ} {top at : ℕ} → Reduces rules g h reduction lower trail top at
+  pub reduces_on : {h : Findings} {reduction : Reduction} {lower : ℕ} {trail : List ℕ} {top at : ℕ} → Reduces rules g h reduction lower trail top at
       → Reduces rules f h reduction lower trail top at
   reduces_on r = record {
     made = λ labels is. r.made labels (partial_grows f g grows is);

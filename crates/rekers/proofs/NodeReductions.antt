@@ -16,19 +16,19 @@ use Rattle.item_sets.specs.Prefixes.{item_at, live}
 use Rattle.item_sets.specs.Expansions.{InClosure}
 use Rattle.item_sets.proofs.Numbering.{IsNumbered, one_right}
 use Rattle.item_sets.proofs.Chains.{at_below}
-use Rattle.live_graph.specs.Meaning.{Meaning}
+use Rattle.live_graph.specs.Meaning.{GraphMeaning}
 use Rattle.gss.specs.declared.stack_graph.Place.{Place}
-use Rattle.gss.specs.PlaceGraphs.{place_of}
+use Rattle.gss.specs.PlaceGraphs.{place_with}
 use Rattle.packed_spans.specs.Packed.{PackedSplit}
 use Rattle.parser_states.specs.declared.reduction.Reduction.{Reduction}
-use Rattle.parser_states.specs.Asked.{Stands}
+use Rattle.parser_states.specs.Asked.{StandsButKernels}
 use Rattle.parser_states.specs.Expanded.{OfState}
 use Rattle.parser_states.specs.Reductions.{number_cmp, ListsReductions, IsReductionIn}
 use Rattle.rekers.specs.declared.parser.Parser.{Parser}
 use Rattle.rekers.specs.declared.level.Level.{Level}
 use Rattle.rekers.specs.declared.walk.Walk.{Walk}
-use Rattle.rekers.specs.Found.{Found, found, IsNode, Grows, IsTrail, here}
-use Rattle.rekers.specs.Sound.{IsSound, IsSoundGraph}
+use Rattle.rekers.specs.Found.{Findings, found, IsNode, Grows, IsTrail, here}
+use Rattle.rekers.specs.Sound.{IsSoundParser, IsSoundGraph}
 use Rattle.rekers.specs.Starts.{IsTop}
 use Rattle.rekers.specs.Steps.{IsFoundOn, IsFresh, IsWalked, IsAnyFresh, IsNodeWalked, IsStep, IsWithinLimit, IsOfLevel}
 use Rattle.rekers.proofs.Growth.{one_at, one_kernel, node_grows}
@@ -96,17 +96,17 @@ abbrev pub walk_of : Reduction → ℕ → ℕ → Walk
 walk_of reduction top through = record { reduction = reduction; top = top; through = through }
 
 -- the reductions in the list before the place are made along all trails through the link, and no other splits are new
-pub record AreWalked (rules : List Rule) (old new : Found) (top through at : ℕ) (list : List Reduction) (count : ℕ) : Type 0 where
+pub record AreWalked (rules : List Rule) (old new : Findings) (top through at : ℕ) (list : List Reduction) (count : ℕ) : Type 0 where
   pub all : (place : ℕ) (reduction : Reduction) → place < count → slice_get list place ≡ Some reduction → AreMade rules new (walk_of reduction top through)
       at []
   pub only : (split : PackedSplit) → Contains new.splits split
       → Contains old.splits split ⊎ ((place : ℕ) × (reduction : Reduction) × (place < count) × (slice_get list place ≡ Some reduction)
       × IsFoundOn rules new (walk_of reduction top through) [] split)
 
-pub are_walked_none : (rules : List Rule) (f : Found) (top through at : ℕ) (list : List Reduction) → AreWalked rules f f top through at list 0
+pub are_walked_none : (rules : List Rule) (f : Findings) (top through at : ℕ) (list : List Reduction) → AreWalked rules f f top through at list 0
 are_walked_none rules f top through at list = record { all = λ place reduction l. absurd (omega (arith, l)); only = λ split c. inl c }
 
-module _ (rules : List Rule) (tokens : List SymbolId) (numbers : IsNumbered rules) (old f : Found) (graph : IsSoundGraph rules tokens old)
+module _ (rules : List Rule) (tokens : List SymbolId) (numbers : IsNumbered rules) (old f : Findings) (graph : IsSoundGraph rules tokens old)
     (graph' : IsSoundGraph rules tokens f) (grows : Grows old f) (top through at : ℕ) (list : List Reduction) (count : ℕ) (reduction : Reduction)
     (is : slice_get list count ≡ Some reduction) (walked : AreWalked rules old f top through at list count) where
   -- no split was found by the next reduction
@@ -120,7 +120,7 @@ module _ (rules : List Rule) (tokens : List SymbolId) (numbers : IsNumbered rule
   ]
 
   -- the next reduction is made too
-  pub walked_next : (g : Found) → IsSoundGraph rules tokens g → Grows f g → through < length f.links → {w : List Item} {i : ℕ} → IsNode f top w i
+  pub walked_next : (g : Findings) → IsSoundGraph rules tokens g → Grows f g → through < length f.links → {w : List Item} {i : ℕ} → IsNode f top w i
       → IsWalked rules f g (walk_of reduction top through) at [] → AreWalked rules old g top through at list (count + 1)
   walked_next g graph'' grows' below n more = record {
     all = λ place other before there. elim (cases_lt place count) [
@@ -140,7 +140,7 @@ module _ (rules : List Rule) (tokens : List SymbolId) (numbers : IsNumbered rule
   }
 
 -- all reductions of the node's state are made
-pub walked_node : (rules : List Rule) (old g : Found) (top through at : ℕ) (kernel : List Item) (list : List Reduction) (count : ℕ) → IsNode g top kernel at
+pub walked_node : (rules : List Rule) (old g : Findings) (top through at : ℕ) (kernel : List Item) (list : List Reduction) (count : ℕ) → IsNode g top kernel at
     → ListsReductions rules kernel (λ size. 0 < size) list → length list ≡ count → AreWalked rules old g top through at list count
     → IsNodeWalked rules old g top through at
 walked_node rules old g top through at kernel list count node lists size walked = record {
@@ -168,7 +168,7 @@ walked_node rules old g top through at kernel list count node lists size walked 
 }
 
 -- a walk of a reduction of the node's state begins at the node
-pub top_of : (rules : List Rule) → IsNumbered rules → (f : Found) (reduction : Reduction) (top through at : ℕ) (kernel : List Item) (list : List Reduction)
+pub top_of : (rules : List Rule) → IsNumbered rules → (f : Findings) (reduction : Reduction) (top through at : ℕ) (kernel : List Item) (list : List Reduction)
     → IsNode f top kernel at → ListsReductions rules kernel (λ size. 0 < size) list → Contains list reduction → IsTop rules f (walk_of reduction top through) at
 top_of rules numbers f reduction top through at kernel list node lists c =
     let is = (lists.members reduction).0 c in
@@ -203,10 +203,10 @@ top_of rules numbers f reduction top through at kernel list node lists c =
 -- ---- the loop over the reductions
 
 -- The parser has made so many of the node's reductions.
-pub record IsNodeUnderWay {Base : Type 0} (tokens : List SymbolId) (old new : Parser) (graph graph' : Meaning Base) (before after : ℕ)
+pub record IsNodeUnderWay {Base : Type 0} (tokens : List SymbolId) (old new : Parser) (graph graph' : GraphMeaning Base) (before after : ℕ)
     (node link state size count : ℕ) : Type 0 where
   pub step : IsStep tokens old new graph graph' before after
-  pub stands : Stands graph graph'
+  pub stands : StandsButKernels graph graph'
   pub back : before ≤ after
   pub within : IsWithinLimit new
   pub kernel : List Item
@@ -218,16 +218,16 @@ pub record IsNodeUnderWay {Base : Type 0} (tokens : List SymbolId) (old new : Pa
   pub walked : AreWalked graph.grammar.rules (found old) (found new) node link old.level.at list count
 
 -- a node of the level has a kernel
-pub node_of_level : (rules : List Rule) (tokens : List SymbolId) (p : Parser) → IsSound rules tokens p → (node : ℕ) (place : Place)
+pub node_of_level : (rules : List Rule) (tokens : List SymbolId) (p : Parser) → IsSoundParser rules tokens p → (node : ℕ) (place : Place)
     → slice_get p.stacks.nodes node ≡ Some place → p.level.first_node ≤ node → (kernel : List Item) × IsNode (found p) node kernel p.level.at
     × (slice_get p.states.kernels place.state ≡ Some kernel)
 node_of_level rules tokens p sound node place there of_level =
     let (kernel, is, reached) = sound.graph.nodes node place there in
     let at : place.at ≡ p.level.at = sound.level.nodes_here node place there of_level in
-    (kernel, record { state = place.state; there = subst (λ n. slice_get p.stacks.nodes node ≡ Some (place_of place.state n)) at there; is_kernel = is }, is)
+    (kernel, record { state = place.state; there = subst (λ n. slice_get p.stacks.nodes node ≡ Some (place_with place.state n)) at there; is_kernel = is }, is)
 
-module _ {Base : Type 0} (tokens : List SymbolId) (p : Parser) (graph : Meaning Base) (steps : ℕ) (node link : ℕ) (place : Place)
-    (sound : IsSound graph.grammar.rules tokens p) (there : slice_get p.stacks.nodes node ≡ Some place) where
+module _ {Base : Type 0} (tokens : List SymbolId) (p : Parser) (graph : GraphMeaning Base) (steps : ℕ) (node link : ℕ) (place : Place)
+    (sound : IsSoundParser graph.grammar.rules tokens p) (there : slice_get p.stacks.nodes node ≡ Some place) where
   pub state_within : place.state < length p.states.kernels
   state_within = let (kernel, is, reached) = sound.graph.nodes node place there in slice_get_within p.states.kernels place.state kernel is
 
@@ -254,11 +254,11 @@ module _ {Base : Type 0} (tokens : List SymbolId) (p : Parser) (graph : Meaning 
       one_state : (kernel : List Item) (n : IsNode (found p) node kernel p.level.at) → place.state ≡ n.state
       one_state kernel n = ap (λ (q : Place). q.state) (one_at p.stacks.nodes node place _ there n.there)
 
-module _ {Base : Type 0} (tokens : List SymbolId) (old p : Parser) (graph first : Meaning Base) (before between : ℕ) (node link state size count : ℕ)
-    (sound : IsSound graph.grammar.rules tokens old) (of_level : IsOfLevel (found old) old.level.first_link link)
+module _ {Base : Type 0} (tokens : List SymbolId) (old p : Parser) (graph first : GraphMeaning Base) (before between : ℕ) (node link state size count : ℕ)
+    (sound : IsSoundParser graph.grammar.rules tokens old) (of_level : IsOfLevel (found old) old.level.first_link link)
     (way : IsNodeUnderWay tokens old p graph first before between node link state size count) where
-  now : IsSound graph.grammar.rules tokens p
-  now = subst (λ (gr : Grammar). IsSound gr.rules tokens p) way.stands.grammar way.step.sound
+  now : IsSoundParser graph.grammar.rules tokens p
+  now = subst (λ (gr : Grammar). IsSoundParser gr.rules tokens p) way.stands.grammar way.step.sound
 
   now_node : IsNode (found p) node way.kernel old.level.at
   now_node = node_grows (found old) (found p) way.step.grows way.node_is
@@ -303,14 +303,14 @@ module _ {Base : Type 0} (tokens : List SymbolId) (old p : Parser) (graph first 
           (next_fresh graph.grammar.rules tokens now.numbered (found old) (found p) sound.graph now.graph way.step.grows node link old.level.at way.list
           count reduction there way.walked way.lists.ascends fresh)
 
-      pub under_way_more : (q : Parser) (second : Meaning Base) (after : ℕ) → IsStep tokens p q first second between after
-          → IsWalked first.grammar.rules (found p) (found q) (walk_of reduction node link) p.level.at [] → IsWithinLimit q → Stands first second
+      pub under_way_more : (q : Parser) (second : GraphMeaning Base) (after : ℕ) → IsStep tokens p q first second between after
+          → IsWalked first.grammar.rules (found p) (found q) (walk_of reduction node link) p.level.at [] → IsWithinLimit q → StandsButKernels first second
           → between ≤ after
           → IsNodeUnderWay tokens old q graph second before after node link state size (count + 1)
       under_way_more q second after step walked within stands back =
           let both = step_on tokens old p q graph first second before between after way.step step in
           let stood = stands_on graph first second way.stands stands in
-          let later : IsSound graph.grammar.rules tokens q = subst (λ (gr : Grammar). IsSound gr.rules tokens q) stood.grammar step.sound in
+          let later : IsSoundParser graph.grammar.rules tokens q = subst (λ (gr : Grammar). IsSoundParser gr.rules tokens q) stood.grammar step.sound in
           let by_rules : IsWalked graph.grammar.rules (found p) (found q) (walk_of reduction node link) p.level.at [] =
           subst (λ (gr : Grammar). IsWalked gr.rules (found p) (found q) (walk_of reduction node link) p.level.at []) way.stands.grammar walked in
           let by_level : IsWalked graph.grammar.rules (found p) (found q) (walk_of reduction node link) old.level.at [] =
@@ -335,5 +335,6 @@ module _ {Base : Type 0} (tokens : List SymbolId) (old p : Parser) (graph first 
       (way.length_is ∙ sym all) way.walked
 
   -- an error in the next walk
-  pub way_on : (q : Parser) (second : Meaning Base) (after : ℕ) → IsStep tokens p q first second between after → IsStep tokens old q graph second before after
+  pub way_on : (q : Parser) (second : GraphMeaning Base) (after : ℕ) → IsStep tokens p q first second between after
+      → IsStep tokens old q graph second before after
   way_on q second after step = step_on tokens old p q graph first second before between after way.step step

@@ -5,26 +5,27 @@ use Rattle.std.proofs.lemmas.Option.{slice_get_within}
 use Rattle.forest.specs.declared.symbols.SymbolId.{SymbolId}
 use Rattle.edit_log.specs.History.{Grammar}
 use Rattle.item_sets.proofs.Chains.{at_below}
-use Rattle.live_graph.specs.Meaning.{Meaning}
-use Rattle.parser_states.specs.Asked.{Stands}
+use Rattle.live_graph.specs.Meaning.{GraphMeaning}
+use Rattle.parser_states.specs.Asked.{StandsButKernels}
 use Rattle.rekers.specs.declared.parser.Parser.{Parser}
 use Rattle.rekers.specs.declared.level.Level.{Level}
 use Rattle.rekers.specs.declared.queue.Queue.{Queue}
 use Rattle.rekers.specs.declared.limits.TheConstants.{SIZE_LIMIT}
 use Rattle.rekers.specs.declared.parse_error.ParseError.{ParseError}
 use Rattle.rekers.specs.declared.parse_error.ParseError.TheVariants.{TooLarge, NoMemory}
-use Rattle.rekers.specs.Answers.{UnlessNoMemory}
-use Rattle.rekers.specs.Found.{found, Keeps}
+use Rattle.rekers.specs.Answers.{UnlessParseNoMemory}
+use Rattle.forest.specs.Numbers.{KeepsNumbers}
+use Rattle.rekers.specs.Found.{found}
 use Rattle.rekers.specs.Reductions.{IsWorked}
-use Rattle.rekers.specs.Sound.{IsSound}
+use Rattle.rekers.specs.Sound.{IsSoundParser}
 use Rattle.rekers.specs.Steps.{IsStep, IsWithinLimit, GoesOn}
 use Rattle.rekers.proofs.Stepping.{step_none, step_on, stands_none, stands_on}
 
 -- the empty rules of the nodes before one number are worked, and the trails through the links before another
-pub record IsQueued {Base : Type 0} (tokens : List SymbolId) (old new : Parser) (graph graph' : Meaning Base) (before after node link : ℕ) : Type 0 where
+pub record IsQueued {Base : Type 0} (tokens : List SymbolId) (old new : Parser) (graph graph' : GraphMeaning Base) (before after node link : ℕ) : Type 0 where
   pub step : IsStep tokens old new graph graph' before after
   pub within : IsWithinLimit new
-  pub stands : Stands graph graph'
+  pub stands : StandsButKernels graph graph'
   pub never_back : before ≤ after
   pub worked : IsWorked graph.grammar.rules (found new) link node
   pub nodes : node ≤ length new.stacks.nodes
@@ -50,7 +51,7 @@ fewer_left p within queue next on =
 pub whole : {a b : ℕ} → a ≤ b → (a < b → ⊥) → a ≡ b
 whole {a} {b} most not = elim (cases_lt a b) [ inl less ↦ absurd (not less) | inr above ↦ omega (arith, most, above) ]
 
-longer : {X : Type 0} (xs ys : List X) → Keeps xs ys → length xs ≤ length ys
+longer : {X : Type 0} (xs ys : List X) → KeepsNumbers xs ys → length xs ≤ length ys
 longer xs ys keeps = elim (cases_lt (length ys) (length xs)) [
   | inl less ↦
       let (x, e) = at_below xs (length ys) less in
@@ -58,7 +59,7 @@ longer xs ys keeps = elim (cases_lt (length ys) (length xs)) [
   | inr most ↦ omega (arith, most)
 ]
 
-pub none_queued : {Base : Type 0} (tokens : List SymbolId) (p : Parser) (graph : Meaning Base) (steps : ℕ) → IsSound graph.grammar.rules tokens p
+pub none_queued : {Base : Type 0} (tokens : List SymbolId) (p : Parser) (graph : GraphMeaning Base) (steps : ℕ) → IsSoundParser graph.grammar.rules tokens p
     → IsWithinLimit p → IsWorked graph.grammar.rules (found p) p.level.first_link p.level.first_node
     → IsQueued tokens p p graph graph steps steps p.level.first_node p.level.first_link
 none_queued tokens p graph steps sound within worked = record {
@@ -73,7 +74,7 @@ none_queued tokens p graph steps sound within worked = record {
   link_of_level = omega arith;
 }
 
-module _ {Base : Type 0} (tokens : List SymbolId) (p q : Parser) (graph graph' : Meaning Base) (before between node link : ℕ)
+module _ {Base : Type 0} (tokens : List SymbolId) (p q : Parser) (graph graph' : GraphMeaning Base) (before between node link : ℕ)
     (so_far : IsQueued tokens p q graph graph' before between node link) where
   pub worked_now : IsWorked graph'.grammar.rules (found q) link node
   worked_now = subst (λ (gr : Grammar). IsWorked gr.rules (found q) link node) (sym so_far.stands.grammar) so_far.worked
@@ -92,9 +93,9 @@ module _ {Base : Type 0} (tokens : List SymbolId) (p q : Parser) (graph graph' :
       (subst (λ n. IsWorked graph.grammar.rules (found q) link n) (whole so_far.nodes (λ less. none (inl less))) so_far.worked)
 
   -- the next one is worked
-  pub queued_more : (t : Parser) (graph'' : Meaning Base) (after : ℕ) (queue next : Queue) → queue.node ≡ node → queue.link ≡ link → GoesOn q queue next
+  pub queued_more : (t : Parser) (graph'' : GraphMeaning Base) (after : ℕ) (queue next : Queue) → queue.node ≡ node → queue.link ≡ link → GoesOn q queue next
       → IsStep tokens q t graph' graph'' between after → IsWorked graph'.grammar.rules (found t) next.link next.node → IsWithinLimit t
-      → Stands graph' graph'' → between ≤ after → IsQueued tokens p t graph graph'' before after next.node next.link
+      → StandsButKernels graph' graph'' → between ≤ after → IsQueued tokens p t graph graph'' before after next.node next.link
   queued_more t graph'' after queue next at_node at_link on step worked within stands never_back = record {
     step = step_on tokens p q t graph graph' graph'' before between after so_far.step step;
     within = within;
@@ -109,9 +110,9 @@ module _ {Base : Type 0} (tokens : List SymbolId) (p q : Parser) (graph graph' :
 
 -- what holds unless memory ran out is passed on with the error, whatever the values are
 pub unless_passed : (X : Type 0) {Y P Q : Type 0} (e : ParseError) (r : Result Y ParseError) → ((y : ParseError) × (r ≡ Err y) × (y ≡ e)) → (P → Q)
-    → UnlessNoMemory {X = X} (Err e) P → UnlessNoMemory r Q
-unless_passed X {Y} {P} {Q} e r (y, is, same) on holds = subst (λ x. UnlessNoMemory {X = Y} x Q) (sym (is ∙ ap Err same)) (by e holds)
+    → UnlessParseNoMemory {X = X} (Err e) P → UnlessParseNoMemory r Q
+unless_passed X {Y} {P} {Q} e r (y, is, same) on holds = subst (λ x. UnlessParseNoMemory {X = Y} x Q) (sym (is ∙ ap Err same)) (by e holds)
   where
-    by : (e : ParseError) → UnlessNoMemory {X = X} (Err e) P → UnlessNoMemory {X = Y} (Err e) Q
+    by : (e : ParseError) → UnlessParseNoMemory {X = X} (Err e) P → UnlessParseNoMemory {X = Y} (Err e) Q
     by (TooLarge count) p = on p
     by NoMemory p = tt

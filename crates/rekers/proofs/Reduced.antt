@@ -13,7 +13,7 @@ use Rattle.item_sets.proofs.Chains.{at_below}
 use Rattle.item_sets.proofs.Numbering.{IsNumbered}
 use Rattle.gss.specs.declared.stack_graph.Edge.{Edge}
 use Rattle.gss.specs.PlaceGraphs.{PlaceGraph, LeadsToBy}
-use Rattle.live_graph.specs.Meaning.{Meaning}
+use Rattle.live_graph.specs.Meaning.{GraphMeaning}
 use Rattle.packed_spans.specs.declared.span.Span.{Span}
 use Rattle.packed_spans.specs.declared.span.TheConstants.{TOKEN_PART}
 use Rattle.packed_spans.specs.Complete.{StandsAlong, no_parts, next_part}
@@ -23,10 +23,10 @@ use Rattle.rekers.specs.declared.level.Level.{Level}
 use Rattle.rekers.specs.declared.parser.Parser.{Parser}
 use Rattle.rekers.specs.declared.parse_error.ParseError.{ParseError}
 use Rattle.rekers.specs.declared.parse_error.ParseError.TheVariants.{TooLarge, NoMemory}
-use Rattle.rekers.specs.Answers.{UnlessNoMemory}
-use Rattle.rekers.specs.Found.{Found, found, Grows}
+use Rattle.rekers.specs.Answers.{UnlessParseNoMemory}
+use Rattle.rekers.specs.Found.{Findings, found, Grows}
 use Rattle.rekers.specs.Reductions.{IsReducible}
-use Rattle.rekers.specs.Sound.{IsSound, IsSoundGraph}
+use Rattle.rekers.specs.Sound.{IsSoundParser, IsSoundGraph}
 use Rattle.rekers.specs.Steps.{IsStep, IsLinkable, IsLinkBy, IsToReduce, Reduces, HasFewNodes, labels_of}
 use Rattle.rekers.proofs.Growth.{one_at}
 use Rattle.rekers.proofs.NewSplits.{labels_are, split_sound, split_grows, split_found, split_of}
@@ -35,7 +35,7 @@ use Rattle.rekers.proofs.LinkSteps.{step_alone, step_on, link_found}
 use Rattle.rekers.proofs.Trails.{part_cases, derived, reduces_to}
 
 -- the link's label is the span
-pub label_is : (f : Found) (link lower : ℕ) (x : SymbolId) (at : ℕ) (by : IsLinkBy f link lower x at) (edge : Edge) → slice_get f.links link ≡ Some edge
+pub label_is : (f : Findings) (link lower : ℕ) (x : SymbolId) (at : ℕ) (by : IsLinkBy f link lower x at) (edge : Edge) → slice_get f.links link ≡ Some edge
     → edge.label ≡ by.label
 label_is f link lower x at by edge e = ap (λ (q : Edge). q.label) (one_at f.links link edge _ e by.is.there)
 
@@ -51,7 +51,7 @@ stands_parts {spans = spans} (next_part {part = first} {parts = rest} p more) pa
   | inr there ↦ stands_parts more part there
 ]
 
-module _ (rules : List Rule) (tokens : List SymbolId) (f : Found) (graph : IsSoundGraph rules tokens f) where
+module _ (rules : List Rule) (tokens : List SymbolId) (f : Findings) (graph : IsSoundGraph rules tokens f) where
   -- the labels of a trail are parts
   pub labels_parts : {reduction : Reduction} {lower : ℕ} {trail labels : List ℕ} {top at : ℕ} → IsReducible rules f reduction lower trail labels top at
       → ArePartsOf f.spans (labels_of f.links trail)
@@ -68,8 +68,8 @@ module _ (rules : List Rule) (tokens : List SymbolId) (f : Found) (graph : IsSou
       )
 
 -- a step, and more splits
-pub step_more : {Base : Type 0} (tokens : List SymbolId) (p q r : Parser) (graph graph' : Meaning Base) (before after : ℕ)
-    → IsStep tokens p q graph graph' before after → r ≡ record q { spans = r.spans; parts = r.parts } → IsSound graph'.grammar.rules tokens r
+pub step_more : {Base : Type 0} (tokens : List SymbolId) (p q r : Parser) (graph graph' : GraphMeaning Base) (before after : ℕ)
+    → IsStep tokens p q graph graph' before after → r ≡ record q { spans = r.spans; parts = r.parts } → IsSoundParser graph'.grammar.rules tokens r
     → Grows (found q) (found r) → IsStep tokens p r graph graph' before after
 step_more tokens p q r graph graph' before after step is sound grows =
     step_on tokens p q r graph graph' graph' before after after step
@@ -83,7 +83,7 @@ owner_read owners label owner below is =
     let (there, named) = at_below owners label below in
     subst (λ n. slice_get owners label ≡ Some n) (sym (is ∙ get_or_from_slice_get owners label there owner named)) named
 
-module _ (rules : List Rule) (tokens : List SymbolId) (p : Parser) (sound : IsSound rules tokens p) (reduction : Reduction) (link lower top : ℕ)
+module _ (rules : List Rule) (tokens : List SymbolId) (p : Parser) (sound : IsSoundParser rules tokens p) (reduction : Reduction) (link lower top : ℕ)
     (by : IsLinkBy (found p) link lower reduction.left p.level.at) (r : IsToReduce rules (found p) reduction lower p.trail.items top p.level.at)
     (edge : Edge) (there : slice_get p.stacks.links link ≡ Some edge) where
   -- the label is the span of the link
@@ -106,7 +106,7 @@ module _ (rules : List Rule) (tokens : List SymbolId) (p : Parser) (sound : IsSo
 
   -- the split of the trail is there
   pub record HasSplit (packed : Packed) (parts : Vec ℕ Global) : Type 0 where
-    pub stays : IsSound rules tokens (record p { spans = packed; parts = parts })
+    pub stays : IsSoundParser rules tokens (record p { spans = packed; parts = parts })
     pub more : Grows (found p) (found (record p { spans = packed; parts = parts }))
     pub made : Reduces rules (found p) (found (record p { spans = packed; parts = parts })) reduction lower p.trail.items top p.level.at
 
@@ -133,10 +133,11 @@ module _ (rules : List Rule) (tokens : List SymbolId) (p : Parser) (sound : IsSo
 
 -- ---- a reduction, after its link was found in a graph that was asked
 
-module _ (tokens : List SymbolId) (G H : Grammar) (same : H ≡ G) (p q : Parser) (sound : IsSound G.rules tokens p) (sound' : IsSound H.rules tokens q)
+module _ (tokens : List SymbolId) (G H : Grammar) (same : H ≡ G) (p q : Parser) (sound : IsSoundParser G.rules tokens p)
+    (sound' : IsSoundParser H.rules tokens q)
     (grows : Grows (found p) (found q)) (splits : q.spans.splits ≡ p.spans.splits) (level : q.level ≡ p.level) (trail : q.trail ≡ p.trail) where
-  sound_old : IsSound G.rules tokens q
-  sound_old = subst (λ (gr : Grammar). IsSound gr.rules tokens q) same sound'
+  sound_old : IsSoundParser G.rules tokens q
+  sound_old = subst (λ (gr : Grammar). IsSoundParser gr.rules tokens q) same sound'
 
   pub to_reduce_on : {reduction : Reduction} {lower top : ℕ} → IsToReduce G.rules (found p) reduction lower p.trail.items top p.level.at
       → IsToReduce H.rules (found q) reduction lower q.trail.items top q.level.at
@@ -146,7 +147,7 @@ module _ (tokens : List SymbolId) (G H : Grammar) (same : H ≡ G) (p q : Parser
       (subst (λ (l : Level). IsToReduce G.rules (found q) reduction lower q.trail.items top l.at) (sym level)
       (subst (λ (t : Vec ℕ Global). IsToReduce G.rules (found q) reduction lower t.items top p.level.at) (sym trail) still))
 
-  pub reduced_on : {h : Found} {reduction : Reduction} {lower top : ℕ} → Reduces H.rules (found q) h reduction lower q.trail.items top q.level.at
+  pub reduced_on : {h : Findings} {reduction : Reduction} {lower top : ℕ} → Reduces H.rules (found q) h reduction lower q.trail.items top q.level.at
       → Reduces G.rules (found p) h reduction lower p.trail.items top p.level.at
   reduced_on {h} {reduction} {lower} {top} is =
       reduces_on G.rules tokens (found p) (found q) sound.graph sound.numbered sound_old.graph grows splits
@@ -158,13 +159,13 @@ pub few_on : (q r : Parser) → r ≡ record q { spans = r.spans; parts = r.part
 few_on q r is few = subst (λ (g : PlaceGraph). length g.nodes ≤ length g.links + 1) (sym (ap (λ (x : Parser). x.stacks) is)) few
 
 -- what holds in any case
-pub unless_any : {Y : Type 0} {P : Type 0} (result : Result Y ParseError) → P → UnlessNoMemory result P
+pub unless_any : {Y : Type 0} {P : Type 0} (result : Result Y ParseError) → P → UnlessParseNoMemory result P
 unless_any (Ok y) holds = holds
 unless_any (Err (TooLarge count)) holds = holds
 unless_any (Err NoMemory) holds = tt
 
 -- the link of a reduction is there
-pub reduced_by : (rules : List Rule) (tokens : List SymbolId) (p : Parser) → IsSound rules tokens p → (reduction : Reduction) (link lower top : ℕ)
+pub reduced_by : (rules : List Rule) (tokens : List SymbolId) (p : Parser) → IsSoundParser rules tokens p → (reduction : Reduction) (link lower top : ℕ)
     → IsToReduce rules (found p) reduction lower p.trail.items top p.level.at → LeadsToBy p.stacks.links lower reduction.left p.level.first_link link
     → IsLinkBy (found p) link lower reduction.left p.level.at
 reduced_by rules tokens p sound reduction link lower top r is =

@@ -11,10 +11,10 @@ use Rattle.item_sets.specs.Prefixes.{start_kernel, item_at, HasRight, live, IsNe
 use Rattle.item_sets.specs.Expansions.{InClosure, own, added, InMove, past, HasMove, IsMoveOf}
 use Rattle.item_sets.proofs.Chains.{HasOneRight}
 use Rattle.rekers.specs.States.{IsStateAt}
-use Rattle.rekers.specs.Size.{Link, IsLink}
+use Rattle.rekers.specs.Size.{StateLink, IsLink}
 use Rattle.rekers.proofs.Reached.{IsClosedUnderMoves, states_in, one_move}
 
-abbrev pub link_of : List Item → ℕ → SymbolId → List Item → ℕ → Link
+abbrev pub link_of : List Item → ℕ → SymbolId → List Item → ℕ → StateLink
 link_of s i x v j = record { lower = s; from = i; symbol = x; upper = v; to = j }
 
 -- links from one node up to another, by their symbols and the places of their upper ends
@@ -95,7 +95,7 @@ module _ (rules : List Rule) (tokens : List SymbolId) (last : ℕ) (N : List Ite
   nodes_in numbers state l = states_in rules numbers tokens last N closed_under_moves state l
 
   -- each link up to last is there
-  pub links_in : HasOneRight rules → (link : Link) → IsLink rules tokens link → link.to ≤ last → L link.lower link.from link.symbol link.upper link.to
+  pub links_in : HasOneRight rules → (link : StateLink) → IsLink rules tokens link → link.to ≤ last → L link.lower link.from link.symbol link.upper link.to
   links_in numbers link is l =
       let n : N link.lower link.from = nodes_in numbers is.reached (omega (arith, Derives-le is.derives)) in
       let (w, there) = linked is.derives link.lower n l is.move.some in

@@ -11,8 +11,8 @@ use Rattle.item_sets.specs.Expansions.{HasMove}
 use Rattle.item_sets.proofs.Numbering.{IsNumbered}
 use Rattle.gss.specs.declared.stack_graph.Place.{Place}
 use Rattle.gss.specs.declared.stack_graph.Edge.{Edge}
-use Rattle.gss.specs.PlaceGraphs.{place_of, edge_of}
-use Rattle.live_graph.specs.Meaning.{Meaning}
+use Rattle.gss.specs.PlaceGraphs.{place_with, edge_of}
+use Rattle.live_graph.specs.Meaning.{GraphMeaning}
 use Rattle.packed_spans.specs.declared.span.Span.{Span}
 use Rattle.packed_spans.specs.declared.span.TheConstants.{TOKEN_PART}
 use Rattle.packed_spans.specs.Complete.{IsPartAt, of_token}
@@ -21,9 +21,10 @@ use Rattle.packed_spans.proofs.Lists.{contains_at}
 use Rattle.parser_states.specs.declared.reduction.Reduction.{Reduction}
 use Rattle.parser_states.specs.Asked.{AsksNew}
 use Rattle.rekers.specs.declared.parser.Parser.{Parser}
-use Rattle.rekers.specs.Found.{Found, found, IsNode, Keeps, Grows, IsTrail, here, over}
+use Rattle.forest.specs.Numbers.{KeepsNumbers}
+use Rattle.rekers.specs.Found.{Findings, found, IsNode, Grows, IsTrail, here, over}
 use Rattle.rekers.specs.Reductions.{IsReducible, IsLinkTo, IsWorked, IsBelow}
-use Rattle.rekers.specs.Sound.{IsSound, IsSoundGraph, IsLevel, ArePlaced}
+use Rattle.rekers.specs.Sound.{IsSoundParser, IsSoundGraph, IsLevel, ArePlaced}
 use Rattle.rekers.specs.Steps.{IsStep, IsLinkable, IsUnlinked, IsShift, AreShifted}
 use Rattle.rekers.specs.Shifts.{AreShiftedFrom}
 use Rattle.rekers.proofs.Growth.{one_at, kernel_at, keeps_append, keeps_equal, grows_on, node_below, node_grows, link_grows, trail_back, reduced_grows}
@@ -33,7 +34,7 @@ use Rattle.rekers.proofs.Trails.{between, part_cases, reduces_to}
 
 -- ---- the token at a node
 
-module _ (rules : List Rule) (tokens : List SymbolId) (f : Found) (node : ℕ) (kind : SymbolId) (at : ℕ) (shift : IsShift f tokens node kind at) where
+module _ (rules : List Rule) (tokens : List SymbolId) (f : Findings) (node : ℕ) (kind : SymbolId) (at : ℕ) (shift : IsShift f tokens node kind at) where
   behind : suc shift.from ≡ at
   behind = let e = shift.next in omega (arith, e)
 
@@ -56,7 +57,7 @@ module _ (rules : List Rule) (tokens : List SymbolId) (f : Found) (node : ℕ) (
       (subst (λ n. IsPartAt rules tokens spans kind shift.from TOKEN_PART n) behind part)
 
 -- a link down to one node leads down to no other
-pub unlinked_on : (f g : Found) (upper : ℕ) (x : SymbolId) (lower label : ℕ) → g.links ≡ f.links ++ edge_of upper x lower label ∷ []
+pub unlinked_on : (f g : Findings) (upper : ℕ) (x : SymbolId) (lower label : ℕ) → g.links ≡ f.links ++ edge_of upper x lower label ∷ []
     → (first other : ℕ) (y : SymbolId) → (other ≡ lower → ⊥) → IsUnlinked f first other y → IsUnlinked g first other y
 unlinked_on f g upper x lower label is first other y differs none = λ link (past, edge, e, low, by).
     elim (old_or_last f.links (edge_of upper x lower label) link edge (subst (λ ls. slice_get ls link ≡ Some edge) is e)) [
@@ -82,7 +83,7 @@ module _ (tokens : List SymbolId) (p q r : Parser) (first : q ≡ record p { sta
   link_adds = record {
     kernels = keeps_equal q.states.kernels r.states.kernels (ap (λ ss. ss.kernels) states_same);
     nodes = keeps_equal q.stacks.nodes r.stacks.nodes nodes;
-    links = subst (λ ls. Keeps q.stacks.links ls) (sym links) (keeps_append q.stacks.links (edge ∷ []));
+    links = subst (λ ls. KeepsNumbers q.stacks.links ls) (sym links) (keeps_append q.stacks.links (edge ∷ []));
     spans = keeps_equal q.spans.spans r.spans.spans (ap (λ (ss : Packed). ss.spans) spans_same);
     splits = λ split c. subst (λ (ss : Packed). Contains ss.splits split) (sym spans_same) c;
     owners = keeps_equal q.owners.items r.owners.items (ap (λ os. os.items) owners_same);
@@ -96,8 +97,9 @@ module _ (tokens : List SymbolId) (p q r : Parser) (first : q ≡ record p { sta
   pub splits_same : r.spans.splits ≡ p.spans.splits
   splits_same = ap (λ (ss : Packed). ss.splits) (spans_same ∙ ap (λ (x : Parser). x.spans) first)
 
-  pub shift_step : {Base : Type 0} (graph graph' : Meaning Base) (before after : ℕ) → Grows (found p) (found q) → (ArePlaced (found p) → ArePlaced (found q))
-      → AsksNew p.states.kernels q.states.kernels graph graph' before after → IsSound graph'.grammar.rules tokens r
+  pub shift_step : {Base : Type 0} (graph graph' : GraphMeaning Base) (before after : ℕ) → Grows (found p) (found q) → (ArePlaced (found p)
+      → ArePlaced (found q))
+      → AsksNew p.states.kernels q.states.kernels graph graph' before after → IsSoundParser graph'.grammar.rules tokens r
       → IsStep tokens p r graph graph' before after
   shift_step graph graph' before after grows placed asks sound = record {
     sound = sound;
@@ -109,7 +111,7 @@ module _ (tokens : List SymbolId) (p q r : Parser) (first : q ≡ record p { sta
 
 -- ---- the nodes of a level, one after the other
 
-module _ (rules : List Rule) (tokens : List SymbolId) (f g : Found) (sound : IsSoundGraph rules tokens f) (grows : Grows f g) where
+module _ (rules : List Rule) (tokens : List SymbolId) (f g : Findings) (sound : IsSoundGraph rules tokens f) (grows : Grows f g) where
   -- the next node is shifted too
   pub shifted_more : (first node : ℕ) (kind : SymbolId) (at : ℕ) → node < length f.nodes → AreShiftedFrom rules f first node kind at
       → ((kernel : List Item) (i : ℕ) → IsNode f node kernel i → HasMove rules (Contains kernel) kind → (link : ℕ) × IsLinkTo g link node kind at TOKEN_PART)
@@ -133,7 +135,7 @@ module _ (rules : List Rule) (tokens : List SymbolId) (f g : Found) (sound : IsS
       let old : node < length f.nodes = elim (cases_lt node (length f.nodes)) [
         | inl less ↦ less
         | inr more ↦
-            let last : i ≡ at + 1 = next.nodes_here node (place_of n.state i) n.there more in
+            let last : i ≡ at + 1 = next.nodes_here node (place_with n.state i) n.there more in
             absurd (omega (arith, below, last))
       ] in
       let was = node_back rules tokens f g sound grows old n in
@@ -145,7 +147,7 @@ module _ (rules : List Rule) (tokens : List SymbolId) (f g : Found) (sound : IsS
             let same : i ≡ at = omega (arith, this, below) in
             let low : first_node ≤ node = elim (cases_lt node first_node) [
               | inl less ↦
-                  let lower : i < at = level.nodes_before node (place_of was.state i) was.there less in
+                  let lower : i < at = level.nodes_before node (place_with was.state i) was.there less in
                   absurd (omega (arith, lower, same))
               | inr more ↦ more
             ] in
@@ -157,7 +159,7 @@ module _ (rules : List Rule) (tokens : List SymbolId) (f g : Found) (sound : IsS
 
 -- ---- what was worked stays worked, where links and nodes are new, and no splits
 
-module _ (rules : List Rule) (tokens : List SymbolId) (f g : Found) (sound : IsSoundGraph rules tokens f) (numbers : IsNumbered rules)
+module _ (rules : List Rule) (tokens : List SymbolId) (f g : Findings) (sound : IsSoundGraph rules tokens f) (numbers : IsNumbered rules)
     (sound' : IsSoundGraph rules tokens g) (grows : Grows f g) (same : g.splits ≡ f.splits) where
   top_below : {node top : ℕ} {trail labels : List ℕ} {xs : List SymbolId} → IsTrail f.links node trail xs labels top → node < length f.nodes
       → top < length f.nodes

@@ -12,7 +12,7 @@ use Rattle.rekers.specs.declared.limits.TheConstants.{SIZE_LIMIT}
 use Rattle.rekers.specs.declared.parser.Parser.{Parser}
 use Rattle.rekers.specs.Found.{found, Grows}
 use Rattle.rekers.specs.Reductions.{IsLinkTo}
-use Rattle.rekers.specs.Sound.{IsSound}
+use Rattle.rekers.specs.Sound.{IsSoundParser}
 use Rattle.rekers.specs.Steps.{IsLinkable, IsUpper, IsUnlinked, IsShift, HasFewNodes, IsWithinLimit}
 use Rattle.rekers.proofs.Growth.{node_grows}
 
@@ -24,7 +24,7 @@ pub within_room : (p : Parser) → IsWithinLimit p → (length p.stacks.nodes < 
 within_room p within = (omega (arith, within.few, within.limit, limit_is), omega (arith, within.limit, limit_is))
 
 -- the state of a node has a number
-pub state_below : (rules : List Rule) (tokens : List SymbolId) (p : Parser) → IsSound rules tokens p → (node : ℕ) (place : Place)
+pub state_below : (rules : List Rule) (tokens : List SymbolId) (p : Parser) → IsSoundParser rules tokens p → (node : ℕ) (place : Place)
     → slice_get p.stacks.nodes node ≡ Some place → place.state < length p.states.kernels
 state_below rules tokens p sound node place e =
     let (kernel, is, reached) = sound.graph.nodes node place e in slice_get_within p.states.kernels place.state kernel is

@@ -5,14 +5,14 @@ use Rattle.forest.specs.declared.symbols.SymbolId.{SymbolId}
 use Rattle.edit_log.specs.History.{Grammar}
 use Rattle.item_sets.specs.declared.item.Item.{Item}
 use Rattle.item_sets.specs.Expansions.{HasMove}
-use Rattle.live_graph.specs.Meaning.{Meaning}
+use Rattle.live_graph.specs.Meaning.{GraphMeaning}
 use Rattle.packed_spans.specs.declared.span.TheConstants.{TOKEN_PART}
-use Rattle.parser_states.specs.Asked.{Stands}
+use Rattle.parser_states.specs.Asked.{StandsButKernels}
 use Rattle.rekers.specs.declared.level.Level.{Level}
 use Rattle.rekers.specs.declared.parser.Parser.{Parser}
 use Rattle.rekers.specs.Found.{found, IsNode}
 use Rattle.rekers.specs.Reductions.{IsLinkTo}
-use Rattle.rekers.specs.Sound.{IsSound}
+use Rattle.rekers.specs.Sound.{IsSoundParser}
 use Rattle.rekers.specs.Shifts.{AreBefore, IsBefore, AreShiftedFrom}
 use Rattle.rekers.specs.Steps.{IsStep, IsWithinLimit, IsUnlinked, IsShift}
 use Rattle.rekers.proofs.Growth.{node_below, node_grows}
@@ -20,7 +20,7 @@ use Rattle.rekers.proofs.Shifted.{shifted_more}
 use Rattle.rekers.proofs.Stepping.{step_none, step_on, stands_none, stands_on}
 
 -- the nodes from the first one on and before this one are shifted
-pub record HasShifted {Base : Type 0} (tokens : List SymbolId) (old new : Parser) (graph graph' : Meaning Base) (before after first node : ℕ)
+pub record HasShifted {Base : Type 0} (tokens : List SymbolId) (old new : Parser) (graph graph' : GraphMeaning Base) (before after first node : ℕ)
     (kind : SymbolId) : Type 0 where
   pub step : IsStep tokens old new graph graph' before after
   pub within : IsWithinLimit new
@@ -28,11 +28,11 @@ pub record HasShifted {Base : Type 0} (tokens : List SymbolId) (old new : Parser
   pub low : first ≤ node
   pub shifted : AreShiftedFrom graph.grammar.rules (found new) first node kind old.level.at
   pub unlinked : (other : ℕ) → node ≤ other → IsUnlinked (found new) old.level.first_link other kind
-  pub stands : Stands graph graph'
+  pub stands : StandsButKernels graph graph'
   pub never_back : before ≤ after
 
-pub none_shifted : {Base : Type 0} (tokens : List SymbolId) (p : Parser) (graph : Meaning Base) (steps first : ℕ) (kind : SymbolId)
-    → IsSound graph.grammar.rules tokens p → IsWithinLimit p → p.level.first_link ≡ length p.stacks.links
+pub none_shifted : {Base : Type 0} (tokens : List SymbolId) (p : Parser) (graph : GraphMeaning Base) (steps first : ℕ) (kind : SymbolId)
+    → IsSoundParser graph.grammar.rules tokens p → IsWithinLimit p → p.level.first_link ≡ length p.stacks.links
     → HasShifted tokens p p graph graph steps steps first first kind
 none_shifted tokens p graph steps first kind sound within links = record {
   step = step_none tokens p graph steps sound;
@@ -45,7 +45,7 @@ none_shifted tokens p graph steps first kind sound within links = record {
   never_back = omega arith;
 }
 
-module _ {Base : Type 0} (tokens : List SymbolId) (p q : Parser) (graph graph' : Meaning Base) (before between first node : ℕ) (kind : SymbolId)
+module _ {Base : Type 0} (tokens : List SymbolId) (p q : Parser) (graph graph' : GraphMeaning Base) (before between first node : ℕ) (kind : SymbolId)
     (so_far : HasShifted tokens p q graph graph' before between first node kind) where
   -- the next node is before the level, and the token is the one there
   pub next_shift : node < p.level.first_node → AreBefore (found p) first p.level.first_node p.level.at → IsBefore tokens kind p.level.at
@@ -74,16 +74,16 @@ module _ {Base : Type 0} (tokens : List SymbolId) (p q : Parser) (graph graph' :
   pub all_shifted : (past : ℕ) → past ≤ node → AreShiftedFrom graph.grammar.rules (found q) first past kind p.level.at
   all_shifted past upto = λ other low high. so_far.shifted other low (omega (arith, high, upto))
 
-  module _ (r : Parser) (graph'' : Meaning Base) (after : ℕ) where
+  module _ (r : Parser) (graph'' : GraphMeaning Base) (after : ℕ) where
     -- the node is shifted
     pub shifted_on : node < length q.stacks.nodes → IsStep tokens q r graph' graph'' between after → IsWithinLimit r → r.spans.splits ≡ q.spans.splits
         → ((kernel : List Item) (i : ℕ) → IsNode (found q) node kernel i → HasMove graph'.grammar.rules (Contains kernel) kind
         → (link : ℕ) × IsLinkTo (found r) link node kind q.level.at TOKEN_PART)
         → ((other : ℕ) → (other ≡ node → ⊥) → IsUnlinked (found q) q.level.first_link other kind → IsUnlinked (found r) q.level.first_link other kind)
-        → Stands graph' graph'' → between ≤ after → HasShifted tokens p r graph graph'' before after first (node + 1) kind
+        → StandsButKernels graph' graph'' → between ≤ after → HasShifted tokens p r graph graph'' before after first (node + 1) kind
     shifted_on below step within splits shifted others stands never_back =
         let at : q.level.at ≡ p.level.at = ap (λ (l : Level). l.at) so_far.step.level in
-        let sound = subst (λ (gr : Grammar). IsSound gr.rules tokens q) so_far.stands.grammar so_far.step.sound in
+        let sound = subst (λ (gr : Grammar). IsSoundParser gr.rules tokens q) so_far.stands.grammar so_far.step.sound in
         record {
           step = step_on tokens p q r graph graph' graph'' before between after so_far.step step;
           within = within;

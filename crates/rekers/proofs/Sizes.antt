@@ -3,14 +3,15 @@ use Rattle.std.proofs.Common.{◌≡◌, ℕ, ◌<◌, ◌≤◌, List, length, 
 use Rattle.forest.specs.declared.symbols.SymbolId.{SymbolId}
 use Rattle.forest.specs.declared.rules.Rule.{Rule}
 use Rattle.forest.proofs.Counting.{at_most}
-use Rattle.rekers.specs.Size.{AreAll, AreSome, IsSize, IsAbove}
+use Rattle.forest.specs.Distinct.{AreAll}
+use Rattle.rekers.specs.Size.{AreSome, IsSize, IsAbove}
 
 -- some of a set are no more than all of it
-some_of_all : {X : Type 0} {P : X → Type 0} {xs ys : List X} → AreSome xs P → AreAll ys P → length xs ≤ length ys
-some_of_all {xs = xs} {ys = ys} some all = at_most xs ys some.distinct (λ x c. (all.members x).1 (some.within x c))
+some_of_all : {X : Type 0} {P : X → Type 0} {xs ys : List X} → AreSome xs P → AreAll P ys → length xs ≤ length ys
+some_of_all {xs = xs} {ys = ys} some all = at_most xs ys some.distinct (λ x c. all.all x (some.within x c))
 
-all_are_some : {X : Type 0} {P : X → Type 0} {xs : List X} → AreAll xs P → AreSome xs P
-all_are_some all = record { distinct = all.distinct; within = λ x c. (all.members x).0 c }
+all_are_some : {X : Type 0} {P : X → Type 0} {xs : List X} → AreAll P xs → AreSome xs P
+all_are_some all = record { distinct = all.distinct; within = λ x c. all.within x c }
 
 pub size_above : (rules : List Rule) (tokens : List SymbolId) (size limit : ℕ) → IsSize rules tokens size → IsAbove rules tokens limit → limit < size
 size_above rules tokens size limit s a =

@@ -6,15 +6,15 @@ use Rattle.std.proofs.lemmas.Bool.{cases_lt}
 use Rattle.forest.specs.declared.symbols.SymbolId.{SymbolId}
 use Rattle.forest.specs.declared.rules.Rule.{Rule}
 use Rattle.forest.proofs.Ascending.{contains_here, contains_cases}
-use Rattle.live_graph.specs.Meaning.{Meaning}
+use Rattle.live_graph.specs.Meaning.{GraphMeaning}
 use Rattle.gss.specs.declared.stack_graph.Edge.{Edge}
 use Rattle.gss.specs.PlaceGraphs.{edge_of}
 use Rattle.rekers.specs.declared.parser.Parser.{Parser}
 use Rattle.rekers.specs.declared.walk.Walk.{Walk}
 use Rattle.rekers.specs.declared.walk.Start.{Start}
-use Rattle.rekers.specs.Found.{Found, found, Grows, IsTrail, here, over}
+use Rattle.rekers.specs.Found.{Findings, found, Grows, IsTrail, here, over}
 use Rattle.rekers.specs.Reductions.{IsPartial}
-use Rattle.rekers.specs.Sound.{IsSound, IsSoundGraph, IsLevel, IsFlat}
+use Rattle.rekers.specs.Sound.{IsSoundParser, IsSoundGraph, IsLevel, IsFlat}
 use Rattle.rekers.specs.Starts.{IsStart, IsAtTop, IsBelowLink, IsTop}
 use Rattle.rekers.specs.Steps.{EndsWith, IsFresh, IsWalked, IsWalking, IsOfLevel, IsStep, IsWithinLimit}
 use Rattle.rekers.proofs.Growth.{one_at, trail_back}
@@ -47,7 +47,7 @@ nothing_or_more here = inl (refl, refl)
 nothing_or_more (over {lower = lower} {middle = middle} {link = link} {x = x} {label = label} edge on) =
     inr (record { next = link; edge = edge_of middle x lower label; there = edge; leads = refl })
 
-module _ (rules : List Rule) (tokens : List SymbolId) (f : Found) (graph : IsSoundGraph rules tokens f) (at first_node first_link : ℕ)
+module _ (rules : List Rule) (tokens : List SymbolId) (f : Findings) (graph : IsSoundGraph rules tokens f) (at first_node first_link : ℕ)
     (level : IsLevel f at first_node first_link) (flat : IsFlat f first_node first_link) where
   -- no link leads down to a node of the level
   none_above : (link lower : ℕ) (edge : Edge) → slice_get f.links link ≡ Some edge → edge.lower ≡ lower → first_node ≤ lower → ⊥
@@ -85,7 +85,7 @@ module _ (rules : List Rule) (tokens : List SymbolId) (f : Found) (graph : IsSou
 
 -- ---- starts
 
-module _ (rules : List Rule) (tokens : List SymbolId) (p : Parser) (sound : IsSound rules tokens p) (walk : Walk)
+module _ (rules : List Rule) (tokens : List SymbolId) (p : Parser) (sound : IsSoundParser rules tokens p) (walk : Walk)
     (top : IsTop rules (found p) walk p.level.at) (of_level : IsOfLevel (found p) p.level.first_link walk.through)
     (trail : List ℕ) (start : Start) (is : IsStart p.stacks.links p.is_flat walk trail start) where
   at_top : IsFresh rules (found p) walk [] → IsAtTop walk trail start
@@ -134,7 +134,7 @@ module _ (rules : List Rule) (tokens : List SymbolId) (p : Parser) (sound : IsSo
   start_walks fresh = elim is.begins [ inl case ↦ at_top fresh case | inr case ↦ below_link fresh case ]
 
   -- all trails through the link end as the trail does where the walk starts
-  pub start_walked : (g : Found) → Grows (found p) g → IsWalked rules (found p) g walk p.level.at (drop start.left trail)
+  pub start_walked : (g : Findings) → Grows (found p) g → IsWalked rules (found p) g walk p.level.at (drop start.left trail)
       → IsWalked rules (found p) g walk p.level.at []
   start_walked g grows walked = elim is.begins [
     | inl case ↦ subst (λ ns. IsWalked rules (found p) g walk p.level.at ns) case.end walked
@@ -154,28 +154,29 @@ module _ (rules : List Rule) (tokens : List SymbolId) (p : Parser) (sound : IsSo
 -- ---- a parser whose trail alone is new
 
 module _ (p q : Parser) (same : q ≡ record p { trail = q.trail }) where
-  pub begun_sound : (rules : List Rule) (tokens : List SymbolId) → IsSound rules tokens p → IsSound rules tokens q
-  begun_sound rules tokens sound = subst (λ r. IsSound rules tokens r) (sym same) (sound_trail rules tokens p q.trail sound)
+  pub begun_sound : (rules : List Rule) (tokens : List SymbolId) → IsSoundParser rules tokens p → IsSoundParser rules tokens q
+  begun_sound rules tokens sound = subst (λ r. IsSoundParser rules tokens r) (sym same) (sound_trail rules tokens p q.trail sound)
 
   pub begun_within : IsWithinLimit p → IsWithinLimit q
   begun_within within = subst (λ r. IsWithinLimit r) (sym same) (within_trail p q.trail within)
 
   pub begun_start : (walk : Walk) (start : Start) → IsStart p.stacks.links p.is_flat walk q.trail.items start → (rules : List Rule) (tokens : List SymbolId)
-      → IsSound rules tokens p → IsTop rules (found p) walk p.level.at → IsOfLevel (found p) p.level.first_link walk.through → IsFresh rules (found p) walk []
+      → IsSoundParser rules tokens p → IsTop rules (found p) walk p.level.at → IsOfLevel (found p) p.level.first_link walk.through
+          → IsFresh rules (found p) walk []
       → IsWalking rules (found q) q.level.first_link q.level.at walk start.node start.left start.met q.trail.items
   begun_start walk start is rules tokens sound top of_level fresh =
       let begun = start_walks rules tokens p sound walk top of_level q.trail.items start is fresh in
       subst (λ r. IsWalking rules (found r) r.level.first_link r.level.at walk start.node start.left start.met q.trail.items) (sym same) begun
 
-  pub begun_step : {Base : Type 0} (tokens : List SymbolId) (r : Parser) (graph graph' : Meaning Base) (before after : ℕ)
+  pub begun_step : {Base : Type 0} (tokens : List SymbolId) (r : Parser) (graph graph' : GraphMeaning Base) (before after : ℕ)
       → IsStep tokens q r graph graph' before after → IsStep tokens p r graph graph' before after
   begun_step tokens r graph graph' before after step =
       let on = subst (λ x. IsStep tokens x r graph graph' before after) same step in
       record { sound = on.sound; grows = on.grows; placed = on.placed; level = on.level; asks = on.asks }
 
   pub begun_walked : (walk : Walk) (start : Start) → IsStart p.stacks.links p.is_flat walk q.trail.items start → (rules : List Rule) (tokens : List SymbolId)
-      → IsSound rules tokens p → IsTop rules (found p) walk p.level.at → IsOfLevel (found p) p.level.first_link walk.through
-      → (g : Found) → Grows (found q) g → IsWalked rules (found q) g walk q.level.at (drop start.left q.trail.items)
+      → IsSoundParser rules tokens p → IsTop rules (found p) walk p.level.at → IsOfLevel (found p) p.level.first_link walk.through
+      → (g : Findings) → Grows (found q) g → IsWalked rules (found q) g walk q.level.at (drop start.left q.trail.items)
       → IsWalked rules (found p) g walk p.level.at []
   begun_walked walk start is rules tokens sound top of_level g grows walked =
       let grown : Grows (found p) g = subst (λ r. Grows (found r) g) same grows in

@@ -4,19 +4,19 @@ use Rattle.std.proofs.lemmas.Bool.{cases_lt}
 use Rattle.std.proofs.lemmas.Option.{slice_get_within, slice_get_cases}
 use Rattle.forest.specs.declared.symbols.SymbolId.{SymbolId}
 use Rattle.item_sets.specs.declared.item.Item.{Item}
-use Rattle.live_graph.specs.Meaning.{Meaning}
+use Rattle.live_graph.specs.Meaning.{GraphMeaning}
 use Rattle.live_graph.proofs.Rises.{rise_none, rise_join}
-use Rattle.parser_states.specs.Leads.{KeepsNumbers}
-use Rattle.parser_states.specs.Asked.{Stands, AsksNew}
+use Rattle.forest.specs.Numbers.{KeepsNumbers}
+use Rattle.parser_states.specs.Asked.{StandsButKernels, AsksNew}
 use Rattle.rekers.specs.declared.parser.Parser.{Parser}
 use Rattle.rekers.specs.Found.{found}
-use Rattle.rekers.specs.Sound.{IsSound}
+use Rattle.rekers.specs.Sound.{IsSoundParser}
 use Rattle.rekers.specs.Steps.{IsStep}
 use Rattle.rekers.proofs.Growth.{grows_same, grows_on}
 
 module _ {Base : Type 0} where
   -- no state is new, and the graph was not asked
-  asked_none : (states : List (List Item)) (graph : Meaning Base) (steps : ℕ) → AsksNew states states graph graph steps steps
+  asked_none : (states : List (List Item)) (graph : GraphMeaning Base) (steps : ℕ) → AsksNew states states graph graph steps steps
   asked_none states graph steps = record {
     kept = λ kernel has. has;
     asked = λ kernel (number, past, at). absurd (omega (arith, past, slice_get_within states number kernel at));
@@ -25,7 +25,7 @@ module _ {Base : Type 0} where
   }
 
   -- the graph was asked for some states, and then for others
-  asked_on : (old middle new : List (List Item)) (first second third : Meaning Base) (before between after : ℕ) → KeepsNumbers old middle
+  asked_on : (old middle new : List (List Item)) (first second third : GraphMeaning Base) (before between after : ℕ) → KeepsNumbers old middle
       → KeepsNumbers middle new → AsksNew old middle first second before between → AsksNew middle new second third between after
       → AsksNew old new first third before after
   asked_on old middle new first second third before between after keeps keeps' one two = record {
@@ -55,10 +55,10 @@ module _ {Base : Type 0} where
         | inr more ↦ more
       ]
 
-  pub stands_none : (graph : Meaning Base) → Stands graph graph
+  pub stands_none : (graph : GraphMeaning Base) → StandsButKernels graph graph
   stands_none graph = record { grammar = refl; base = refl; scans = refl }
 
-  pub stands_on : (first second third : Meaning Base) → Stands first second → Stands second third → Stands first third
+  pub stands_on : (first second third : GraphMeaning Base) → StandsButKernels first second → StandsButKernels second third → StandsButKernels first third
   stands_on first second third one two = record {
     grammar = two.grammar ∙ one.grammar;
     base = two.base ∙ one.base;
@@ -66,7 +66,7 @@ module _ {Base : Type 0} where
   }
 
   -- nothing was done
-  pub step_none : (tokens : List SymbolId) (p : Parser) (graph : Meaning Base) (steps : ℕ) → IsSound graph.grammar.rules tokens p
+  pub step_none : (tokens : List SymbolId) (p : Parser) (graph : GraphMeaning Base) (steps : ℕ) → IsSoundParser graph.grammar.rules tokens p
       → IsStep tokens p p graph graph steps steps
   step_none tokens p graph steps sound = record {
     sound = sound;
@@ -77,7 +77,7 @@ module _ {Base : Type 0} where
   }
 
   -- a step, and then another one
-  pub step_on : (tokens : List SymbolId) (p q r : Parser) (first second third : Meaning Base) (before between after : ℕ)
+  pub step_on : (tokens : List SymbolId) (p q r : Parser) (first second third : GraphMeaning Base) (before between after : ℕ)
       → IsStep tokens p q first second before between → IsStep tokens q r second third between after → IsStep tokens p r first third before after
   step_on tokens p q r first second third before between after one two = record {
     sound = two.sound;

@@ -20,21 +20,21 @@ use Rattle.packed_spans.specs.Packed.{PackedSplit}
 use Rattle.parser_states.specs.declared.reduction.Reduction.{Reduction}
 use Rattle.rekers.specs.States.{IsStateAt}
 use Rattle.rekers.specs.Size.{IsLink}
-use Rattle.rekers.specs.Found.{Found, IsNode, IsTrail, here, over}
-use Rattle.rekers.specs.Reductions.{IsPartial, IsReducible, IsTold}
-use Rattle.rekers.specs.Sound.{IsSoundGraph, link_of}
+use Rattle.rekers.specs.Found.{Findings, IsNode, IsTrail, here, over}
+use Rattle.rekers.specs.Reductions.{IsPartial, IsReducible, IsFoundAlong}
+use Rattle.rekers.specs.Sound.{IsSoundGraph, state_link_of}
 use Rattle.rekers.proofs.Growth.{one_at, one_kernel}
 use Rattle.rekers.proofs.Sound.{own_moved, before_dot, drop_at, move_on_left}
 
 -- the ends of an edge, which are nodes
-pub record IsBetween (rules : List Rule) (tokens : List SymbolId) (f : Found) (upper : ℕ) (x : SymbolId) (lower label : ℕ) : Type 0 where
+pub record IsBetween (rules : List Rule) (tokens : List SymbolId) (f : Findings) (upper : ℕ) (x : SymbolId) (lower label : ℕ) : Type 0 where
   pub below : List Item
   pub from : ℕ
   pub lower_is : IsNode f lower below from
   pub above : List Item
   pub to : ℕ
   pub upper_is : IsNode f upper above to
-  pub link : IsLink rules tokens (link_of below from x above to)
+  pub link : IsLink rules tokens (state_link_of below from x above to)
   pub part : IsPartAt rules tokens f.spans x from label to
 
 -- a part is a token, or a span
@@ -84,7 +84,7 @@ ends_here : {links : List Edge} {node top : ℕ} {trail labels : List ℕ} {symb
 ends_here here e = (refl, refl)
 ends_here (over edge on) e = absurd cc
 
-module _ (rules : List Rule) (tokens : List SymbolId) (f : Found) (graph : IsSoundGraph rules tokens f) where
+module _ (rules : List Rule) (tokens : List SymbolId) (f : Findings) (graph : IsSoundGraph rules tokens f) where
   pub between : (link : ℕ) {upper : ℕ} {x : SymbolId} {lower label : ℕ} → slice_get f.links link ≡ Some (edge_of upper x lower label)
       → IsBetween rules tokens f upper x lower label
   between link e =
@@ -105,7 +105,7 @@ module _ (rules : List Rule) (tokens : List SymbolId) (f : Found) (graph : IsSou
     pub above : List Item
     pub to : ℕ
     pub upper_is : IsNode f upper above to
-    pub link : IsLink rules tokens (link_of s i x above to)
+    pub link : IsLink rules tokens (state_link_of s i x above to)
     pub part : IsPartAt rules tokens f.spans x i label to
 
   pub between_from : (link : ℕ) {upper : ℕ} {x : SymbolId} {lower label : ℕ} → slice_get f.links link ≡ Some (edge_of upper x lower label)
@@ -118,8 +118,8 @@ module _ (rules : List Rule) (tokens : List SymbolId) (f : Found) (graph : IsSou
         above = b.above;
         to = b.to;
         upper_is = b.upper_is;
-        link = subst (λ k. IsLink rules tokens (link_of s k x b.above b.to)) place
-            (subst (λ t. IsLink rules tokens (link_of t b.from x b.above b.to)) kernel b.link);
+        link = subst (λ k. IsLink rules tokens (state_link_of s k x b.above b.to)) place
+            (subst (λ t. IsLink rules tokens (state_link_of t b.from x b.above b.to)) kernel b.link);
         part = subst (λ k. IsPartAt rules tokens f.spans x k label b.to) place b.part;
       }
 
@@ -225,8 +225,8 @@ module _ (rules : List Rule) (tokens : List SymbolId) (f : Found) (graph : IsSou
       one_trail p.along (subst (λ (r : Rule). IsTrail f.links lower trail' (drop 0 r.right) labels above) same q.along)
 
   -- a split was found along one trail
-  pub one_told : IsNumbered rules → {split : PackedSplit} {trail trail' : List ℕ} {top above : ℕ} → IsTold rules f split trail top
-      → IsTold rules f split trail' above → (trail ≡ trail') × (top ≡ above)
+  pub one_told : IsNumbered rules → {split : PackedSplit} {trail trail' : List ℕ} {top above : ℕ} → IsFoundAlong rules f split trail top
+      → IsFoundAlong rules f split trail' above → (trail ≡ trail') × (top ≡ above)
   one_told numbers {split} {trail} {trail'} {top} {above} a b =
       let owner : a.owner ≡ b.owner = one_at f.owners split.span _ _ a.owns b.owns in
       let edges = one_at f.links b.owner _ _

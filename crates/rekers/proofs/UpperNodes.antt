@@ -6,14 +6,15 @@ use Rattle.item_sets.specs.declared.item.Item.{Item}
 use Rattle.item_sets.specs.Expansions.{IsMoveOf}
 use Rattle.item_sets.proofs.Numbering.{one_right}
 use Rattle.gss.specs.declared.stack_graph.Place.{Place}
-use Rattle.gss.specs.PlaceGraphs.{PlaceGraph, place_of}
+use Rattle.gss.specs.PlaceGraphs.{PlaceGraph, place_with}
 use Rattle.live_graph.specs.Asking.{Joins}
-use Rattle.parser_states.specs.Leads.{KeepsNumbers}
+use Rattle.forest.specs.Numbers.{KeepsNumbers}
 use Rattle.rekers.specs.declared.parser.Parser.{Parser}
 use Rattle.rekers.specs.States.{IsStateAt}
-use Rattle.rekers.specs.Found.{Found, found, IsNode, Keeps, Grows}
-use Rattle.rekers.specs.Sound.{IsSound, ArePlaced}
-use Rattle.rekers.specs.Steps.{AddsNode, IsLinkable, IsBehind, IsUpper}
+use Rattle.forest.specs.Numbers.{KeepsNumbers}
+use Rattle.rekers.specs.Found.{Findings, found, IsNode, Grows}
+use Rattle.rekers.specs.Sound.{IsSoundParser, ArePlaced}
+use Rattle.rekers.specs.Steps.{AddsNode, IsLinkable, IsStateBehind, IsUpper}
 use Rattle.rekers.proofs.Reached.{next_state}
 use Rattle.rekers.proofs.Growth.{one_at, one_kernel, keeps_same, keeps_append, node_grows}
 use Rattle.rekers.proofs.Trails.{node_state}
@@ -31,9 +32,9 @@ others_old old new upper number (inr (none, more)) named one state kernel e =
     ]
 
 -- the state behind a move of a node that is reached is reached
-pub behind_reached : (rules : List Rule) (tokens : List SymbolId) (p : Parser) → IsSound rules tokens p
-    → (lower : ℕ) (x : SymbolId) (at : ℕ) (f : Found) (behind : ℕ)
-    (linkable : IsLinkable rules tokens (found p) lower x at) (is : IsBehind rules f lower x behind) → IsNode f lower linkable.kernel linkable.from
+pub behind_reached : (rules : List Rule) (tokens : List SymbolId) (p : Parser) → IsSoundParser rules tokens p
+    → (lower : ℕ) (x : SymbolId) (at : ℕ) (f : Findings) (behind : ℕ)
+    (linkable : IsLinkable rules tokens (found p) lower x at) (is : IsStateBehind rules f lower x behind) → IsNode f lower linkable.kernel linkable.from
     → (kernel : List Item) → slice_get f.kernels behind ≡ Some kernel → IsStateAt rules tokens kernel at
 behind_reached rules tokens p sound lower x at f behind linkable is node kernel e =
     let own : is.kernel ≡ linkable.kernel = (one_kernel is.node node).0 in
@@ -43,11 +44,11 @@ behind_reached rules tokens p sound lower x at f behind linkable is node kernel 
     subst (λ k. IsStateAt rules tokens k at) (one_at f.kernels behind is.upper kernel is.is_kernel e) reached
 
 -- the nodes have one node more, or stay
-pub adds_keeps : (old new : List Place) (state at : ℕ) → AddsNode old new state at → Keeps old new × (length new ≤ length old + 1)
-adds_keeps old new state at (inl same) = (subst (λ ns. Keeps old ns) (sym same) (keeps_same old), omega (arith, ap length same))
+pub adds_keeps : (old new : List Place) (state at : ℕ) → AddsNode old new state at → KeepsNumbers old new × (length new ≤ length old + 1)
+adds_keeps old new state at (inl same) = (subst (λ ns. KeepsNumbers old ns) (sym same) (keeps_same old), omega (arith, ap length same))
 adds_keeps old new state at (inr (none, more)) = (
-  subst (λ ns. Keeps old ns) (sym more) (keeps_append old (place_of state at ∷ [])),
-  omega (arith, ap length more, length-append old (place_of state at ∷ [])),
+  subst (λ ns. KeepsNumbers old ns) (sym more) (keeps_append old (place_with state at ∷ [])),
+  omega (arith, ap length more, length-append old (place_with state at ∷ [])),
 )
 
 -- q is p with more states, and r is q with the node
@@ -79,18 +80,18 @@ module _ (p q r : Parser) (first : q ≡ record p { states = q.states }) (then :
   pub upper_grows : Grows (found p) (found r)
   upper_grows = record {
     kernels = subst (λ ss. KeepsNumbers p.states.kernels ss.kernels) (sym states_same) keeps;
-    nodes = subst (λ (g : PlaceGraph). Keeps g.nodes r.stacks.nodes) nodes_from (adds_keeps q.stacks.nodes r.stacks.nodes state at adds).0;
-    links = subst (λ ls. Keeps p.stacks.links ls) (sym links_same) (keeps_same p.stacks.links);
-    spans = subst (λ ss. Keeps p.spans.spans ss.spans) (sym spans_same) (keeps_same p.spans.spans);
+    nodes = subst (λ (g : PlaceGraph). KeepsNumbers g.nodes r.stacks.nodes) nodes_from (adds_keeps q.stacks.nodes r.stacks.nodes state at adds).0;
+    links = subst (λ ls. KeepsNumbers p.stacks.links ls) (sym links_same) (keeps_same p.stacks.links);
+    spans = subst (λ ss. KeepsNumbers p.spans.spans ss.spans) (sym spans_same) (keeps_same p.spans.spans);
     splits = λ split c. subst (λ ss. Contains ss.splits split) (sym spans_same) c;
-    owners = subst (λ os. Keeps p.owners.items os.items) (sym owners_same) (keeps_same p.owners.items);
+    owners = subst (λ os. KeepsNumbers p.owners.items os.items) (sym owners_same) (keeps_same p.owners.items);
   }
 
   pub upper_count : length r.stacks.nodes ≤ length p.stacks.nodes + 1
   upper_count = subst (λ (g : PlaceGraph). length r.stacks.nodes ≤ length g.nodes + 1) nodes_from (adds_keeps q.stacks.nodes r.stacks.nodes state at adds).1
 
   -- the new state has its node
-  pub upper_placed : (node : ℕ) → slice_get r.stacks.nodes node ≡ Some (place_of state at)
+  pub upper_placed : (node : ℕ) → slice_get r.stacks.nodes node ≡ Some (place_with state at)
       → ((number : ℕ) (kernel : List Item) → slice_get q.states.kernels number ≡ Some kernel → (number ≡ state)
       ⊎ (slice_get p.states.kernels number ≡ Some kernel))
       → ArePlaced (found p) → ArePlaced (found r)
@@ -102,8 +103,8 @@ module _ (p q r : Parser) (first : q ≡ record p { states = q.states }) (then :
       ]
 
   -- the node is that behind the move
-  pub upper_is : (rules : List Rule) (lower : ℕ) (x : SymbolId) (node : ℕ) → slice_get r.stacks.nodes node ≡ Some (place_of state at)
-      → IsBehind rules (found q) lower x state → IsUpper rules (found r) at lower x node
+  pub upper_is : (rules : List Rule) (lower : ℕ) (x : SymbolId) (node : ℕ) → slice_get r.stacks.nodes node ≡ Some (place_with state at)
+      → IsStateBehind rules (found q) lower x state → IsUpper rules (found r) at lower x node
   upper_is rules lower x node there is = record {
     state = state;
     there = there;

@@ -11,10 +11,10 @@ use Rattle.item_sets.proofs.Numbering.{IsNumbered}
 use Rattle.item_sets.proofs.Chains.{at_below}
 use Rattle.gss.specs.declared.stack_graph.Edge.{Edge}
 use Rattle.gss.specs.Numbers.{IsLeast, HasNone}
-use Rattle.gss.specs.PlaceGraphs.{place_of, LeadsFrom}
+use Rattle.gss.specs.PlaceGraphs.{place_with, LeadsDownFrom}
 use Rattle.packed_spans.specs.Packed.{PackedSplit}
 use Rattle.rekers.specs.declared.walk.Walk.{Walk}
-use Rattle.rekers.specs.Found.{Found, IsNode, Grows, IsTrail}
+use Rattle.rekers.specs.Found.{Findings, IsNode, Grows, IsTrail}
 use Rattle.rekers.specs.Reductions.{IsPartial, IsReducible, IsReduced}
 use Rattle.rekers.specs.Sound.{IsSoundGraph, IsLevel}
 use Rattle.rekers.specs.Steps.{EndsWith, IsThrough, IsFoundOn, IsFresh, IsWalked, Reduces}
@@ -24,28 +24,28 @@ use Rattle.rekers.proofs.Walks.{ends_longer, ends_whole, ends_in, one_before, on
 use Rattle.rekers.proofs.Walks.{reduced_on, told_back, front_trail}
 
 -- all reductions along trails through the link that end with this one are made
-abbrev pub AreMade : List Rule → Found → Walk → ℕ → List ℕ → Type 0
+abbrev pub AreMade : List Rule → Findings → Walk → ℕ → List ℕ → Type 0
 AreMade rules f walk at end = (lower : ℕ) (trail labels : List ℕ) → IsReducible rules f walk.reduction lower trail labels walk.top at
     → IsThrough walk.through trail → EndsWith trail end → IsReduced f walk.reduction lower labels at
 
 -- link l, not before this number, leads down from the node
 abbrev pub LeadsFromBehind : List Edge → ℕ → ℕ → ℕ → Type 0
-LeadsFromBehind links node bound l = (bound ≤ l) × LeadsFrom links node l
+LeadsFromBehind links node bound l = (bound ≤ l) × LeadsDownFrom links node l
 
 -- the next link down from the node that is not before the number, or there is none
 abbrev pub IsNext : List Edge → ℕ → ℕ → Option ℕ → Type 0
 IsNext links node bound next = MatchOption next (HasNone (LeadsFromBehind links node bound)) (IsLeast (LeadsFromBehind links node bound))
 
 -- the walk went down all links of the node before the number
-pub record IsWalkedTo (rules : List Rule) (old new : Found) (walk : Walk) (at node : ℕ) (end : List ℕ) (bound : ℕ) : Type 0 where
-  pub all : (link : ℕ) → link < bound → LeadsFrom new.links node link → AreMade rules new walk at (link ∷ end)
+pub record IsWalkedTo (rules : List Rule) (old new : Findings) (walk : Walk) (at node : ℕ) (end : List ℕ) (bound : ℕ) : Type 0 where
+  pub all : (link : ℕ) → link < bound → LeadsDownFrom new.links node link → AreMade rules new walk at (link ∷ end)
   pub only : (split : PackedSplit) → Contains new.splits split
       → Contains old.splits split ⊎ ((link : ℕ) × (link < bound) × IsFoundOn rules new walk (link ∷ end) split)
 
-pub walked_none : (rules : List Rule) (f : Found) (walk : Walk) (at node : ℕ) (end : List ℕ) → IsWalkedTo rules f f walk at node end 0
+pub walked_none : (rules : List Rule) (f : Findings) (walk : Walk) (at node : ℕ) (end : List ℕ) → IsWalkedTo rules f f walk at node end 0
 walked_none rules f walk at node end = record { all = λ link l. absurd (omega (arith, l)); only = λ split c. inl c }
 
-pub found_longer : {rules : List Rule} {f : Found} {walk : Walk} {end : List ℕ} {link : ℕ} {split : PackedSplit} → IsFoundOn rules f walk (link ∷ end) split
+pub found_longer : {rules : List Rule} {f : Findings} {walk : Walk} {end : List ℕ} {link : ℕ} {split : PackedSplit} → IsFoundOn rules f walk (link ∷ end) split
     → IsFoundOn rules f walk end split
 found_longer {end = end} {link = link} is = record {
   trail = is.trail;
@@ -55,7 +55,7 @@ found_longer {end = end} {link = link} is = record {
   ends = ends_longer is.trail end link is.ends;
 }
 
-pub found_grows : {rules : List Rule} (f g : Found) → Grows f g → {walk : Walk} {end : List ℕ} {split : PackedSplit} → IsFoundOn rules f walk end split
+pub found_grows : {rules : List Rule} (f g : Findings) → Grows f g → {walk : Walk} {end : List ℕ} {split : PackedSplit} → IsFoundOn rules f walk end split
     → IsFoundOn rules g walk end split
 found_grows f g grows is = record {
   trail = is.trail;
@@ -65,7 +65,7 @@ found_grows f g grows is = record {
   ends = is.ends;
 }
 
-module _ (rules : List Rule) (tokens : List SymbolId) (numbers : IsNumbered rules) (f g : Found) (graph : IsSoundGraph rules tokens f)
+module _ (rules : List Rule) (tokens : List SymbolId) (numbers : IsNumbered rules) (f g : Findings) (graph : IsSoundGraph rules tokens f)
     (graph' : IsSoundGraph rules tokens g) (grows : Grows f g) (walk : Walk) where
   pub found_back : (end : List ℕ) (split : PackedSplit) → Contains f.splits split → IsFoundOn rules g walk end split → IsFoundOn rules f walk end split
   found_back end split c is = record {
@@ -84,7 +84,7 @@ module _ (rules : List Rule) (tokens : List SymbolId) (numbers : IsNumbered rule
       (made lower trail labels (partial_back rules tokens f g graph grows p (λ link c. omega (arith, through.none_behind link c, below)) n) through ends)
 
 -- the walk goes down one link more
-module _ (rules : List Rule) (tokens : List SymbolId) (numbers : IsNumbered rules) (old f g : Found) (graph : IsSoundGraph rules tokens f)
+module _ (rules : List Rule) (tokens : List SymbolId) (numbers : IsNumbered rules) (old f g : Findings) (graph : IsSoundGraph rules tokens f)
     (graph' : IsSoundGraph rules tokens g) (grows : Grows f g) (walk : Walk) (at node : ℕ) (end : List ℕ) (bound : ℕ)
     (so_far : IsWalkedTo rules old f walk at node end bound) (link : ℕ) where
   pub walked_more : link < length f.links → IsLeast (LeadsFromBehind f.links node bound) link → walk.through < length f.links → {w : List Item} {i : ℕ}
@@ -112,7 +112,7 @@ module _ (rules : List Rule) (tokens : List SymbolId) (numbers : IsNumbered rule
   }
 
 -- no split was found along a trail that ends with a link that the walk has not gone down
-pub fresh_next : (rules : List Rule) (tokens : List SymbolId) → IsNumbered rules → (old f : Found) → IsSoundGraph rules tokens old
+pub fresh_next : (rules : List Rule) (tokens : List SymbolId) → IsNumbered rules → (old f : Findings) → IsSoundGraph rules tokens old
     → IsSoundGraph rules tokens f → Grows old f → (walk : Walk) (at node : ℕ) (end : List ℕ) (bound link : ℕ) → IsFresh rules old walk end
     → IsWalkedTo rules old f walk at node end bound → bound ≤ link → IsFresh rules f walk (link ∷ end)
 fresh_next rules tokens numbers old f graph graph' grows walk at node end bound link fresh so_far behind split c is = elim (so_far.only split c) [
@@ -127,9 +127,9 @@ fresh_next rules tokens numbers old f graph graph' grows walk at node end bound 
     ends_of {l} a b e (front, is) (other, is') = one_before end front other l link (sym is ∙ e ∙ is')
 
 -- all links down from the node that a trail may take were gone down
-pub walked_all : (rules : List Rule) (old g : Found) → Grows old g → (walk : Walk) (at node left : ℕ) (end labels : List ℕ) (bound : ℕ)
+pub walked_all : (rules : List Rule) (old g : Findings) → Grows old g → (walk : Walk) (at node left : ℕ) (end labels : List ℕ) (bound : ℕ)
     → IsPartial rules old walk.reduction node left end labels walk.top at → 0 < left → IsWalkedTo rules old g walk at node end bound
-    → ((link : ℕ) → bound ≤ link → LeadsFrom g.links node link → walk.through < link) → IsWalked rules old g walk at end
+    → ((link : ℕ) → bound ≤ link → LeadsDownFrom g.links node link → walk.through < link) → IsWalked rules old g walk at end
 walked_all rules old g grows walk at node left end labels bound partial some so_far rest = record {
   all = λ lower trail others p through ends.
       let q = partial_grows old g grows partial in
@@ -148,7 +148,7 @@ walked_all rules old g grows walk at node left end labels bound partial some so_
 -- ---- at the end of a trail
 
 -- the trail is whole, and its reduction is made
-pub walked_whole : (rules : List Rule) (old g : Found) → Grows old g → (walk : Walk) (at node : ℕ) (trail labels : List ℕ)
+pub walked_whole : (rules : List Rule) (old g : Findings) → Grows old g → (walk : Walk) (at node : ℕ) (trail labels : List ℕ)
     → IsPartial rules old walk.reduction node 0 trail labels walk.top at → IsThrough walk.through trail
     → Reduces rules old g walk.reduction node trail walk.top at → IsWalked rules old g walk at trail
 walked_whole rules old g grows walk at node trail labels partial through made = record {
@@ -166,7 +166,7 @@ walked_whole rules old g grows walk at node trail labels partial through made = 
 }
 
 -- the trail is whole without the link
-pub walked_beside : (rules : List Rule) (old : Found) (walk : Walk) (at node : ℕ) (trail labels : List ℕ)
+pub walked_beside : (rules : List Rule) (old : Findings) (walk : Walk) (at node : ℕ) (trail labels : List ℕ)
     → IsPartial rules old walk.reduction node 0 trail labels walk.top at → (Contains trail walk.through → ⊥) → IsWalked rules old old walk at trail
 walked_beside rules old walk at node trail labels partial beside = record {
   all = λ lower other others p through ends.
@@ -177,7 +177,7 @@ walked_beside rules old walk at node trail labels partial beside = record {
 }
 
 -- a trail whose links so far lead up from before the level has no link of the level
-pub walked_below : (rules : List Rule) (tokens : List SymbolId) (old : Found) → IsSoundGraph rules tokens old → (level first_node first_link : ℕ)
+pub walked_below : (rules : List Rule) (tokens : List SymbolId) (old : Findings) → IsSoundGraph rules tokens old → (level first_node first_link : ℕ)
     → IsLevel old level first_node first_link → (walk : Walk) (at node left : ℕ) (end labels : List ℕ)
     → IsPartial rules old walk.reduction node left end labels walk.top at → first_link ≤ walk.through → (Contains end walk.through → ⊥)
     → node < first_node → IsWalked rules old old walk at end
@@ -194,7 +194,7 @@ walked_below rules tokens old graph level first_node first_link is_level walk at
           | inl in_front ↦
               let (edge, there) = at_below old.links walk.through (trail_links part.on walk.through in_front) in
               let ends = (graph.links walk.through edge there).ends in
-              let upper = place_of ends.upper_is.state ends.to in
+              let upper = place_with ends.upper_is.state ends.to in
               let up : slice_get old.nodes edge.upper ≡ Some upper = ends.upper_is.there in
               let rises = trail_rises rules tokens old graph part.on walk.through in_front edge there upper _ up partial.node_is.there in
               let below = is_level.nodes_before node _ partial.node_is.there before in

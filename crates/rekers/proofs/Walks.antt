@@ -8,11 +8,11 @@ use Rattle.forest.specs.Derivation.{IsNonterminal}
 use Rattle.item_sets.specs.declared.item.Item.{Item}
 use Rattle.item_sets.proofs.Numbering.{IsNumbered}
 use Rattle.gss.specs.declared.stack_graph.Edge.{Edge}
-use Rattle.gss.specs.PlaceGraphs.{edge_of, LeadsFrom}
+use Rattle.gss.specs.PlaceGraphs.{edge_of, LeadsDownFrom}
 use Rattle.packed_spans.specs.Packed.{PackedSplit}
 use Rattle.parser_states.specs.declared.reduction.Reduction.{Reduction}
-use Rattle.rekers.specs.Found.{Found, IsNode, Grows, IsTrail, here, over}
-use Rattle.rekers.specs.Reductions.{IsPartial, IsReduced, IsTold}
+use Rattle.rekers.specs.Found.{Findings, IsNode, Grows, IsTrail, here, over}
+use Rattle.rekers.specs.Reductions.{IsPartial, IsReduced, IsFoundAlong}
 use Rattle.rekers.specs.Sound.{IsSoundGraph}
 use Rattle.rekers.specs.Steps.{EndsWith}
 use Rattle.rekers.proofs.Growth.{one_at, one_kernel, trail_back, reduced_grows, told_grows, node_grows}
@@ -76,7 +76,7 @@ one_labels {links} (over {link = link} {labels = labels} edge on) (over {label =
 -- a longer trail with this end has a link more that leads from the node that the walk came down to
 pub next_down : {links : List Edge} {lower node top : ℕ} {trail labels others : List ℕ} {xs ys : List SymbolId} (front end : List ℕ)
     → IsTrail links lower trail xs labels top → trail ≡ front ++ end → IsTrail links node end ys others top → length end < length trail
-    → (link : ℕ) × LeadsFrom links node link × EndsWith trail (link ∷ end)
+    → (link : ℕ) × LeadsDownFrom links node link × EndsWith trail (link ∷ end)
 next_down [] end t e u l = absurd (omega (arith, l, ap length e))
 next_down (n ∷ front) end here e u l = absurd cc
 next_down {links} {node = node} {top = top} (n ∷ []) end (over {middle = middle} {link = link} {trail = rest} {xs = xs} {labels = labels} edge on) e u l =
@@ -112,7 +112,7 @@ front_trail {links} {node = node} (n ∷ front) end (over {lower = lower} {middl
     }
 
 -- the lower end of a trail is a node, as its top is
-pub trail_node : {rules : List Rule} {tokens : List SymbolId} {f : Found} → IsSoundGraph rules tokens f → {node top : ℕ} {trail labels : List ℕ}
+pub trail_node : {rules : List Rule} {tokens : List SymbolId} {f : Findings} → IsSoundGraph rules tokens f → {node top : ℕ} {trail labels : List ℕ}
     {xs : List SymbolId} → IsTrail f.links node trail xs labels top → {w : List Item} {j : ℕ} → IsNode f top w j
     → (s : List Item) × (i : ℕ) × IsNode f node s i
 trail_node graph here {w} {j} n = (w, j, n)
@@ -120,15 +120,15 @@ trail_node {rules} {tokens} {f} graph (over {link = link} edge on) n = let b = b
 
 -- ---- reductions
 
-pub partial_size : {rules : List Rule} {f : Found} {reduction : Reduction} {node left : ℕ} {trail labels : List ℕ} {top at : ℕ}
+pub partial_size : {rules : List Rule} {f : Findings} {reduction : Reduction} {node left : ℕ} {trail labels : List ℕ} {top at : ℕ}
     → (p : IsPartial rules f reduction node left trail labels top at) → length p.rule.right ≡ reduction.length
 partial_size p = ap (λ (r : Reduction). r.length) p.made
 
-pub partial_left : {rules : List Rule} {f : Found} {reduction : Reduction} {node left : ℕ} {trail labels : List ℕ} {top at : ℕ}
+pub partial_left : {rules : List Rule} {f : Findings} {reduction : Reduction} {node left : ℕ} {trail labels : List ℕ} {top at : ℕ}
     → IsPartial rules f reduction node left trail labels top at → IsNonterminal rules reduction.left
 partial_left p = (p.rule, p.live, ap (λ (r : Reduction). r.left) p.made)
 
-module _ (rules : List Rule) (tokens : List SymbolId) (f g : Found) (graph : IsSoundGraph rules tokens f) (grows : Grows f g) where
+module _ (rules : List Rule) (tokens : List SymbolId) (f g : Findings) (graph : IsSoundGraph rules tokens f) (grows : Grows f g) where
   -- along old links to an old top the reduction was there before
   pub partial_back : {reduction : Reduction} {node left : ℕ} {trail labels : List ℕ} {top at : ℕ} → IsPartial rules g reduction node left trail labels top at
       → ((link : ℕ) → Contains trail link → link < length f.links) → {w : List Item} {i : ℕ} → IsNode f top w i
@@ -166,8 +166,8 @@ module _ (rules : List Rule) (tokens : List SymbolId) (f g : Found) (graph : IsS
 
   -- how an old split was found was known before
   pub told_back : IsNumbered rules → IsSoundGraph rules tokens g → (split : PackedSplit) (trail : List ℕ) (top : ℕ) → Contains f.splits split
-      → IsTold rules g split trail top → IsTold rules f split trail top
+      → IsFoundAlong rules g split trail top → IsFoundAlong rules f split trail top
   told_back numbers graph' split trail top c t =
       let (trail', top', told) = graph.told split c in
       let (same, tops) = one_told rules tokens g graph' numbers t (told_grows f g grows told) in
-      subst (λ n. IsTold rules f split trail n) (sym tops) (subst (λ ts. IsTold rules f split ts top') (sym same) told)
+      subst (λ n. IsFoundAlong rules f split trail n) (sym tops) (subst (λ ts. IsFoundAlong rules f split ts top') (sym same) told)

@@ -11,26 +11,26 @@ use Rattle.item_sets.specs.declared.item.Item.{Item}
 use Rattle.item_sets.specs.Prefixes.{start_kernel, rule_zero, item_at, whole}
 use Rattle.item_sets.specs.Expansions.{InClosure, own, past, HasMove}
 use Rattle.item_sets.proofs.Numbering.{IsNumbered, one_right}
-use Rattle.gss.specs.PlaceGraphs.{place_of, edge_of}
+use Rattle.gss.specs.PlaceGraphs.{place_with, edge_of}
 use Rattle.packed_spans.specs.declared.span.TheConstants.{TOKEN_PART}
 use Rattle.packed_spans.specs.Complete.{IsPartAt, StandsAlong, no_parts, next_part}
 use Rattle.parser_states.specs.Reductions.{reduction_by}
 use Rattle.rekers.specs.States.{IsStateAt}
-use Rattle.rekers.specs.Size.{Link, IsLink}
-use Rattle.rekers.specs.Found.{Found, IsNode, IsTrail, here as trail_ends, over as trail_goes_on}
+use Rattle.rekers.specs.Size.{StateLink, IsLink}
+use Rattle.rekers.specs.Found.{Findings, IsNode, IsTrail, here as trail_ends, over as trail_goes_on}
 use Rattle.rekers.specs.Reductions.{IsReducible, IsReduced, IsLinkTo, IsBelow, IsWorked}
-use Rattle.rekers.specs.Sound.{IsSoundGraph, link_of}
+use Rattle.rekers.specs.Sound.{IsSoundGraph, state_link_of}
 use Rattle.rekers.specs.Steps.{AreShifted}
 use Rattle.rekers.proofs.Growth.{one_kernel, node_below, trail_links}
 use Rattle.rekers.proofs.Saturated.{IsPath, here, over, IsSaturated, added_by, nodes_in, links_in, linked}
 use Rattle.rekers.proofs.Trails.{between_from}
 
 -- some node is of the state at the place
-abbrev pub IsPlaced : Found → List Item → ℕ → Type 0
+abbrev pub IsPlaced : Findings → List Item → ℕ → Type 0
 IsPlaced f s i = (node : ℕ) × IsNode f node s i
 
 -- some link leads by the symbol from the one state at its place up to the other
-pub record IsLinked (f : Found) (s : List Item) (i : ℕ) (x : SymbolId) (v : List Item) (j : ℕ) : Type 0 where
+pub record IsLinked (f : Findings) (s : List Item) (i : ℕ) (x : SymbolId) (v : List Item) (j : ℕ) : Type 0 where
   pub link : ℕ
   pub lower : ℕ
   pub lower_is : IsNode f lower s i
@@ -40,14 +40,14 @@ pub record IsLinked (f : Found) (s : List Item) (i : ℕ) (x : SymbolId) (v : Li
   pub there : slice_get f.links link ≡ Some (edge_of upper x lower label)
 
 -- what was found is sound, and all reductions and shifts are made
-pub record IsDone (rules : List Rule) (tokens : List SymbolId) (f : Found) : Type 0 where
+pub record IsDone (rules : List Rule) (tokens : List SymbolId) (f : Findings) : Type 0 where
   pub numbered : IsNumbered rules
   pub graph : IsSoundGraph rules tokens f
   pub worked : IsWorked rules f (length f.links) (length f.nodes)
   pub shifted : AreShifted rules tokens f (length tokens)
 
 -- a trail with labels that stand along the cuts
-pub record IsTrailAlong (rules : List Rule) (tokens : List SymbolId) (f : Found) (node : ℕ) (xs : List SymbolId) (i : ℕ) (cuts : List ℕ) (top j : ℕ) : Type 0
+pub record IsTrailAlong (rules : List Rule) (tokens : List SymbolId) (f : Findings) (node : ℕ) (xs : List SymbolId) (i : ℕ) (cuts : List ℕ) (top j : ℕ) : Type 0
   where
     pub trail : List ℕ
     pub labels : List ℕ
@@ -58,18 +58,18 @@ is_below : (links nodes : ℕ) (trail : List ℕ) (top : ℕ) → top < nodes �
 is_below links nodes [] top l g = l
 is_below links nodes (link ∷ trail) top l g = all_contained (λ other. other < links) (link ∷ trail) g
 
-module _ (rules : List Rule) (tokens : List SymbolId) (f : Found) (graph : IsSoundGraph rules tokens f) where
+module _ (rules : List Rule) (tokens : List SymbolId) (f : Findings) (graph : IsSoundGraph rules tokens f) where
   -- a state has one node at a place
   pub same_node : {a b : ℕ} {s : List Item} {i : ℕ} → IsNode f a s i → IsNode f b s i → a ≡ b
   same_node {a} {b} {s} {i} n m =
       let state : n.state ≡ m.state = graph.one_state n.state m.state s n.is_kernel m.is_kernel in
-      graph.one_node a b (place_of m.state i) (subst (λ k. slice_get f.nodes a ≡ Some (place_of k i)) state n.there) m.there
+      graph.one_node a b (place_with m.state i) (subst (λ k. slice_get f.nodes a ≡ Some (place_with k i)) state n.there) m.there
 
-  pub sound_link : {s : List Item} {i : ℕ} {x : SymbolId} {v : List Item} {j : ℕ} → IsLinked f s i x v j → IsLink rules tokens (link_of s i x v j)
+  pub sound_link : {s : List Item} {i : ℕ} {x : SymbolId} {v : List Item} {j : ℕ} → IsLinked f s i x v j → IsLink rules tokens (state_link_of s i x v j)
   sound_link {s} {i} {x} {v} {j} l =
       let b = between_from rules tokens f graph l.link l.there l.lower_is in
       let (kernel, place) = one_kernel b.upper_is l.upper_is in
-      subst (λ k. IsLink rules tokens (link_of s i x v k)) place (subst (λ t. IsLink rules tokens (link_of s i x t b.to)) kernel b.link)
+      subst (λ k. IsLink rules tokens (state_link_of s i x v k)) place (subst (λ t. IsLink rules tokens (state_link_of s i x t b.to)) kernel b.link)
 
   pub linked_part : {s : List Item} {i : ℕ} {x : SymbolId} {v : List Item} {j : ℕ} (l : IsLinked f s i x v j) → IsPartAt rules tokens f.spans x i l.label j
   linked_part {i = i} {x = x} l =
@@ -80,7 +80,7 @@ module _ (rules : List Rule) (tokens : List SymbolId) (f : Found) (graph : IsSou
   pub links_up : {link lower : ℕ} {x : SymbolId} {at label : ℕ} {s : List Item} {i : ℕ} → IsLinkTo f link lower x at label → IsNode f lower s i
       → (v : List Item) × IsLinked f s i x v at
   links_up {link} {lower} {x} {at} {label} l n =
-      let (kernel, is, reached) = graph.nodes l.upper (place_of l.state at) l.upper_is in (
+      let (kernel, is, reached) = graph.nodes l.upper (place_with l.state at) l.upper_is in (
         kernel,
         record {
           link = link;
@@ -113,7 +113,7 @@ module _ (rules : List Rule) (tokens : List SymbolId) (f : Found) (graph : IsSou
         stands = next_part (linked_part link) rest.stands;
       }
 
-module _ (rules : List Rule) (tokens : List SymbolId) (f : Found) (end : IsDone rules tokens f) where
+module _ (rules : List Rule) (tokens : List SymbolId) (f : Findings) (end : IsDone rules tokens f) where
   -- a finished rule along a trail down from a node is reduced
   pub reduced : {r : Rule} {u v : List Item} {i j node top : ℕ} {cuts : List ℕ} → Contains rules r
       → InClosure rules (Contains v) (item_at r.number (length r.right)) → IsNode f node u i → IsNode f top v j → HasMove rules (Contains u) r.left
@@ -156,7 +156,7 @@ module _ (rules : List Rule) (tokens : List SymbolId) (f : Found) (end : IsDone 
       (Along-within state.derives (omega arith))
 
   -- each link of the definition was found
-  pub all_linked : (link : Link) → IsLink rules tokens link → IsLinked f link.lower link.from link.symbol link.upper link.to
+  pub all_linked : (link : StateLink) → IsLink rules tokens link → IsLinked f link.lower link.from link.symbol link.upper link.to
   all_linked link is = links_in rules tokens (length tokens) (IsPlaced f) (IsLinked f) saturated (one_right rules end.numbered) link is
       (Derives-within is.derives (Along-within is.reached.derives (omega arith)))
 

@@ -10,8 +10,8 @@ use Rattle.item_sets.specs.declared.item.Item.{Item}
 use Rattle.item_sets.proofs.Numbering.{IsNumbered}
 use Rattle.packed_spans.specs.Packed.{PackedSplit}
 use Rattle.parser_states.specs.declared.reduction.Reduction.{Reduction}
-use Rattle.rekers.specs.Found.{Found, IsNode, Grows, IsTrail, here, over}
-use Rattle.rekers.specs.Reductions.{IsReducible, IsReduced, IsTold, IsBelow, IsWorked}
+use Rattle.rekers.specs.Found.{Findings, IsNode, Grows, IsTrail, here, over}
+use Rattle.rekers.specs.Reductions.{IsReducible, IsReduced, IsFoundAlong, IsBelow, IsWorked}
 use Rattle.rekers.specs.Sound.{IsSoundGraph}
 use Rattle.rekers.specs.Steps.{IsThrough}
 use Rattle.rekers.proofs.Growth.{trail_back}
@@ -84,7 +84,7 @@ below_node_more links node (first ∷ trail) top is = is
 -- ---- tops
 
 -- the top of a trail of links is a node
-pub top_node : (rules : List Rule) (tokens : List SymbolId) (f : Found) → IsSoundGraph rules tokens f → {node top : ℕ} {trail labels : List ℕ}
+pub top_node : (rules : List Rule) (tokens : List SymbolId) (f : Findings) → IsSoundGraph rules tokens f → {node top : ℕ} {trail labels : List ℕ}
     {xs : List SymbolId} → IsTrail f.links node trail xs labels top → (some : ℕ) → Contains trail some → (w : List Item) × (i : ℕ) × IsNode f top w i
 top_node rules tokens f graph here some (k, l, e) = absurd (omega arith)
 top_node rules tokens f graph (over {link = link} {trail = []} edge here) some c =
@@ -92,7 +92,7 @@ top_node rules tokens f graph (over {link = link} {trail = []} edge here) some c
     (b.above, b.to, b.upper_is)
 top_node rules tokens f graph (over {trail = next ∷ rest} edge on) some c = top_node rules tokens f graph on next (contains_here next rest)
 
-module _ (rules : List Rule) (tokens : List SymbolId) (numbers : IsNumbered rules) (f g : Found) (graph : IsSoundGraph rules tokens f)
+module _ (rules : List Rule) (tokens : List SymbolId) (numbers : IsNumbered rules) (f g : Findings) (graph : IsSoundGraph rules tokens f)
     (graph' : IsSoundGraph rules tokens g) (grows : Grows f g) where
   -- a reduction along old links, of which there are some, was there before
   pub reducible_back : {reduction : Reduction} {lower : ℕ} {trail labels : List ℕ} {top at : ℕ} → IsReducible rules g reduction lower trail labels top at
@@ -118,7 +118,7 @@ module _ (rules : List Rule) (tokens : List SymbolId) (numbers : IsNumbered rule
 
   -- an old split was found below
   pub old_below : (links nodes : ℕ) → IsWorked rules f links nodes → (split : PackedSplit) (trail : List ℕ) (top : ℕ) → Contains f.splits split
-      → IsTold rules g split trail top → IsBelow links nodes trail top
+      → IsFoundAlong rules g split trail top → IsBelow links nodes trail top
   old_below links nodes worked split trail top c told =
       worked.only split trail top c (told_back rules tokens f g graph grows numbers graph' split trail top c told)
 
@@ -128,7 +128,7 @@ module _ (rules : List Rule) (tokens : List SymbolId) (numbers : IsNumbered rule
       → ((reduction : Reduction) (lower : ℕ) (trail labels : List ℕ) (top at : ℕ) → IsReducible rules g reduction lower trail labels top at
       → IsThrough link trail → IsReduced g reduction lower labels at)
       → ((split : PackedSplit) → Contains g.splits split
-      → Contains f.splits split ⊎ ((trail : List ℕ) × (top : ℕ) × IsTold rules g split trail top × IsThrough link trail))
+      → Contains f.splits split ⊎ ((trail : List ℕ) × (top : ℕ) × IsFoundAlong rules g split trail top × IsThrough link trail))
       → IsWorked rules g (suc link) nodes
   worked_link link nodes few are worked made only = record {
     all = λ reduction lower trail labels top at p below. elim (below_cases link nodes trail top below) [
@@ -148,7 +148,7 @@ module _ (rules : List Rule) (tokens : List SymbolId) (numbers : IsNumbered rule
       → IsWorked rules f links node
       → ((reduction : Reduction) (lower : ℕ) (labels : List ℕ) (at : ℕ) → IsReducible rules g reduction lower [] labels node at
       → IsReduced g reduction lower labels at)
-      → ((split : PackedSplit) → Contains g.splits split → Contains f.splits split ⊎ IsTold rules g split [] node)
+      → ((split : PackedSplit) → Contains g.splits split → Contains f.splits split ⊎ IsFoundAlong rules g split [] node)
       → IsWorked rules g links (suc node)
   worked_node links node few are worked made only = record {
     all = λ reduction lower trail labels top at p below. elim (below_node_cases links node trail top below) [

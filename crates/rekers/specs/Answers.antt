@@ -43,7 +43,7 @@ IfTooLarge (Err (TooLarge count)) P = P
 IfTooLarge (Err NoMemory) P = Unit {0}
 
 -- P holds, unless memory ran out
-abbrev pub UnlessNoMemory : {X : Type 0} → Result X ParseError → Type 0 → Type 0
-UnlessNoMemory (Ok parsed) P = P
-UnlessNoMemory (Err (TooLarge count)) P = P
-UnlessNoMemory (Err NoMemory) P = Unit {0}
+abbrev pub UnlessParseNoMemory : {X : Type 0} → Result X ParseError → Type 0 → Type 0
+UnlessParseNoMemory (Ok parsed) P = P
+UnlessParseNoMemory (Err (TooLarge count)) P = P
+UnlessParseNoMemory (Err NoMemory) P = Unit {0}

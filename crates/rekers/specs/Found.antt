@@ -4,13 +4,14 @@ use Rattle.forest.specs.declared.symbols.SymbolId.{SymbolId}
 use Rattle.item_sets.specs.declared.item.Item.{Item}
 use Rattle.gss.specs.declared.stack_graph.Place.{Place}
 use Rattle.gss.specs.declared.stack_graph.Edge.{Edge}
-use Rattle.gss.specs.PlaceGraphs.{place_of, edge_of}
+use Rattle.gss.specs.PlaceGraphs.{place_with, edge_of}
 use Rattle.packed_spans.specs.declared.span.Span.{Span}
 use Rattle.packed_spans.specs.Packed.{PackedSplit}
 use Rattle.rekers.specs.declared.parser.Parser.{Parser}
+use Rattle.forest.specs.Numbers.{KeepsNumbers}
 
 -- the kernels of states, the nodes and links between them, the spans with their splits, and of each span the link that made it
-pub record Found : Type 0 where
+pub record Findings : Type 0 where
   pub kernels : List (List Item)
   pub nodes : List Place
   pub links : List Edge
@@ -18,7 +19,7 @@ pub record Found : Type 0 where
   pub splits : List PackedSplit
   pub owners : List ℕ
 
-abbrev pub found : Parser → Found
+abbrev pub found : Parser → Findings
 found parser = record {
   kernels = parser.states.kernels;
   nodes = parser.stacks.nodes;
@@ -29,23 +30,19 @@ found parser = record {
 }
 
 -- the node is the state of this kernel at place i
-pub record IsNode (f : Found) (node : ℕ) (kernel : List Item) (i : ℕ) : Type 0 where
+pub record IsNode (f : Findings) (node : ℕ) (kernel : List Item) (i : ℕ) : Type 0 where
   pub state : ℕ
-  pub there : slice_get f.nodes node ≡ Some (place_of state i)
+  pub there : slice_get f.nodes node ≡ Some (place_with state i)
   pub is_kernel : slice_get f.kernels state ≡ Some kernel
 
--- the list begins with all of the old one
-abbrev pub Keeps : {X : Type 0} → List X → List X → Type 0
-Keeps {X} old new = (place : ℕ) (x : X) → slice_get old place ≡ Some x → slice_get new place ≡ Some x
-
 -- all that was found stays
-pub record Grows (old new : Found) : Type 0 where
-  pub kernels : Keeps old.kernels new.kernels
-  pub nodes : Keeps old.nodes new.nodes
-  pub links : Keeps old.links new.links
-  pub spans : Keeps old.spans new.spans
+pub record Grows (old new : Findings) : Type 0 where
+  pub kernels : KeepsNumbers old.kernels new.kernels
+  pub nodes : KeepsNumbers old.nodes new.nodes
+  pub links : KeepsNumbers old.links new.links
+  pub spans : KeepsNumbers old.spans new.spans
   pub splits : (split : PackedSplit) → Contains old.splits split → Contains new.splits split
-  pub owners : Keeps old.owners new.owners
+  pub owners : KeepsNumbers old.owners new.owners
 
 -- The links, by their numbers, lead from the lower node up to the upper one, one after the other. Their symbols and labels stand beside them.
 pub data IsTrail (links : List Edge) : ℕ → List ℕ → List SymbolId → List ℕ → ℕ → Type 0 where

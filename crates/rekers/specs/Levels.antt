@@ -7,12 +7,12 @@ use Rattle.rekers.specs.declared.parse_error.ParseError.{ParseError}
 use Rattle.rekers.specs.declared.parse_error.ParseError.TheVariants.{TooLarge, NoMemory}
 use Rattle.rekers.specs.Found.{found}
 use Rattle.rekers.specs.Reductions.{IsWorked}
-use Rattle.rekers.specs.Sound.{IsSound, ArePlaced}
+use Rattle.rekers.specs.Sound.{IsSoundParser, ArePlaced}
 use Rattle.rekers.specs.Steps.{IsWithinLimit, IsAboveLimit, AreShifted}
 
 -- all levels up to this place are done: all shifts to them and all reductions in them are made, and each state has a node
 pub record AreLevelsDone (rules : List Rule) (tokens : List SymbolId) (parser : Parser) (at : ℕ) : Type 0 where
-  pub sound : IsSound rules tokens parser
+  pub sound : IsSoundParser rules tokens parser
   pub placed : ArePlaced (found parser)
   pub worked : IsWorked rules (found parser) (length parser.stacks.links) (length parser.stacks.nodes)
   pub shifted : AreShifted rules tokens (found parser) parser.level.at
@@ -21,7 +21,7 @@ pub record AreLevelsDone (rules : List Rule) (tokens : List SymbolId) (parser : 
 
 -- the parser stopped with more links and splits than a parse may have, each state has a node, and all that was found is sound
 pub record IsTooMuch (rules : List Rule) (tokens : List SymbolId) (parser : Parser) (error : ParseError) : Type 0 where
-  pub sound : IsSound rules tokens parser
+  pub sound : IsSoundParser rules tokens parser
   pub placed : ArePlaced (found parser)
   pub above : IsAboveLimit parser error
 

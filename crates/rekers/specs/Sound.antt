@@ -17,16 +17,16 @@ use Rattle.parser_states.specs.Reductions.{Opens}
 use Rattle.parser_states.specs.Expanded.{AreExpandedIn}
 use Rattle.rekers.specs.declared.parser.Parser.{Parser}
 use Rattle.rekers.specs.States.{IsStateAt}
-use Rattle.rekers.specs.Size.{Link, IsLink}
-use Rattle.rekers.specs.Found.{Found, found, IsNode}
-use Rattle.rekers.specs.Reductions.{IsTold}
+use Rattle.rekers.specs.Size.{StateLink, IsLink}
+use Rattle.rekers.specs.Found.{Findings, found, IsNode}
+use Rattle.rekers.specs.Reductions.{IsFoundAlong}
 
 -- two states at places, and a symbol between them
-abbrev pub link_of : List Item → ℕ → SymbolId → List Item → ℕ → Link
-link_of s i x v j = record { lower = s; from = i; symbol = x; upper = v; to = j }
+abbrev pub state_link_of : List Item → ℕ → SymbolId → List Item → ℕ → StateLink
+state_link_of s i x v j = record { lower = s; from = i; symbol = x; upper = v; to = j }
 
 -- the state of the node has this kernel, and the node is at place i: that of the lower and of the upper end of a link
-pub record HasEnds (f : Found) (edge : Edge) : Type 0 where
+pub record HasEnds (f : Findings) (edge : Edge) : Type 0 where
   pub lower : List Item
   pub from : ℕ
   pub lower_is : IsNode f edge.lower lower from
@@ -35,25 +35,25 @@ pub record HasEnds (f : Found) (edge : Edge) : Type 0 where
   pub upper_is : IsNode f edge.upper upper to
 
 -- the link is one between states that are reached, and its label tells the token or the span that its symbol is
-pub record IsSoundLink (rules : List Rule) (tokens : List SymbolId) (f : Found) (edge : Edge) : Type 0 where
+pub record IsSoundLink (rules : List Rule) (tokens : List SymbolId) (f : Findings) (edge : Edge) : Type 0 where
   pub ends : HasEnds f edge
-  pub link : IsLink rules tokens (link_of ends.lower ends.from edge.symbol ends.upper ends.to)
+  pub link : IsLink rules tokens (state_link_of ends.lower ends.from edge.symbol ends.upper ends.to)
   pub label : IsPartAt rules tokens f.spans edge.symbol ends.from edge.label ends.to
 
 -- no node before this one at its place moves on the symbol
-abbrev pub IsFirst : List Rule → Found → ℕ → SymbolId → Type 0
-IsFirst rules f node x = (other i : ℕ) (kernel own : List Item) → IsNode f other kernel i → IsNode f node own i → other < node
+abbrev pub IsFirstMover : List Rule → Findings → ℕ → SymbolId → Type 0
+IsFirstMover rules f node x = (other i : ℕ) (kernel own : List Item) → IsNode f other kernel i → IsNode f node own i → other < node
     → HasMove rules (Contains kernel) x → ⊥
 
 -- the link made the span: it leads up from the first node there that moves on the symbol of the span, and has the span as its label
-pub record IsOwner (rules : List Rule) (f : Found) (span owner : ℕ) : Type 0 where
+pub record IsOwner (rules : List Rule) (f : Findings) (span owner : ℕ) : Type 0 where
   pub edge : Edge
   pub there : slice_get f.links owner ≡ Some edge
   pub label : edge.label ≡ span
   pub nonterminal : IsNonterminal rules edge.symbol
-  pub first : IsFirst rules f edge.lower edge.symbol
+  pub first : IsFirstMover rules f edge.lower edge.symbol
 
-pub record IsSoundGraph (rules : List Rule) (tokens : List SymbolId) (f : Found) : Type 0 where
+pub record IsSoundGraph (rules : List Rule) (tokens : List SymbolId) (f : Findings) : Type 0 where
   -- states and nodes
   pub one_state : (a b : ℕ) (kernel : List Item) → slice_get f.kernels a ≡ Some kernel → slice_get f.kernels b ≡ Some kernel → a ≡ b
   pub one_node : (a b : ℕ) (place : Place) → slice_get f.nodes a ≡ Some place → slice_get f.nodes b ≡ Some place → a ≡ b
@@ -69,15 +69,15 @@ pub record IsSoundGraph (rules : List Rule) (tokens : List SymbolId) (f : Found)
   -- spans
   pub owned : length f.owners ≡ length f.spans
   pub owners : (span owner : ℕ) → slice_get f.owners span ≡ Some owner → IsOwner rules f span owner
-  pub told : (split : PackedSplit) → Contains f.splits split → (trail : List ℕ) × (top : ℕ) × IsTold rules f split trail top
+  pub told : (split : PackedSplit) → Contains f.splits split → (trail : List ℕ) × (top : ℕ) × IsFoundAlong rules f split trail top
   pub distinct : IsDistinct f.splits
 
 -- each state has a node
-abbrev pub ArePlaced : Found → Type 0
+abbrev pub ArePlaced : Findings → Type 0
 ArePlaced f = (state : ℕ) (kernel : List Item) → slice_get f.kernels state ≡ Some kernel → (node : ℕ) × (i : ℕ) × IsNode f node kernel i
 
 -- from these numbers on nodes and links are at the place, and before them at earlier ones
-pub record IsLevel (f : Found) (at first_node first_link : ℕ) : Type 0 where
+pub record IsLevel (f : Findings) (at first_node first_link : ℕ) : Type 0 where
   pub nodes_within : first_node ≤ length f.nodes
   pub links_within : first_link ≤ length f.links
   pub nodes_before : (node : ℕ) (place : Place) → slice_get f.nodes node ≡ Some place → node < first_node → place.at < at
@@ -86,21 +86,21 @@ pub record IsLevel (f : Found) (at first_node first_link : ℕ) : Type 0 where
   pub links_here : (link : ℕ) (edge : Edge) → slice_get f.links link ≡ Some edge → first_link ≤ link → first_node ≤ edge.upper
 
 -- from the node on all are at the place or behind it, and no node before it at the place moves on a left side
-pub record IsOpener (rules : List Rule) (f : Found) (i node : ℕ) : Type 0 where
+pub record IsOpener (rules : List Rule) (f : Findings) (i node : ℕ) : Type 0 where
   pub within : node ≤ length f.nodes
   pub behind : (other : ℕ) (place : Place) → slice_get f.nodes other ≡ Some place → node ≤ other → i ≤ place.at
   pub none_before : (other : ℕ) (kernel : List Item) → IsNode f other kernel i → other < node → Opens rules kernel → ⊥
 
-pub record AreOpeners (rules : List Rule) (f : Found) (openers : List ℕ) (at : ℕ) : Type 0 where
+pub record AreOpeners (rules : List Rule) (f : Findings) (openers : List ℕ) (at : ℕ) : Type 0 where
   pub size : length openers ≡ at + 1
   pub each : (i node : ℕ) → slice_get openers i ≡ Some node → IsOpener rules f i node
 
 -- no link from this number on leads down to a node from that number on
-abbrev pub IsFlat : Found → (first_node first_link : ℕ) → Type 0
+abbrev pub IsFlat : Findings → (first_node first_link : ℕ) → Type 0
 IsFlat f first_node first_link = (link : ℕ) (edge : Edge) → slice_get f.links link ≡ Some edge → first_link ≤ link → edge.lower < first_node
 
 -- what the parser has found is sound, and what it notes of it is so
-pub record IsSound (rules : List Rule) (tokens : List SymbolId) (parser : Parser) : Type 0 where
+pub record IsSoundParser (rules : List Rule) (tokens : List SymbolId) (parser : Parser) : Type 0 where
   pub numbered : IsNumbered rules
   pub terminals : AreTerminals rules tokens
   pub expanded : AreExpandedIn rules parser.states

@@ -4,20 +4,20 @@ use Rattle.forest.specs.declared.rules.Rule.{Rule}
 use Rattle.gss.specs.declared.stack_graph.Edge.{Edge}
 use Rattle.rekers.specs.declared.walk.Walk.{Walk}
 use Rattle.rekers.specs.declared.walk.Start.{Start}
-use Rattle.rekers.specs.Found.{Found}
+use Rattle.rekers.specs.Found.{Findings}
 use Rattle.rekers.specs.Reductions.{IsPartial}
 
-abbrev pub start_of : ℕ → ℕ → Bool → Start
-start_of node left met = record { node = node; left = left; met = met }
+abbrev pub walk_start : ℕ → ℕ → Bool → Start
+walk_start node left met = record { node = node; left = left; met = met }
 
 -- the reduction's rule is finished in the top node, and has some symbols
-pub record IsTop (rules : List Rule) (f : Found) (walk : Walk) (at : ℕ) : Type 0 where
+pub record IsTop (rules : List Rule) (f : Findings) (walk : Walk) (at : ℕ) : Type 0 where
   pub partial : IsPartial rules f walk.reduction walk.top walk.reduction.length [] [] walk.top at
   pub some : 0 < walk.reduction.length
 
 -- at the top, with no link on the trail
 pub record IsAtTop (walk : Walk) (trail : List ℕ) (start : Start) : Type 0 where
-  pub is : start ≡ start_of walk.top walk.reduction.length false
+  pub is : start ≡ walk_start walk.top walk.reduction.length false
   pub end : drop start.left trail ≡ []
 
 -- below the link to go through, which leads down from the top
@@ -28,7 +28,7 @@ pub record IsBelowLink (links : List Edge) (flat : Bool) (walk : Walk) (trail : 
   pub upper : edge.upper ≡ walk.top
   pub left : ℕ
   pub one_less : left + 1 ≡ walk.reduction.length
-  pub is : start ≡ start_of edge.lower left true
+  pub is : start ≡ walk_start edge.lower left true
   pub end : drop start.left trail ≡ walk.through ∷ []
 
 -- the walk begins at its top, or below the link where all trails through it begin with it

@@ -15,8 +15,8 @@ pub record IsStateAt (rules : List Rule) (tokens : List SymbolId) (kernel : List
   pub is_kernel : IsKernelOf rules prefix kernel
 
 -- the state is reached somewhere in the text
-abbrev pub IsReached : List Rule → List SymbolId → List Item → Type 0
-IsReached rules tokens kernel = (i : ℕ) × IsStateAt rules tokens kernel i
+abbrev pub IsStateReached : List Rule → List SymbolId → List Item → Type 0
+IsStateReached rules tokens kernel = (i : ℕ) × IsStateAt rules tokens kernel i
 
 -- a state is reached here, and none behind
 pub record IsLastViable (rules : List Rule) (tokens : List SymbolId) (at : ℕ) : Type 0 where

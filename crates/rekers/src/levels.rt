@@ -3,9 +3,9 @@
 ghost use Rattle.std.specs.Prelude.{◌≡◌, ◌≤◌, ◌<◌, ◌+◌, [], IfErr, OnOk, Some, length, slice_get};
 ghost use Rattle.forest.specs.Derivation.{AreTerminals};
 ghost use Rattle.edit_log.specs.declared.limits.TheConstants.{TOKEN_LIMIT};
-ghost use Rattle.parser_states.specs.Asked.{Stands, AsksNew};
-ghost use Rattle.rekers.specs.Answers.{kinds_of, UnlessNoMemory};
-ghost use Rattle.rekers.specs.Found.{Keeps};
+ghost use Rattle.parser_states.specs.Asked.{StandsButKernels, AsksNew};
+ghost use Rattle.rekers.specs.Answers.{kinds_of, UnlessParseNoMemory};
+ghost use Rattle.forest.specs.Numbers.{KeepsNumbers};
 ghost use Rattle.rekers.specs.Levels.{AreLevelsDone, IsStopped};
 
 use crate::parse_error::ParseError;
@@ -26,8 +26,8 @@ impl Parser {
         requires terminals { AreTerminals (G.means graph.old).grammar.rules (kinds_of tokens.now) }
         ensures done { OnOk result (AreLevelsDone (G.means graph.old).grammar.rules (kinds_of tokens.now) self.new 0) }
         ensures stopped { IfErr result (IsStopped (G.means graph.old).grammar.rules (kinds_of tokens.now) self.new) }
-        ensures asks { UnlessNoMemory result (AsksNew [] self.new.states.kernels (G.means graph.old) (G.means graph.new) steps.old steps.new) }
-        ensures stands { Stands (G.means graph.old) (G.means graph.new) }
+        ensures asks { UnlessParseNoMemory result (AsksNew [] self.new.states.kernels (G.means graph.old) (G.means graph.new) steps.old steps.new) }
+        ensures stands { StandsButKernels (G.means graph.old) (G.means graph.new) }
         ensures never_back { steps.old ≤ steps.new }
     {
         self.begin(graph, tokens, steps)?;
@@ -48,10 +48,10 @@ impl Parser {
         requires place { self.old.level.at < TOKEN_LIMIT }
         ensures done { OnOk result (AreLevelsDone (G.means graph.old).grammar.rules (kinds_of tokens.now) self.new (self.old.level.at + 1)) }
         ensures stopped { IfErr result (IsStopped (G.means graph.old).grammar.rules (kinds_of tokens.now) self.new) }
-        ensures asks { UnlessNoMemory result (AsksNew self.old.states.kernels self.new.states.kernels
+        ensures asks { UnlessParseNoMemory result (AsksNew self.old.states.kernels self.new.states.kernels
             (G.means graph.old) (G.means graph.new) steps.old steps.new) }
-        ensures kernels { UnlessNoMemory result (Keeps self.old.states.kernels self.new.states.kernels) }
-        ensures stands { Stands (G.means graph.old) (G.means graph.new) }
+        ensures kernels { UnlessParseNoMemory result (KeepsNumbers self.old.states.kernels self.new.states.kernels) }
+        ensures stands { StandsButKernels (G.means graph.old) (G.means graph.new) }
         ensures never_back { steps.old ≤ steps.new }
     {
         self.shift(graph, tokens, kind, steps)?;
@@ -70,8 +70,8 @@ impl Parser {
         requires terminals { AreTerminals (G.means graph.old).grammar.rules (kinds_of tokens.now) }
         ensures done { OnOk result (AreLevelsDone (G.means graph.old).grammar.rules (kinds_of tokens.now) self.new (length tokens.now)) }
         ensures stopped { IfErr result (IsStopped (G.means graph.old).grammar.rules (kinds_of tokens.now) self.new) }
-        ensures asks { UnlessNoMemory result (AsksNew [] self.new.states.kernels (G.means graph.old) (G.means graph.new) steps.old steps.new) }
-        ensures stands { Stands (G.means graph.old) (G.means graph.new) }
+        ensures asks { UnlessParseNoMemory result (AsksNew [] self.new.states.kernels (G.means graph.old) (G.means graph.new) steps.old steps.new) }
+        ensures stands { StandsButKernels (G.means graph.old) (G.means graph.new) }
         ensures never_back { steps.old ≤ steps.new }
     {
         self.first_level(graph, tokens, steps)?;

@@ -5,11 +5,11 @@ ghost use Rattle.forest.specs.Derivation.{IsNonterminal};
 ghost use Rattle.gss.specs.declared.stack_graph.Place.{Place};
 ghost use Rattle.gss.specs.PlaceGraphs.{edge_of};
 ghost use Rattle.packed_spans.specs.Complete.{IsPartAt};
-ghost use Rattle.parser_states.specs.Asked.{Stands};
+ghost use Rattle.parser_states.specs.Asked.{StandsButKernels};
 ghost use Rattle.rekers.specs.Answers.{kinds_of};
 ghost use Rattle.rekers.specs.Found.{found, Grows};
 ghost use Rattle.rekers.specs.Reductions.{IsLinkTo};
-ghost use Rattle.rekers.specs.Sound.{IsSound, IsFirst};
+ghost use Rattle.rekers.specs.Sound.{IsSoundParser, IsFirstMover};
 ghost use Rattle.rekers.specs.Steps.{IsStep, IsLinkable, IsUpper, IsUnlinked, IsFirstOf, IsLinkBy, HasFewNodes};
 
 use crate::parser::Parser;
@@ -42,7 +42,7 @@ impl Parser {
         node: u32,
         symbol: SymbolId,
     ) -> u32
-        requires sound { IsSound (G.means _graph.now).grammar.rules (kinds_of _tokens.now) self.now }
+        requires sound { IsSoundParser (G.means _graph.now).grammar.rules (kinds_of _tokens.now) self.now }
         requires linkable { IsLinkable (G.means _graph.now).grammar.rules (kinds_of _tokens.now) (found self.now) node symbol self.now.level.at }
         requires nonterminal { IsNonterminal (G.means _graph.now).grammar.rules symbol }
         ensures { IsFirstOf (G.means _graph.now).grammar.rules (found self.now) node symbol result }
@@ -67,7 +67,7 @@ impl Parser {
         lower: u32,
         label: u32,
     ) -> Result<u32, NoMemory>
-        requires sound { IsSound (G.means _graph.now).grammar.rules (kinds_of _tokens.now) self.old }
+        requires sound { IsSoundParser (G.means _graph.now).grammar.rules (kinds_of _tokens.now) self.old }
         requires linkable { IsLinkable (G.means _graph.now).grammar.rules (kinds_of _tokens.now) (found self.old) lower symbol self.old.level.at }
         requires upper { IsUpper (G.means _graph.now).grammar.rules (found self.old) self.old.level.at lower symbol upper }
         requires unlinked { IsUnlinked (found self.old) self.old.level.first_link lower symbol }
@@ -75,7 +75,7 @@ impl Parser {
             → IsPartAt (G.means _graph.now).grammar.rules (kinds_of _tokens.now) self.old.spans.spans symbol place.at label self.old.level.at }
         requires room { length self.old.stacks.links < 2 ^ 30 }
         ensures link { IfOk result (λ link. IsLinkTo (found self.new) link lower symbol self.old.level.at label) }
-        ensures sound { OnOk result (IsSound (G.means _graph.now).grammar.rules (kinds_of _tokens.now) self.new) }
+        ensures sound { OnOk result (IsSoundParser (G.means _graph.now).grammar.rules (kinds_of _tokens.now) self.new) }
         ensures links { OnOk result (self.new.stacks.links ≡ self.old.stacks.links ++ edge_of upper symbol lower label ∷ []) }
         ensures nodes { OnOk result (self.new.stacks.nodes ≡ self.old.stacks.nodes) }
         ensures same { OnOk result (self.new ≡ record self.old { stacks = self.new.stacks; is_flat = self.new.is_flat }) }
@@ -95,15 +95,15 @@ impl Parser {
         symbol: SymbolId,
         lower: u32,
     ) -> Result<u32, NoMemory>
-        requires sound { IsSound (G.means _graph.now).grammar.rules (kinds_of _tokens.now) self.old }
+        requires sound { IsSoundParser (G.means _graph.now).grammar.rules (kinds_of _tokens.now) self.old }
         requires linkable { IsLinkable (G.means _graph.now).grammar.rules (kinds_of _tokens.now) (found self.old) lower symbol self.old.level.at }
         requires nonterminal { IsNonterminal (G.means _graph.now).grammar.rules symbol }
         requires upper { IsUpper (G.means _graph.now).grammar.rules (found self.old) self.old.level.at lower symbol upper }
         requires unlinked { IsUnlinked (found self.old) self.old.level.first_link lower symbol }
-        requires first { IsFirst (G.means _graph.now).grammar.rules (found self.old) lower symbol }
+        requires first { IsFirstMover (G.means _graph.now).grammar.rules (found self.old) lower symbol }
         requires room { length self.old.stacks.links < 2 ^ 30 }
         ensures link { IfOk result (λ link. IsLinkTo (found self.new) link lower symbol self.old.level.at (length self.old.spans.spans)) }
-        ensures sound { OnOk result (IsSound (G.means _graph.now).grammar.rules (kinds_of _tokens.now) self.new) }
+        ensures sound { OnOk result (IsSoundParser (G.means _graph.now).grammar.rules (kinds_of _tokens.now) self.new) }
         ensures grows { OnOk result (Grows (found self.old) (found self.new)) }
         ensures links { OnOk result (self.new.stacks.links ≡ self.old.stacks.links ++ edge_of upper symbol lower (length self.old.spans.spans) ∷ []) }
         ensures nodes { OnOk result (self.new.stacks.nodes ≡ self.old.stacks.nodes) }
@@ -133,10 +133,10 @@ impl Parser {
         symbol: SymbolId,
         steps: &mut Steps<L>,
     ) -> Result<u32, NoMemory>
-        requires sound { IsSound (G.means graph.old).grammar.rules (kinds_of tokens.now) self.old }
+        requires sound { IsSoundParser (G.means graph.old).grammar.rules (kinds_of tokens.now) self.old }
         requires linkable { IsLinkable (G.means graph.old).grammar.rules (kinds_of tokens.now) (found self.old) lower symbol self.old.level.at }
         requires nonterminal { IsNonterminal (G.means graph.old).grammar.rules symbol }
-        requires first { IsFirst (G.means graph.old).grammar.rules (found self.old) lower symbol }
+        requires first { IsFirstMover (G.means graph.old).grammar.rules (found self.old) lower symbol }
         requires few { HasFewNodes self.old }
         requires room { length self.old.stacks.links < 2 ^ 20 }
         requires unlinked { IsUnlinked (found self.old) self.old.level.first_link lower symbol }
@@ -148,7 +148,7 @@ impl Parser {
         ensures count { OnOk result (length self.new.stacks.links ≤ length self.old.stacks.links + 1) }
         ensures splits { OnOk result (self.new.spans.splits ≡ self.old.spans.splits) }
         ensures trail { OnOk result ((self.new.trail ≡ self.old.trail) × (self.new.parts ≡ self.old.parts)) }
-        ensures stands { Stands (G.means graph.old) (G.means graph.new) }
+        ensures stands { StandsButKernels (G.means graph.old) (G.means graph.new) }
         ensures never_back { steps.old ≤ steps.new }
     {
         let upper = self.upper(graph, tokens, lower, symbol, steps)?;
@@ -165,10 +165,10 @@ impl Parser {
         symbol: SymbolId,
         steps: &mut Steps<L>,
     ) -> Result<u32, NoMemory>
-        requires sound { IsSound (G.means graph.old).grammar.rules (kinds_of tokens.now) self.old }
+        requires sound { IsSoundParser (G.means graph.old).grammar.rules (kinds_of tokens.now) self.old }
         requires linkable { IsLinkable (G.means graph.old).grammar.rules (kinds_of tokens.now) (found self.old) lower symbol self.old.level.at }
         requires nonterminal { IsNonterminal (G.means graph.old).grammar.rules symbol }
-        requires first { IsFirst (G.means graph.old).grammar.rules (found self.old) lower symbol }
+        requires first { IsFirstMover (G.means graph.old).grammar.rules (found self.old) lower symbol }
         requires few { HasFewNodes self.old }
         requires room { length self.old.stacks.links < 2 ^ 20 }
         ensures link { IfOk result (λ link. IsLinkBy (found self.new) link lower symbol self.old.level.at) }
@@ -179,7 +179,7 @@ impl Parser {
         ensures count { OnOk result (length self.new.stacks.links ≤ length self.old.stacks.links + 1) }
         ensures splits { OnOk result (self.new.spans.splits ≡ self.old.spans.splits) }
         ensures trail { OnOk result ((self.new.trail ≡ self.old.trail) × (self.new.parts ≡ self.old.parts)) }
-        ensures stands { Stands (G.means graph.old) (G.means graph.new) }
+        ensures stands { StandsButKernels (G.means graph.old) (G.means graph.new) }
         ensures never_back { steps.old ≤ steps.new }
     {
         if let Some(link) = self.stacks.link_above(lower, symbol, self.level.first_link) {
@@ -197,7 +197,7 @@ impl Parser {
         symbol: SymbolId,
         steps: &mut Steps<L>,
     ) -> Result<u32, NoMemory>
-        requires sound { IsSound (G.means graph.old).grammar.rules (kinds_of tokens.now) self.old }
+        requires sound { IsSoundParser (G.means graph.old).grammar.rules (kinds_of tokens.now) self.old }
         requires linkable { IsLinkable (G.means graph.old).grammar.rules (kinds_of tokens.now) (found self.old) lower symbol self.old.level.at }
         requires nonterminal { IsNonterminal (G.means graph.old).grammar.rules symbol }
         requires few { HasFewNodes self.old }
@@ -209,7 +209,7 @@ impl Parser {
         ensures count { OnOk result (length self.new.stacks.links ≤ length self.old.stacks.links + 2) }
         ensures splits { OnOk result (self.new.spans.splits ≡ self.old.spans.splits) }
         ensures trail { OnOk result ((self.new.trail ≡ self.old.trail) × (self.new.parts ≡ self.old.parts)) }
-        ensures stands { Stands (G.means graph.old) (G.means graph.new) }
+        ensures stands { StandsButKernels (G.means graph.old) (G.means graph.new) }
         ensures never_back { steps.old ≤ steps.new }
     {
         let first = self.first_opener(graph, tokens, lower, symbol);

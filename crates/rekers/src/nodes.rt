@@ -3,14 +3,14 @@
 ghost use Rattle.std.specs.Prelude.{◌≡◌, ◌≤◌, ◌<◌, ◌+◌, ◌-◌, ◌^◌, ◌⊎◌, ℕ, List, Some, IfOk, OnOk, length, slice_get, Contains};
 ghost use Rattle.item_sets.specs.declared.item.Item.{Item};
 ghost use Rattle.gss.specs.declared.stack_graph.Place.{Place};
-ghost use Rattle.gss.specs.PlaceGraphs.{place_of};
-ghost use Rattle.parser_states.specs.Asked.{Stands, AsksNew};
-ghost use Rattle.parser_states.specs.Leads.{KeepsNumbers};
+ghost use Rattle.gss.specs.PlaceGraphs.{place_with};
+ghost use Rattle.parser_states.specs.Asked.{StandsButKernels, AsksNew};
+ghost use Rattle.forest.specs.Numbers.{KeepsNumbers};
 ghost use Rattle.rekers.specs.States.{IsStateAt};
 ghost use Rattle.rekers.specs.Answers.{kinds_of};
 ghost use Rattle.rekers.specs.Found.{found, Grows};
-ghost use Rattle.rekers.specs.Sound.{IsSound, ArePlaced};
-ghost use Rattle.rekers.specs.Steps.{AddsNode, IsLinkable, IsBehind, IsUpper, IsPassed};
+ghost use Rattle.rekers.specs.Sound.{IsSoundParser, ArePlaced};
+ghost use Rattle.rekers.specs.Steps.{AddsNode, IsLinkable, IsStateBehind, IsUpper, IsPassed};
 
 use crate::level::Level;
 use crate::parser::Parser;
@@ -25,7 +25,7 @@ fn node_of(stacks: &mut StackGraph, level: Level, state: u32) -> Result<u32, NoM
     requires here { (node : ℕ) (place : Place) → slice_get stacks.old.nodes node ≡ Some place → level.first_node ≤ node → place.at ≡ level.at }
     requires before { (node : ℕ) (place : Place) → slice_get stacks.old.nodes node ≡ Some place → node < level.first_node → place.at < level.at }
     requires room { length stacks.old.nodes < 2 ^ 32 - 1 }
-    ensures node { IfOk result (λ node. slice_get stacks.new.nodes node ≡ Some (place_of state level.at)) }
+    ensures node { IfOk result (λ node. slice_get stacks.new.nodes node ≡ Some (place_with state level.at)) }
     ensures nodes { OnOk result (AddsNode stacks.old.nodes stacks.new.nodes state level.at) }
     ensures links { OnOk result (stacks.new.links ≡ stacks.old.links) }
 {
@@ -59,16 +59,16 @@ impl Parser {
         symbol: SymbolId,
         steps: &mut Steps<L>,
     ) -> Result<u32, NoMemory>
-        requires sound { IsSound (G.means graph.old).grammar.rules (kinds_of tokens.now) self.old }
+        requires sound { IsSoundParser (G.means graph.old).grammar.rules (kinds_of tokens.now) self.old }
         requires linkable { IsLinkable (G.means graph.old).grammar.rules (kinds_of tokens.now) (found self.old) lower symbol self.old.level.at }
-        ensures behind { IfOk result (IsBehind (G.means graph.old).grammar.rules (found self.new) lower symbol) }
-        ensures sound { OnOk result (IsSound (G.means graph.new).grammar.rules (kinds_of tokens.now) self.new) }
+        ensures behind { IfOk result (IsStateBehind (G.means graph.old).grammar.rules (found self.new) lower symbol) }
+        ensures sound { OnOk result (IsSoundParser (G.means graph.new).grammar.rules (kinds_of tokens.now) self.new) }
         ensures same { OnOk result (self.new ≡ record self.old { states = self.new.states }) }
         ensures keeps { OnOk result (KeepsNumbers self.old.states.kernels self.new.states.kernels) }
         ensures others { IfOk result (λ behind. (state : ℕ) (kernel : List Item) → slice_get self.new.states.kernels state ≡ Some kernel
             → (state ≡ behind) ⊎ (slice_get self.old.states.kernels state ≡ Some kernel)) }
         ensures asks { OnOk result (AsksNew self.old.states.kernels self.new.states.kernels (G.means graph.old) (G.means graph.new) steps.old steps.new) }
-        ensures stands { Stands (G.means graph.old) (G.means graph.new) }
+        ensures stands { StandsButKernels (G.means graph.old) (G.means graph.new) }
         ensures never_back { steps.old ≤ steps.new }
     {
         let state = self.stacks.place(lower).state;
@@ -85,13 +85,13 @@ impl Parser {
         _tokens: &[Token],
         state: u32,
     ) -> Result<u32, NoMemory>
-        requires sound { IsSound (G.means _graph.now).grammar.rules (kinds_of _tokens.now) self.old }
+        requires sound { IsSoundParser (G.means _graph.now).grammar.rules (kinds_of _tokens.now) self.old }
         requires state { state < length self.old.states.kernels }
         requires reached { (kernel : List Item) → slice_get self.old.states.kernels state ≡ Some kernel
             → IsStateAt (G.means _graph.now).grammar.rules (kinds_of _tokens.now) kernel self.old.level.at }
         requires room { length self.old.stacks.nodes < 2 ^ 30 }
-        ensures node { IfOk result (λ node. slice_get self.new.stacks.nodes node ≡ Some (place_of state self.old.level.at)) }
-        ensures sound { OnOk result (IsSound (G.means _graph.now).grammar.rules (kinds_of _tokens.now) self.new) }
+        ensures node { IfOk result (λ node. slice_get self.new.stacks.nodes node ≡ Some (place_with state self.old.level.at)) }
+        ensures sound { OnOk result (IsSoundParser (G.means _graph.now).grammar.rules (kinds_of _tokens.now) self.new) }
         ensures nodes { OnOk result (AddsNode self.old.stacks.nodes self.new.stacks.nodes state self.old.level.at) }
         ensures links { OnOk result (self.new.stacks.links ≡ self.old.stacks.links) }
         ensures same { OnOk result (self.new ≡ record self.old { stacks = self.new.stacks; openers = self.new.openers }) }
@@ -114,10 +114,10 @@ impl Parser {
         symbol: SymbolId,
         steps: &mut Steps<L>,
     ) -> Result<u32, NoMemory>
-        requires sound { IsSound (G.means graph.old).grammar.rules (kinds_of tokens.now) self.old }
+        requires sound { IsSoundParser (G.means graph.old).grammar.rules (kinds_of tokens.now) self.old }
         requires linkable { IsLinkable (G.means graph.old).grammar.rules (kinds_of tokens.now) (found self.old) lower symbol self.old.level.at }
         requires room { length self.old.stacks.nodes < 2 ^ 30 }
-        ensures sound { OnOk result (IsSound (G.means graph.new).grammar.rules (kinds_of tokens.now) self.new) }
+        ensures sound { OnOk result (IsSoundParser (G.means graph.new).grammar.rules (kinds_of tokens.now) self.new) }
         ensures grows { OnOk result (Grows (found self.old) (found self.new)) }
         ensures placed { OnOk result (ArePlaced (found self.old) → ArePlaced (found self.new)) }
         ensures asks { OnOk result (AsksNew self.old.states.kernels self.new.states.kernels (G.means graph.old) (G.means graph.new) steps.old steps.new) }
@@ -125,7 +125,7 @@ impl Parser {
         ensures upper { IfOk result (IsUpper (G.means graph.old).grammar.rules (found self.new) self.old.level.at lower symbol) }
         ensures links { OnOk result (self.new.stacks.links ≡ self.old.stacks.links) }
         ensures same { OnOk result (self.new ≡ record self.old { states = self.new.states; stacks = self.new.stacks; openers = self.new.openers }) }
-        ensures stands { Stands (G.means graph.old) (G.means graph.new) }
+        ensures stands { StandsButKernels (G.means graph.old) (G.means graph.new) }
         ensures never_back { steps.old ≤ steps.new }
     {
         let behind = self.behind(graph, tokens, lower, symbol, steps)?;

@@ -7,11 +7,11 @@ ghost use Rattle.forest.specs.Derivation.{AreTerminals};
 ghost use Rattle.live_graph.specs.Cost.{RisesAsCost};
 ghost use Rattle.gss.specs.PlaceGraphs.{LeadsToBy};
 ghost use Rattle.packed_spans.specs.Complete.{IsComplete};
-ghost use Rattle.rekers.specs.Answers.{kinds_of, TellsForest, TellsNoSentence, IsWithin, TellsTooLarge, IfTooLarge, UnlessNoMemory};
+ghost use Rattle.rekers.specs.Answers.{kinds_of, TellsForest, TellsNoSentence, IsWithin, TellsTooLarge, IfTooLarge, UnlessParseNoMemory};
 ghost use Rattle.rekers.specs.Asked.{AsksStates, AsksSomeStates};
 ghost use Rattle.rekers.specs.Found.{found};
 ghost use Rattle.rekers.specs.Reductions.{IsWorked};
-ghost use Rattle.rekers.specs.Sound.{IsSound};
+ghost use Rattle.rekers.specs.Sound.{IsSoundParser};
 ghost use Rattle.rekers.specs.Steps.{AreShifted, IsWithinLimit};
 
 use crate::parse_error::ParseError;
@@ -28,7 +28,7 @@ impl Parser {
     /// The span that the forest begins with, where the link tells that START derives the text. If START is the one
     /// token, this adds a span for it.
     fn root<G: Graph>(&mut self, _graph: &G, _tokens: &[Token], link: u32) -> Result<u32, NoMemory>
-        requires sound { IsSound (G.means _graph.now).grammar.rules (kinds_of _tokens.now) self.old }
+        requires sound { IsSoundParser (G.means _graph.now).grammar.rules (kinds_of _tokens.now) self.old }
         requires worked { IsWorked (G.means _graph.now).grammar.rules (found self.old) (length self.old.stacks.links) (length self.old.stacks.nodes) }
         requires shifted { AreShifted (G.means _graph.now).grammar.rules (kinds_of _tokens.now) (found self.old) self.old.level.at }
         requires at { self.old.level.at ≡ length _tokens.now }
@@ -50,7 +50,7 @@ impl Parser {
         _graph: &G,
         _tokens: &[Token],
     ) -> Result<Parsed, NoMemory>
-        requires sound { IsSound (G.means _graph.now).grammar.rules (kinds_of _tokens.now) self.old }
+        requires sound { IsSoundParser (G.means _graph.now).grammar.rules (kinds_of _tokens.now) self.old }
         requires worked { IsWorked (G.means _graph.now).grammar.rules (found self.old) (length self.old.stacks.links) (length self.old.stacks.nodes) }
         requires shifted { AreShifted (G.means _graph.now).grammar.rules (kinds_of _tokens.now) (found self.old) self.old.level.at }
         requires at { self.old.level.at ≡ length _tokens.now }
@@ -86,7 +86,7 @@ impl Parser {
         ensures too_large { IfErr result (TellsTooLarge (G.means graph.old).grammar.rules (kinds_of tokens.now)) }
         ensures asked { OnOk result (AsksStates (kinds_of tokens.now) (G.means graph.old) (G.means graph.new)) }
         ensures asked_some { IfTooLarge result (AsksSomeStates (kinds_of tokens.now) (G.means graph.old) (G.means graph.new)) }
-        ensures steps { UnlessNoMemory result (RisesAsCost (G.means graph.old) (G.means graph.new) steps.old steps.new) }
+        ensures steps { UnlessParseNoMemory result (RisesAsCost (G.means graph.old) (G.means graph.new) steps.old steps.new) }
         ensures grammar { (G.means graph.new).grammar ≡ (G.means graph.old).grammar }
         ensures base { (G.means graph.new).base ≡ (G.means graph.old).base }
         ensures scans { (G.means graph.new).scans ≡ (G.means graph.old).scans }
@@ -113,7 +113,7 @@ pub fn parse<G: Graph, L: Ledger>(
     ensures too_large { IfErr result (TellsTooLarge (G.means graph.old).grammar.rules (kinds_of tokens.now)) }
     ensures asked { OnOk result (AsksStates (kinds_of tokens.now) (G.means graph.old) (G.means graph.new)) }
     ensures asked_some { IfTooLarge result (AsksSomeStates (kinds_of tokens.now) (G.means graph.old) (G.means graph.new)) }
-    ensures steps { UnlessNoMemory result (RisesAsCost (G.means graph.old) (G.means graph.new) steps.old steps.new) }
+    ensures steps { UnlessParseNoMemory result (RisesAsCost (G.means graph.old) (G.means graph.new) steps.old steps.new) }
     ensures grammar { (G.means graph.new).grammar ≡ (G.means graph.old).grammar }
     ensures base { (G.means graph.new).base ≡ (G.means graph.old).base }
     ensures scans { (G.means graph.new).scans ≡ (G.means graph.old).scans }

@@ -2,11 +2,11 @@
 
 ghost use Rattle.std.specs.Prelude.{◌≡◌, ◌⊎◌, ◌↔◌, ◌≤◌, ◌<◌, ◌+◌, IfErr, IfOk, OnOk, IsTrue, ℕ, length};
 ghost use Rattle.parser_states.specs.declared.reduction.Reduction.{Reduction as ReductionBy};
-ghost use Rattle.parser_states.specs.Asked.{Stands};
-ghost use Rattle.rekers.specs.Answers.{kinds_of, UnlessNoMemory};
+ghost use Rattle.parser_states.specs.Asked.{StandsButKernels};
+ghost use Rattle.rekers.specs.Answers.{kinds_of, UnlessParseNoMemory};
 ghost use Rattle.rekers.specs.Found.{found};
 ghost use Rattle.rekers.specs.Reductions.{IsWorked};
-ghost use Rattle.rekers.specs.Sound.{IsSound};
+ghost use Rattle.rekers.specs.Sound.{IsSoundParser};
 ghost use Rattle.rekers.specs.Steps.{IsStep, IsWithinLimit, IsAboveLimit, IsOfLevel, IsAnyFresh, IsNodeWalked, GoesOn};
 
 use crate::parse_error::ParseError;
@@ -34,17 +34,17 @@ impl Parser {
         queue: Queue,
         steps: &mut Steps<L>,
     ) -> Result<(), ParseError>
-        requires sound { IsSound (G.means graph.old).grammar.rules (kinds_of tokens.now) self.old }
+        requires sound { IsSoundParser (G.means graph.old).grammar.rules (kinds_of tokens.now) self.old }
         requires within { IsWithinLimit self.old }
         requires worked { IsWorked (G.means graph.old).grammar.rules (found self.old) queue.link queue.node }
         requires node { queue.node < length self.old.stacks.nodes }
         requires of_level { self.old.level.first_node ≤ queue.node }
         requires links { queue.link ≤ length self.old.stacks.links }
-        ensures step { UnlessNoMemory result (IsStep (kinds_of tokens.now) self.old self.new (G.means graph.old) (G.means graph.new) steps.old steps.new) }
+        ensures step { UnlessParseNoMemory result (IsStep (kinds_of tokens.now) self.old self.new (G.means graph.old) (G.means graph.new) steps.old steps.new) }
         ensures worked { OnOk result (IsWorked (G.means graph.old).grammar.rules (found self.new) queue.link (queue.node + 1)) }
         ensures within { OnOk result (IsWithinLimit self.new) }
         ensures above { IfErr result (IsAboveLimit self.new) }
-        ensures stands { Stands (G.means graph.old) (G.means graph.new) }
+        ensures stands { StandsButKernels (G.means graph.old) (G.means graph.new) }
         ensures never_back { steps.old ≤ steps.new }
     {
         self.trail.clear();
@@ -65,17 +65,17 @@ impl Parser {
         link: u32,
         steps: &mut Steps<L>,
     ) -> Result<(), ParseError>
-        requires sound { IsSound (G.means graph.old).grammar.rules (kinds_of tokens.now) self.old }
+        requires sound { IsSoundParser (G.means graph.old).grammar.rules (kinds_of tokens.now) self.old }
         requires within { IsWithinLimit self.old }
         requires node { node < length self.old.stacks.nodes }
         requires of_level { self.old.level.first_node ≤ node }
         requires link { IsOfLevel (found self.old) self.old.level.first_link link }
         requires fresh { IsAnyFresh (G.means graph.old).grammar.rules (found self.old) node link }
-        ensures step { UnlessNoMemory result (IsStep (kinds_of tokens.now) self.old self.new (G.means graph.old) (G.means graph.new) steps.old steps.new) }
+        ensures step { UnlessParseNoMemory result (IsStep (kinds_of tokens.now) self.old self.new (G.means graph.old) (G.means graph.new) steps.old steps.new) }
         ensures walked { OnOk result (IsNodeWalked (G.means graph.old).grammar.rules (found self.old) (found self.new) node link self.old.level.at) }
         ensures within { OnOk result (IsWithinLimit self.new) }
         ensures above { IfErr result (IsAboveLimit self.new) }
-        ensures stands { Stands (G.means graph.old) (G.means graph.new) }
+        ensures stands { StandsButKernels (G.means graph.old) (G.means graph.new) }
         ensures never_back { steps.old ≤ steps.new }
     {
         let state = self.stacks.place(node).state;
@@ -101,16 +101,16 @@ impl Parser {
         queue: Queue,
         steps: &mut Steps<L>,
     ) -> Result<(), ParseError>
-        requires sound { IsSound (G.means graph.old).grammar.rules (kinds_of tokens.now) self.old }
+        requires sound { IsSoundParser (G.means graph.old).grammar.rules (kinds_of tokens.now) self.old }
         requires within { IsWithinLimit self.old }
         requires worked { IsWorked (G.means graph.old).grammar.rules (found self.old) queue.link queue.node }
         requires nodes { queue.node ≡ length self.old.stacks.nodes }
         requires link { IsOfLevel (found self.old) self.old.level.first_link queue.link }
-        ensures step { UnlessNoMemory result (IsStep (kinds_of tokens.now) self.old self.new (G.means graph.old) (G.means graph.new) steps.old steps.new) }
+        ensures step { UnlessParseNoMemory result (IsStep (kinds_of tokens.now) self.old self.new (G.means graph.old) (G.means graph.new) steps.old steps.new) }
         ensures worked { OnOk result (IsWorked (G.means graph.old).grammar.rules (found self.new) (queue.link + 1) queue.node) }
         ensures within { OnOk result (IsWithinLimit self.new) }
         ensures above { IfErr result (IsAboveLimit self.new) }
-        ensures stands { Stands (G.means graph.old) (G.means graph.new) }
+        ensures stands { StandsButKernels (G.means graph.old) (G.means graph.new) }
         ensures never_back { steps.old ≤ steps.new }
     {
         if self.is_flat {
@@ -145,7 +145,7 @@ impl Parser {
         queue: Queue,
         steps: &mut Steps<L>,
     ) -> Result<Queue, ParseError>
-        requires sound { IsSound (G.means graph.old).grammar.rules (kinds_of tokens.now) self.old }
+        requires sound { IsSoundParser (G.means graph.old).grammar.rules (kinds_of tokens.now) self.old }
         requires within { IsWithinLimit self.old }
         requires worked { IsWorked (G.means graph.old).grammar.rules (found self.old) queue.link queue.node }
         requires nodes { queue.node ≤ length self.old.stacks.nodes }
@@ -153,12 +153,12 @@ impl Parser {
         requires node_of_level { self.old.level.first_node ≤ queue.node }
         requires link_of_level { self.old.level.first_link ≤ queue.link }
         requires some { (queue.node < length self.old.stacks.nodes) ⊎ (queue.link < length self.old.stacks.links) }
-        ensures step { UnlessNoMemory result (IsStep (kinds_of tokens.now) self.old self.new (G.means graph.old) (G.means graph.new) steps.old steps.new) }
+        ensures step { UnlessParseNoMemory result (IsStep (kinds_of tokens.now) self.old self.new (G.means graph.old) (G.means graph.new) steps.old steps.new) }
         ensures worked { IfOk result (λ next. IsWorked (G.means graph.old).grammar.rules (found self.new) next.link next.node) }
         ensures next { IfOk result (GoesOn self.old queue) }
         ensures within { OnOk result (IsWithinLimit self.new) }
         ensures above { IfErr result (IsAboveLimit self.new) }
-        ensures stands { Stands (G.means graph.old) (G.means graph.new) }
+        ensures stands { StandsButKernels (G.means graph.old) (G.means graph.new) }
         ensures never_back { steps.old ≤ steps.new }
     {
         if (queue.node as usize) < self.stacks.node_count() {
@@ -182,15 +182,15 @@ impl Parser {
         tokens: &[Token],
         steps: &mut Steps<L>,
     ) -> Result<(), ParseError>
-        requires sound { IsSound (G.means graph.old).grammar.rules (kinds_of tokens.now) self.old }
+        requires sound { IsSoundParser (G.means graph.old).grammar.rules (kinds_of tokens.now) self.old }
         requires within { IsWithinLimit self.old }
         requires worked { IsWorked (G.means graph.old).grammar.rules (found self.old) self.old.level.first_link self.old.level.first_node }
-        ensures step { UnlessNoMemory result (IsStep (kinds_of tokens.now) self.old self.new (G.means graph.old) (G.means graph.new) steps.old steps.new) }
+        ensures step { UnlessParseNoMemory result (IsStep (kinds_of tokens.now) self.old self.new (G.means graph.old) (G.means graph.new) steps.old steps.new) }
         ensures worked { OnOk result (IsWorked (G.means graph.old).grammar.rules (found self.new)
             (length self.new.stacks.links) (length self.new.stacks.nodes)) }
         ensures within { OnOk result (IsWithinLimit self.new) }
         ensures above { IfErr result (IsAboveLimit self.new) }
-        ensures stands { Stands (G.means graph.old) (G.means graph.new) }
+        ensures stands { StandsButKernels (G.means graph.old) (G.means graph.new) }
         ensures never_back { steps.old ≤ steps.new }
     {
         let mut queue = Queue {

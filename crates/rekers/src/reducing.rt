@@ -2,11 +2,11 @@
 
 ghost use Rattle.std.specs.Prelude.{◌≡◌, ◌≤◌, ◌<◌, ◌+◌, ◌^◌, ◌++◌, ◌∷◌, [], IfErr, IfSome, OnOk, ℕ, length, Contains};
 ghost use Rattle.packed_spans.specs.Packed.{ArePartsOf};
-ghost use Rattle.parser_states.specs.Asked.{Stands};
-ghost use Rattle.rekers.specs.Answers.{kinds_of, UnlessNoMemory};
+ghost use Rattle.parser_states.specs.Asked.{StandsButKernels};
+ghost use Rattle.rekers.specs.Answers.{kinds_of, UnlessParseNoMemory};
 ghost use Rattle.rekers.specs.Found.{found, Grows};
 ghost use Rattle.rekers.specs.Reductions.{IsLinkTo};
-ghost use Rattle.rekers.specs.Sound.{IsSound};
+ghost use Rattle.rekers.specs.Sound.{IsSoundParser};
 ghost use Rattle.rekers.specs.Steps.{IsStep, IsToReduce, Reduces, HasFewNodes, IsWithinLimit, IsAboveLimit, labels_of, IsLinkBy, IsUnlinked};
 
 use crate::limits::SIZE_LIMIT;
@@ -120,10 +120,10 @@ impl Parser {
         lower: u32,
         top: u32,
     ) -> Result<(), NoMemory>
-        requires sound { IsSound (G.means _graph.now).grammar.rules (kinds_of _tokens.now) self.old }
+        requires sound { IsSoundParser (G.means _graph.now).grammar.rules (kinds_of _tokens.now) self.old }
         requires link { IsLinkBy (found self.old) link lower reduction.left self.old.level.at }
         requires reduces { IsToReduce (G.means _graph.now).grammar.rules (found self.old) reduction lower self.old.trail.items top self.old.level.at }
-        ensures sound { OnOk result (IsSound (G.means _graph.now).grammar.rules (kinds_of _tokens.now) self.new) }
+        ensures sound { OnOk result (IsSoundParser (G.means _graph.now).grammar.rules (kinds_of _tokens.now) self.new) }
         ensures grows { OnOk result (Grows (found self.old) (found self.new)) }
         ensures reduced { OnOk result (Reduces (G.means _graph.now).grammar.rules (found self.old)
             (found self.new) reduction lower self.old.trail.items top self.old.level.at) }
@@ -149,17 +149,17 @@ impl Parser {
         top: u32,
         steps: &mut Steps<L>,
     ) -> Result<(), ParseError>
-        requires sound { IsSound (G.means graph.old).grammar.rules (kinds_of tokens.now) self.old }
+        requires sound { IsSoundParser (G.means graph.old).grammar.rules (kinds_of tokens.now) self.old }
         requires within { IsWithinLimit self.old }
         requires reduces { IsToReduce (G.means graph.old).grammar.rules (found self.old) reduction lower self.old.trail.items top self.old.level.at }
         requires unlinked { IsUnlinked (found self.old) self.old.level.first_link lower reduction.left }
-        ensures step { UnlessNoMemory result (IsStep (kinds_of tokens.now) self.old self.new (G.means graph.old) (G.means graph.new) steps.old steps.new) }
+        ensures step { UnlessParseNoMemory result (IsStep (kinds_of tokens.now) self.old self.new (G.means graph.old) (G.means graph.new) steps.old steps.new) }
         ensures reduced { OnOk result (Reduces (G.means graph.old).grammar.rules (found self.old)
             (found self.new) reduction lower self.old.trail.items top self.old.level.at) }
         ensures within { OnOk result (IsWithinLimit self.new) }
         ensures above { IfErr result (IsAboveLimit self.new) }
         ensures trail { OnOk result (self.new.trail ≡ self.old.trail) }
-        ensures stands { Stands (G.means graph.old) (G.means graph.new) }
+        ensures stands { StandsButKernels (G.means graph.old) (G.means graph.new) }
         ensures never_back { steps.old ≤ steps.new }
     {
         let link = self.new_link(graph, tokens, lower, reduction.left, steps)?;
@@ -180,16 +180,16 @@ impl Parser {
         top: u32,
         steps: &mut Steps<L>,
     ) -> Result<(), ParseError>
-        requires sound { IsSound (G.means graph.old).grammar.rules (kinds_of tokens.now) self.old }
+        requires sound { IsSoundParser (G.means graph.old).grammar.rules (kinds_of tokens.now) self.old }
         requires within { IsWithinLimit self.old }
         requires reduces { IsToReduce (G.means graph.old).grammar.rules (found self.old) reduction lower self.old.trail.items top self.old.level.at }
-        ensures step { UnlessNoMemory result (IsStep (kinds_of tokens.now) self.old self.new (G.means graph.old) (G.means graph.new) steps.old steps.new) }
+        ensures step { UnlessParseNoMemory result (IsStep (kinds_of tokens.now) self.old self.new (G.means graph.old) (G.means graph.new) steps.old steps.new) }
         ensures reduced { OnOk result (Reduces (G.means graph.old).grammar.rules (found self.old)
             (found self.new) reduction lower self.old.trail.items top self.old.level.at) }
         ensures within { OnOk result (IsWithinLimit self.new) }
         ensures above { IfErr result (IsAboveLimit self.new) }
         ensures trail { OnOk result (self.new.trail ≡ self.old.trail) }
-        ensures stands { Stands (G.means graph.old) (G.means graph.new) }
+        ensures stands { StandsButKernels (G.means graph.old) (G.means graph.new) }
         ensures never_back { steps.old ≤ steps.new }
     {
         let Some(link) = self

@@ -6,12 +6,12 @@ ghost use Rattle.item_sets.specs.declared.item.Item.{Item};
 ghost use Rattle.item_sets.specs.Expansions.{HasMove};
 ghost use Rattle.edit_log.specs.Facts.{IsWellFormed};
 ghost use Rattle.edit_log.specs.declared.limits.TheConstants.{TOKEN_LIMIT};
-ghost use Rattle.parser_states.specs.Asked.{Stands, AsksNew};
+ghost use Rattle.parser_states.specs.Asked.{StandsButKernels, AsksNew};
 ghost use Rattle.packed_spans.specs.declared.span.TheConstants.{TOKEN_PART};
-ghost use Rattle.rekers.specs.Answers.{kinds_of, UnlessNoMemory};
+ghost use Rattle.rekers.specs.Answers.{kinds_of, UnlessParseNoMemory};
 ghost use Rattle.rekers.specs.Found.{found, IsNode, Grows};
 ghost use Rattle.rekers.specs.Reductions.{IsWorked, IsLinkTo};
-ghost use Rattle.rekers.specs.Sound.{IsSound, ArePlaced};
+ghost use Rattle.rekers.specs.Sound.{IsSoundParser, ArePlaced};
 ghost use Rattle.rekers.specs.Shifts.{AreBefore, IsBefore, AreShiftedFrom};
 ghost use Rattle.rekers.specs.Steps.{IsStep, IsWithinLimit, IsAboveLimit, IsUnlinked, AreShifted, IsShift, Advances};
 
@@ -41,13 +41,13 @@ impl Parser {
         steps: &mut Steps<L>,
     ) -> Result<(), NoMemory>
         requires terminals { AreTerminals (G.means graph.old).grammar.rules (kinds_of _tokens.now) }
-        ensures sound { OnOk result (IsSound (G.means graph.new).grammar.rules (kinds_of _tokens.now) self.new) }
+        ensures sound { OnOk result (IsSoundParser (G.means graph.new).grammar.rules (kinds_of _tokens.now) self.new) }
         ensures placed { OnOk result (ArePlaced (found self.new)) }
         ensures worked { OnOk result (IsWorked (G.means graph.new).grammar.rules (found self.new) self.new.level.first_link self.new.level.first_node) }
         ensures within { OnOk result (IsWithinLimit self.new) }
         ensures at { OnOk result (self.new.level.at ≡ 0) }
         ensures asks { OnOk result (AsksNew [] self.new.states.kernels (G.means graph.old) (G.means graph.new) steps.old steps.new) }
-        ensures stands { Stands (G.means graph.old) (G.means graph.new) }
+        ensures stands { StandsButKernels (G.means graph.old) (G.means graph.new) }
         ensures never_back { steps.old ≤ steps.new }
     {
         self.stacks.clear();
@@ -69,10 +69,10 @@ impl Parser {
 
     /// Goes on to the next level, which has no nodes yet.
     fn advance<G: Graph>(&mut self, _graph: &G, _tokens: &[Token]) -> Result<(), NoMemory>
-        requires sound { IsSound (G.means _graph.now).grammar.rules (kinds_of _tokens.now) self.old }
+        requires sound { IsSoundParser (G.means _graph.now).grammar.rules (kinds_of _tokens.now) self.old }
         requires place { self.old.level.at < TOKEN_LIMIT }
         requires within { IsWithinLimit self.old }
-        ensures sound { OnOk result (IsSound (G.means _graph.now).grammar.rules (kinds_of _tokens.now) self.new) }
+        ensures sound { OnOk result (IsSoundParser (G.means _graph.now).grammar.rules (kinds_of _tokens.now) self.new) }
         ensures level { OnOk result (Advances self.old self.new) }
         ensures same { OnOk result (self.new ≡ record self.old { openers = self.new.openers; level = self.new.level; is_flat = self.new.is_flat }) }
     {
@@ -96,20 +96,20 @@ impl Parser {
         kind: SymbolId,
         steps: &mut Steps<L>,
     ) -> Result<(), ParseError>
-        requires sound { IsSound (G.means graph.old).grammar.rules (kinds_of tokens.now) self.old }
+        requires sound { IsSoundParser (G.means graph.old).grammar.rules (kinds_of tokens.now) self.old }
         requires within { IsWithinLimit self.old }
         requires node { IsShift (found self.old) (kinds_of tokens.now) node kind self.old.level.at }
         requires unlinked { IsUnlinked (found self.old) self.old.level.first_link node kind }
-        ensures step { UnlessNoMemory result (IsStep (kinds_of tokens.now) self.old self.new (G.means graph.old) (G.means graph.new) steps.old steps.new) }
+        ensures step { UnlessParseNoMemory result (IsStep (kinds_of tokens.now) self.old self.new (G.means graph.old) (G.means graph.new) steps.old steps.new) }
         ensures shifted { OnOk result ((kernel : List Item) (i : ℕ) → IsNode (found self.old) node kernel i
             → HasMove (G.means graph.old).grammar.rules (Contains kernel) kind
             → (link : ℕ) × IsLinkTo (found self.new) link node kind self.old.level.at TOKEN_PART) }
         ensures others { OnOk result ((other : ℕ) → other ≢ node → IsUnlinked (found self.old) self.old.level.first_link other kind
             → IsUnlinked (found self.new) self.old.level.first_link other kind) }
-        ensures splits { UnlessNoMemory result (self.new.spans.splits ≡ self.old.spans.splits) }
+        ensures splits { UnlessParseNoMemory result (self.new.spans.splits ≡ self.old.spans.splits) }
         ensures within { OnOk result (IsWithinLimit self.new) }
         ensures above { IfErr result (IsAboveLimit self.new) }
-        ensures stands { Stands (G.means graph.old) (G.means graph.new) }
+        ensures stands { StandsButKernels (G.means graph.old) (G.means graph.new) }
         ensures never_back { steps.old ≤ steps.new }
     {
         let state = self.stacks.place(node).state;
@@ -131,18 +131,18 @@ impl Parser {
         kind: SymbolId,
         steps: &mut Steps<L>,
     ) -> Result<(), ParseError>
-        requires sound { IsSound (G.means graph.old).grammar.rules (kinds_of tokens.now) self.old }
+        requires sound { IsSoundParser (G.means graph.old).grammar.rules (kinds_of tokens.now) self.old }
         requires within { IsWithinLimit self.old }
         requires first { AreBefore (found self.old) first self.old.level.first_node self.old.level.at }
         requires kind { IsBefore (kinds_of tokens.now) kind self.old.level.at }
         requires links { self.old.level.first_link ≡ length self.old.stacks.links }
-        ensures step { UnlessNoMemory result (IsStep (kinds_of tokens.now) self.old self.new (G.means graph.old) (G.means graph.new) steps.old steps.new) }
+        ensures step { UnlessParseNoMemory result (IsStep (kinds_of tokens.now) self.old self.new (G.means graph.old) (G.means graph.new) steps.old steps.new) }
         ensures shifted { OnOk result (AreShiftedFrom (G.means graph.old).grammar.rules (found self.new)
             first self.old.level.first_node kind self.old.level.at) }
-        ensures splits { UnlessNoMemory result (self.new.spans.splits ≡ self.old.spans.splits) }
+        ensures splits { UnlessParseNoMemory result (self.new.spans.splits ≡ self.old.spans.splits) }
         ensures within { OnOk result (IsWithinLimit self.new) }
         ensures above { IfErr result (IsAboveLimit self.new) }
-        ensures stands { Stands (G.means graph.old) (G.means graph.new) }
+        ensures stands { StandsButKernels (G.means graph.old) (G.means graph.new) }
         ensures never_back { steps.old ≤ steps.new }
     {
         for node in first..self.level.first_node {
@@ -159,23 +159,23 @@ impl Parser {
         kind: SymbolId,
         steps: &mut Steps<L>,
     ) -> Result<(), ParseError>
-        requires sound { IsSound (G.means graph.old).grammar.rules (kinds_of tokens.now) self.old }
+        requires sound { IsSoundParser (G.means graph.old).grammar.rules (kinds_of tokens.now) self.old }
         requires within { IsWithinLimit self.old }
         requires kind { slice_get (kinds_of tokens.now) self.old.level.at ≡ Some kind }
         requires place { self.old.level.at < TOKEN_LIMIT }
         requires worked { IsWorked (G.means graph.old).grammar.rules (found self.old) (length self.old.stacks.links) (length self.old.stacks.nodes) }
         requires shifted { AreShifted (G.means graph.old).grammar.rules (kinds_of tokens.now) (found self.old) self.old.level.at }
-        ensures sound { UnlessNoMemory result (IsSound (G.means graph.new).grammar.rules (kinds_of tokens.now) self.new) }
-        ensures placed { UnlessNoMemory result (ArePlaced (found self.old) → ArePlaced (found self.new)) }
-        ensures grows { UnlessNoMemory result (Grows (found self.old) (found self.new)) }
-        ensures asks { UnlessNoMemory result (AsksNew self.old.states.kernels self.new.states.kernels
+        ensures sound { UnlessParseNoMemory result (IsSoundParser (G.means graph.new).grammar.rules (kinds_of tokens.now) self.new) }
+        ensures placed { UnlessParseNoMemory result (ArePlaced (found self.old) → ArePlaced (found self.new)) }
+        ensures grows { UnlessParseNoMemory result (Grows (found self.old) (found self.new)) }
+        ensures asks { UnlessParseNoMemory result (AsksNew self.old.states.kernels self.new.states.kernels
             (G.means graph.old) (G.means graph.new) steps.old steps.new) }
         ensures at { OnOk result (self.new.level.at ≡ self.old.level.at + 1) }
         ensures worked { OnOk result (IsWorked (G.means graph.old).grammar.rules (found self.new) self.new.level.first_link self.new.level.first_node) }
         ensures shifted { OnOk result (AreShifted (G.means graph.old).grammar.rules (kinds_of tokens.now) (found self.new) self.new.level.at) }
         ensures within { OnOk result (IsWithinLimit self.new) }
         ensures above { IfErr result (IsAboveLimit self.new) }
-        ensures stands { Stands (G.means graph.old) (G.means graph.new) }
+        ensures stands { StandsButKernels (G.means graph.old) (G.means graph.new) }
         ensures never_back { steps.old ≤ steps.new }
     {
         let first = self.level.first_node;

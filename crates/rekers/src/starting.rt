@@ -1,10 +1,10 @@
 //! Walks from their tops.
 
 ghost use Rattle.std.specs.Prelude.{◌≡◌, ◌≤◌, ◌<◌, [], ◌∷◌, IfErr, IfOk, OnOk, length, drop};
-ghost use Rattle.parser_states.specs.Asked.{Stands};
-ghost use Rattle.rekers.specs.Answers.{kinds_of, UnlessNoMemory};
+ghost use Rattle.parser_states.specs.Asked.{StandsButKernels};
+ghost use Rattle.rekers.specs.Answers.{kinds_of, UnlessParseNoMemory};
 ghost use Rattle.rekers.specs.Found.{found};
-ghost use Rattle.rekers.specs.Sound.{IsSound};
+ghost use Rattle.rekers.specs.Sound.{IsSoundParser};
 ghost use Rattle.rekers.specs.Steps.{IsStep, IsWalked, IsFresh, IsWithinLimit, IsAboveLimit, IsOfLevel};
 ghost use Rattle.rekers.specs.Starts.{IsStart, IsTop};
 
@@ -71,16 +71,16 @@ impl Parser {
         walk: Walk,
         steps: &mut Steps<L>,
     ) -> Result<(), ParseError>
-        requires sound { IsSound (G.means graph.old).grammar.rules (kinds_of tokens.now) self.old }
+        requires sound { IsSoundParser (G.means graph.old).grammar.rules (kinds_of tokens.now) self.old }
         requires within { IsWithinLimit self.old }
         requires top { IsTop (G.means graph.old).grammar.rules (found self.old) walk self.old.level.at }
         requires link { IsOfLevel (found self.old) self.old.level.first_link walk.through }
         requires fresh { IsFresh (G.means graph.old).grammar.rules (found self.old) walk [] }
-        ensures step { UnlessNoMemory result (IsStep (kinds_of tokens.now) self.old self.new (G.means graph.old) (G.means graph.new) steps.old steps.new) }
+        ensures step { UnlessParseNoMemory result (IsStep (kinds_of tokens.now) self.old self.new (G.means graph.old) (G.means graph.new) steps.old steps.new) }
         ensures walked { OnOk result (IsWalked (G.means graph.old).grammar.rules (found self.old) (found self.new) walk self.old.level.at []) }
         ensures within { OnOk result (IsWithinLimit self.new) }
         ensures above { IfErr result (IsAboveLimit self.new) }
-        ensures stands { Stands (G.means graph.old) (G.means graph.new) }
+        ensures stands { StandsButKernels (G.means graph.old) (G.means graph.new) }
         ensures never_back { steps.old ≤ steps.new }
     {
         let start = self.start_walk(walk)?;

@@ -1,11 +1,11 @@
 //! Walks down the links, which find the trails of reductions.
 
 ghost use Rattle.std.specs.Prelude.{◌≡◌, ◌⊎◌, ◌↔◌, ◌≤◌, ◌<◌, ◌+◌, ◌∷◌, IfErr, OnOk, IsTrue, length, drop};
-ghost use Rattle.parser_states.specs.Asked.{Stands};
-ghost use Rattle.rekers.specs.Answers.{kinds_of, UnlessNoMemory};
+ghost use Rattle.parser_states.specs.Asked.{StandsButKernels};
+ghost use Rattle.rekers.specs.Answers.{kinds_of, UnlessParseNoMemory};
 ghost use Rattle.rekers.specs.Found.{found};
 ghost use Rattle.rekers.specs.Reductions.{IsWorked};
-ghost use Rattle.rekers.specs.Sound.{IsSound};
+ghost use Rattle.rekers.specs.Sound.{IsSoundParser};
 ghost use Rattle.rekers.specs.Steps.{IsStep, IsWalking, IsWalked, IsWithinLimit, IsAboveLimit, IsOfLevel};
 
 use crate::parse_error::ParseError;
@@ -47,17 +47,17 @@ impl Parser {
         met: bool,
         steps: &mut Steps<L>,
     ) -> Result<(), ParseError>
-        requires sound { IsSound (G.means graph.old).grammar.rules (kinds_of tokens.now) self.old }
+        requires sound { IsSoundParser (G.means graph.old).grammar.rules (kinds_of tokens.now) self.old }
         requires within { IsWithinLimit self.old }
         requires walking { IsWalking (G.means graph.old).grammar.rules (found self.old)
             self.old.level.first_link self.old.level.at walk node 0 met self.old.trail.items }
-        ensures step { UnlessNoMemory result (IsStep (kinds_of tokens.now) self.old self.new (G.means graph.old) (G.means graph.new) steps.old steps.new) }
+        ensures step { UnlessParseNoMemory result (IsStep (kinds_of tokens.now) self.old self.new (G.means graph.old) (G.means graph.new) steps.old steps.new) }
         ensures walked { OnOk result (IsWalked (G.means graph.old).grammar.rules (found self.old)
             (found self.new) walk self.old.level.at self.old.trail.items) }
         ensures within { OnOk result (IsWithinLimit self.new) }
         ensures above { IfErr result (IsAboveLimit self.new) }
         ensures trail { OnOk result (self.new.trail ≡ self.old.trail) }
-        ensures stands { Stands (G.means graph.old) (G.means graph.new) }
+        ensures stands { StandsButKernels (G.means graph.old) (G.means graph.new) }
         ensures never_back { steps.old ≤ steps.new }
     {
         if met {
@@ -77,18 +77,18 @@ impl Parser {
         met: bool,
         steps: &mut Steps<L>,
     ) -> Result<(), ParseError>
-        requires sound { IsSound (G.means graph.old).grammar.rules (kinds_of tokens.now) self.old }
+        requires sound { IsSoundParser (G.means graph.old).grammar.rules (kinds_of tokens.now) self.old }
         requires within { IsWithinLimit self.old }
         requires walking { IsWalking (G.means graph.old).grammar.rules (found self.old)
             self.old.level.first_link self.old.level.at walk node 1 met self.old.trail.items }
-        ensures step { UnlessNoMemory result (IsStep (kinds_of tokens.now) self.old self.new (G.means graph.old) (G.means graph.new) steps.old steps.new) }
+        ensures step { UnlessParseNoMemory result (IsStep (kinds_of tokens.now) self.old self.new (G.means graph.old) (G.means graph.new) steps.old steps.new) }
         ensures walked { OnOk result (IsWalked (G.means graph.old).grammar.rules (found self.old)
             (found self.new) walk self.old.level.at (drop 1 self.old.trail.items)) }
         ensures within { OnOk result (IsWithinLimit self.new) }
         ensures above { IfErr result (IsAboveLimit self.new) }
         ensures trail { OnOk result ((drop 1 self.new.trail.items ≡ drop 1 self.old.trail.items)
             × (length self.new.trail.items ≡ length self.old.trail.items)) }
-        ensures stands { Stands (G.means graph.old) (G.means graph.new) }
+        ensures stands { StandsButKernels (G.means graph.old) (G.means graph.new) }
         ensures never_back { steps.old ≤ steps.new }
     {
         if !met && node < self.level.first_node {
@@ -120,18 +120,18 @@ impl Parser {
         met: bool,
         steps: &mut Steps<L>,
     ) -> Result<(), ParseError>
-        requires sound { IsSound (G.means graph.old).grammar.rules (kinds_of tokens.now) self.old }
+        requires sound { IsSoundParser (G.means graph.old).grammar.rules (kinds_of tokens.now) self.old }
         requires within { IsWithinLimit self.old }
         requires walking { IsWalking (G.means graph.old).grammar.rules (found self.old)
             self.old.level.first_link self.old.level.at walk node left met self.old.trail.items }
-        ensures step { UnlessNoMemory result (IsStep (kinds_of tokens.now) self.old self.new (G.means graph.old) (G.means graph.new) steps.old steps.new) }
+        ensures step { UnlessParseNoMemory result (IsStep (kinds_of tokens.now) self.old self.new (G.means graph.old) (G.means graph.new) steps.old steps.new) }
         ensures walked { OnOk result (IsWalked (G.means graph.old).grammar.rules (found self.old)
             (found self.new) walk self.old.level.at (drop left self.old.trail.items)) }
         ensures within { OnOk result (IsWithinLimit self.new) }
         ensures above { IfErr result (IsAboveLimit self.new) }
         ensures trail { OnOk result ((drop left self.new.trail.items ≡ drop left self.old.trail.items)
             × (length self.new.trail.items ≡ length self.old.trail.items)) }
-        ensures stands { Stands (G.means graph.old) (G.means graph.new) }
+        ensures stands { StandsButKernels (G.means graph.old) (G.means graph.new) }
         ensures never_back { steps.old ≤ steps.new }
     {
         if left == 0 {

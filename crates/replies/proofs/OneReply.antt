@@ -26,7 +26,7 @@ use Rattle.rekers.specs.Answers.{kinds_of, IsWithin}
 use Rattle.rekers.proofs.Sizes.{size_above}
 use Rattle.replies.specs.declared.reply.Reply.{Reply}
 use Rattle.replies.specs.declared.reply.Reply.TheVariants.{Refused, Parse as Parsing, Tokens as Scanning}
-use Rattle.replies.specs.Replies.{IsRefusedFor, IsResult, IsParse, too_large, forest, no_sentence, IsOutcome, scan, parse, IsReply, taken, refused}
+use Rattle.replies.specs.Replies.{IsScanRefusedFor, IsResult, IsParse, too_large, forest, no_sentence, IsOutcome, scan, parse, IsReply, taken, refused}
 use Rattle.replies.specs.Replies.{parsed, scanned}
 use Rattle.isg_scan.proofs.OneScan.{one_scan}
 
@@ -73,7 +73,7 @@ one_parse rules kinds a b (no_sentence {at = i} within not last) (no_sentence {a
 one_list : (grammar : Grammar) (text : List ℕ) (a b : List Token) → Tokenizes grammar text (tokens a) → Tokenizes grammar text (tokens b) → a ≡ b
 one_list grammar text a b e f = let same : tokens a ≡ tokens b = one_scan grammar text (tokens a) (tokens b) e f in cc same
 
-one_error : (grammar : Grammar) (text : List ℕ) (a b : ScanError) → IsRefusedFor grammar text a → IsRefusedFor grammar text b → a ≡ b
+one_error : (grammar : Grammar) (text : List ℕ) (a b : ScanError) → IsScanRefusedFor grammar text a → IsScanRefusedFor grammar text b → a ≡ b
 one_error grammar text (NoToken o) (NoToken p) e f = let same = one_scan grammar text (no_token o) (no_token p) e f in let at : o ≡ p = cc same in ap NoToken at
 one_error grammar text (NoToken o) (TooManyTokens p) e f = let same = one_scan grammar text (no_token o) (too_many p) e f in cc same
 one_error grammar text (TooManyTokens o) (NoToken p) e f = let same = one_scan grammar text (too_many o) (no_token p) e f in cc same
@@ -84,7 +84,7 @@ one_error grammar text (NoToken o) NoMemory e f = absurd f
 one_error grammar text (TooManyTokens o) NoMemory e f = absurd f
 
 not_refused : (grammar : Grammar) (text : List ℕ) (found : List Token) (error : ScanError) → Tokenizes grammar text (tokens found)
-    → IsRefusedFor grammar text error → ⊥
+    → IsScanRefusedFor grammar text error → ⊥
 not_refused grammar text found (NoToken o) e f = let same = one_scan grammar text (tokens found) (no_token o) e f in cc same
 not_refused grammar text found (TooManyTokens o) e f = let same = one_scan grammar text (tokens found) (too_many o) e f in cc same
 not_refused grammar text found NoMemory e f = f

@@ -3,14 +3,14 @@ use Rattle.std.proofs.Common.{◌≡◌, ◌≤◌, ◌<◌, ◌+◌, ◌↔◌,
 use Rattle.std.proofs.lemmas.Bool.{cases_lt}
 use Rattle.grammar_text.specs.declared.edit.Edit.{Edit as AnEdit}
 use Rattle.edit_log.specs.declared.refusal.Refusal.{Refusal}
-use Rattle.edit_log.specs.History.{Grammar, after}
+use Rattle.edit_log.specs.History.{Grammar, after_edit}
 use Rattle.edit_log.specs.Verdict.{verdict}
 use Rattle.forest.specs.declared.symbols.SymbolId.{SymbolId}
 use Rattle.forest.specs.declared.symbols.Token.{Token}
 use Rattle.forest.specs.declared.rules.Rule.{Rule}
 use Rattle.isg_scan.specs.declared.scan_error.ScanError.{ScanError}
 use Rattle.isg_scan.specs.declared.scan_error.ScanError.TheVariants.{NoToken, TooManyTokens, NoMemory}
-use Rattle.isg_scan.specs.Answers.{EndsWith}
+use Rattle.isg_scan.specs.Answers.{IsScanEnd}
 use Rattle.script_text.specs.declared.command.Command.{Command}
 use Rattle.script_text.specs.declared.command.Command.TheVariants.{Parse, Tokens}
 use Rattle.rekers.specs.declared.parsed.Parsed.{Parsed as Found}
@@ -19,7 +19,7 @@ use Rattle.rekers.specs.Answers.{TellsForest, TellsNoSentence, IsWithin}
 use Rattle.replies.specs.declared.reply.Outcome.{Outcome}
 use Rattle.replies.specs.declared.reply.Outcome.TheVariants.{Parsed}
 use Rattle.replies.specs.declared.reply.Reply.TheVariants.{Parse as Parsing, Tokens as Scanning}
-use Rattle.replies.specs.Replies.{IsRefusedFor, IsResult, IsParse, forest, no_sentence, IsOutcome, IsReply, parsed, scanned, unless_refused}
+use Rattle.replies.specs.Replies.{IsScanRefusedFor, IsResult, IsParse, forest, no_sentence, IsOutcome, IsReply, parsed, scanned, unless_refused}
 
 -- ---- parses
 
@@ -30,8 +30,8 @@ parsed_so rules kinds (Forest tree) is other within = forest within is
 parsed_so rules kinds (NoSentence at) other is within = no_sentence within is.0 is.1
 
 -- a scan that ends so is refused for it, unless memory ran out
-pub refused_for : (grammar : Grammar) (text : List ℕ) (error : ScanError) → (error ≡ NoMemory → ⊥) → EndsWith grammar text error
-    → IsRefusedFor grammar text error
+pub refused_for : (grammar : Grammar) (text : List ℕ) (error : ScanError) → (error ≡ NoMemory → ⊥) → IsScanEnd grammar text error
+    → IsScanRefusedFor grammar text error
 refused_for grammar text (NoToken offset) other is = is
 refused_for grammar text (TooManyTokens offset) other is = is
 refused_for grammar text NoMemory other is = other refl
@@ -58,10 +58,10 @@ pub refused_stays : (grammar : Grammar) (edit : AnEdit) (why : Refusal) → verd
     → grammar ≡ unless_refused (verdict grammar edit) grammar edit
 refused_stays grammar edit why is = ap (λ v. unless_refused v grammar edit) (sym is)
 
-pub taken_next : (grammar : Grammar) (edit : AnEdit) (next : Grammar) → verdict grammar edit ≡ None → next ≡ after grammar edit
+pub taken_next : (grammar : Grammar) (edit : AnEdit) (next : Grammar) → verdict grammar edit ≡ None → next ≡ after_edit grammar edit
     → next ≡ unless_refused (verdict grammar edit) grammar edit
 taken_next grammar edit next taken is = is ∙ ap (λ v. unless_refused v grammar edit) (sym taken)
 
-pub version_after : (grammar : Grammar) (edit : AnEdit) → (after grammar edit).version ≡ grammar.version + 1
-unfolding after
+pub version_after : (grammar : Grammar) (edit : AnEdit) → (after_edit grammar edit).version ≡ grammar.version + 1
+unfolding after_edit
 version_after grammar edit = refl

@@ -8,7 +8,7 @@ use Rattle.forest.specs.declared.forest.Forest.{Forest}
 use Rattle.forest.specs.Derivation.{IsSentence}
 use Rattle.forest.specs.Forests.{IsForestOf}
 use Rattle.edit_log.specs.declared.refusal.Refusal.{Refusal}
-use Rattle.edit_log.specs.History.{Grammar, after}
+use Rattle.edit_log.specs.History.{Grammar, after_edit}
 use Rattle.edit_log.specs.Verdict.{verdict}
 use Rattle.edit_log.specs.Tokens.{tokens, no_token, too_many, Tokenizes}
 use Rattle.isg_scan.specs.declared.scan_error.ScanError.{ScanError}
@@ -31,15 +31,15 @@ use Rattle.replies.specs.Lines.{reply_text}
 -- ---- texts
 
 -- the scan of the text is refused for this; never since memory ran out
-abbrev pub IsRefusedFor : Grammar → List ℕ → ScanError → Type 0
-IsRefusedFor grammar text (NoToken offset) = Tokenizes grammar text (no_token offset)
-IsRefusedFor grammar text (TooManyTokens offset) = Tokenizes grammar text (too_many offset)
-IsRefusedFor grammar text NoMemory = ⊥
+abbrev pub IsScanRefusedFor : Grammar → List ℕ → ScanError → Type 0
+IsScanRefusedFor grammar text (NoToken offset) = Tokenizes grammar text (no_token offset)
+IsScanRefusedFor grammar text (TooManyTokens offset) = Tokenizes grammar text (too_many offset)
+IsScanRefusedFor grammar text NoMemory = ⊥
 
 -- the tokens of the text, or why it has none
 abbrev pub IsResult : Grammar → List ℕ → Result (List Token) ScanError → Type 0
 IsResult grammar text (Ok found) = Tokenizes grammar text (tokens found)
-IsResult grammar text (Err error) = IsRefusedFor grammar text error
+IsResult grammar text (Err error) = IsScanRefusedFor grammar text error
 
 -- how tokens of these kinds are parsed: too large by the size of the parse, or the forest, or the last place up to which a sentence can go on
 pub data IsParse (rules : List Rule) (kinds : List SymbolId) : Outcome → Type 0 where
@@ -49,7 +49,7 @@ pub data IsParse (rules : List Rule) (kinds : List SymbolId) : Outcome → Type 
 
 -- how the text is parsed: its scan is refused, or its tokens are parsed
 pub data IsOutcome (grammar : Grammar) (text : List ℕ) : Outcome → Type 0 where
-  scan : {error : ScanError} → IsRefusedFor grammar text error → IsOutcome grammar text (Scan error)
+  scan : {error : ScanError} → IsScanRefusedFor grammar text error → IsOutcome grammar text (Scan error)
   parse : {found : List Token} {outcome : Outcome} → Tokenizes grammar text (tokens found) → IsParse grammar.rules (kinds_of found) outcome
       → IsOutcome grammar text outcome
 
@@ -65,7 +65,7 @@ pub data IsReply (grammar : Grammar) : Command → Reply → Type 0 where
 
 -- an edit that is taken changes the grammar, and a refused one leaves it
 abbrev pub unless_refused : Option Refusal → Grammar → AnEdit → Grammar
-unless_refused None grammar edit = after grammar edit
+unless_refused None grammar edit = after_edit grammar edit
 unless_refused (Some why) grammar edit = grammar
 
 -- the grammar after a command

@@ -6,7 +6,7 @@ ghost use Rattle.edit_log.specs.declared.limits.TheConstants.{TOKEN_LIMIT};
 ghost use Rattle.edit_log.specs.Facts.{IsWellFormed};
 ghost use Rattle.edit_log.specs.Tokens.{tokens, Tokenizes};
 ghost use Rattle.isg_scan.specs.declared.scanning.TheConstants.{SCAN_LIMIT};
-ghost use Rattle.isg_scan.specs.Answers.{EndsWith};
+ghost use Rattle.isg_scan.specs.Answers.{IsScanEnd};
 ghost use Rattle.rekers.specs.Answers.{kinds_of};
 ghost use Rattle.replies.specs.Replies.{IsParse, IsOutcome, IsResult};
 
@@ -33,7 +33,7 @@ fn scan_with<L: Ledger>(
     requires some { 0 < L.parts }
     requires short { length text.now ≤ SCAN_LIMIT }
     ensures tokens { IfOk result (λ found. Tokenizes grammar.now.grammar text.now (tokens found.items)) }
-    ensures refused { IfErr result (EndsWith grammar.now.grammar text.now) }
+    ensures refused { IfErr result (IsScanEnd grammar.now.grammar text.now) }
 {
     let mut graph = PrivateGraph::new(alloc, grammar)?;
     let mut steps = Steps::<L>::new(blank);
@@ -44,7 +44,7 @@ fn scan_with<L: Ledger>(
 fn scan_text(alloc: Global, grammar: &Grammar, text: &[u8]) -> Result<Vec<Token>, ScanError>
     requires { length text.now ≤ SCAN_LIMIT }
     ensures tokens { IfOk result (λ found. Tokenizes grammar.now.grammar text.now (tokens found.items)) }
-    ensures refused { IfErr result (EndsWith grammar.now.grammar text.now) }
+    ensures refused { IfErr result (IsScanEnd grammar.now.grammar text.now) }
 {
     scan_with::<Brand>(alloc, grammar, text, Blank::new(1))
 }

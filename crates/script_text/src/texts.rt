@@ -1,7 +1,7 @@
 //! The text that a line of a script writes with escapes.
 
 ghost use Rattle.std.specs.Prelude.{◌≡◌, ◌<◌, length, IfOk, IfSome, MatchOption, option_map, Some, None};
-ghost use Rattle.script_text.specs.Texts.{unescaped_byte, after_byte, text_written};
+ghost use Rattle.script_text.specs.Texts.{unescaped_byte, with_byte_before, text_written};
 
 use std::alloc::{AllocError, Global};
 
@@ -24,7 +24,7 @@ fn read_byte(written: &[u8]) -> Option<(u8, &[u8])>
     requires { 0 < length written.now }
     ensures shorter { IfSome result (λ read. length read.1.now < length written.now) }
     ensures reads { MatchOption result (text_written written.now ≡ None)
-        (λ read. text_written written.now ≡ after_byte (Some read.0) (text_written read.1.now)) }
+        (λ read. text_written written.now ≡ with_byte_before (Some read.0) (text_written read.1.now)) }
 {
     match written {
         [b'\\', letter, rest @ ..] => match escaped(*letter) {

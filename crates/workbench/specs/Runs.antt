@@ -33,7 +33,7 @@ pub data StopsInOutput (old new : Option (List ℕ)) (script : List ℕ) : Type 
   of_refusal : (bad : BadScript) → IsFirstBad script bad → TakesProperPrefix old new (bad_line bad) → StopsInOutput old new script
 
 -- the source was read to its end, and gave this script, which is not too long
-pub record IsReadWhole (left_old left_new : Option (List ℕ)) (script : List ℕ) : Type 0 where
+pub record IsSourceRead (left_old left_new : Option (List ℕ)) (script : List ℕ) : Type 0 where
   pub given : IsKnownAs left_old script
   pub ended : IsKnownAs left_new []
   pub short : length script ≤ SCRIPT_LIMIT
@@ -41,7 +41,7 @@ pub record IsReadWhole (left_old left_new : Option (List ℕ)) (script : List �
 -- the source was read to its end, its script is good, and the sink took exactly its output
 pub record RunsWhole (left_old left_new taken_old taken_new : Option (List ℕ)) : Type 0 where
   pub script : List ℕ
-  pub is_read : IsReadWhole left_old left_new script
+  pub is_read : IsSourceRead left_old left_new script
   pub read : Script
   pub good : SpellsScript script read
   pub output : List ℕ
@@ -51,7 +51,7 @@ pub record RunsWhole (left_old left_new taken_old taken_new : Option (List ℕ))
 -- the source was read to its end, its script has a first bad line, and the sink took exactly the line for it
 pub record RunsBad (left_old left_new taken_old taken_new : Option (List ℕ)) : Type 0 where
   pub script : List ℕ
-  pub is_read : IsReadWhole left_old left_new script
+  pub is_read : IsSourceRead left_old left_new script
   pub bad : BadScript
   pub first : IsFirstBad script bad
   pub taken : Takes taken_old taken_new (bad_line bad)
@@ -59,5 +59,5 @@ pub record RunsBad (left_old left_new taken_old taken_new : Option (List ℕ)) :
 -- the source was read to its end, and the sink took a prefix of its script's output
 pub record StopsEarly (left_old left_new taken_old taken_new : Option (List ℕ)) : Type 0 where
   pub script : List ℕ
-  pub is_read : IsReadWhole left_old left_new script
+  pub is_read : IsSourceRead left_old left_new script
   pub taken : StopsInOutput taken_old taken_new script

@@ -1,6 +1,6 @@
 use Rattle.std.proofs.Common.{◌≡◌, ◌++◌, ◌∷◌, [], ◌+◌, None, Some, length, position, sym, ap, ◌∙◌, arith}
 use Rattle.std.proofs.lemmas.List.{map-append, length-map}
-use Rattle.grammar_text.specs.Sameness.{symbol_eq}
+use Rattle.grammar_text.specs.Sameness.{spelling_eq}
 use Rattle.forest.specs.declared.symbols.SymbolId.{SymbolId}
 use Rattle.edit_log.specs.declared.fresh_symbols.FreshSymbol.{FreshSymbol}
 use Rattle.edit_log.specs.Replicas.{symbols_in}
@@ -25,8 +25,8 @@ fresh_one : (c : goal.After-len)
 fresh_one c =
     let s = c.args.symbol.now in
     let fresh = c.args.fresh.now.items in
-    let none : position (symbol_eq s) c.args.known.now.keys ≡ None = sym c.get_index_of.ensures.index ∙ c.in_default.is in
-    let at : position (symbol_eq s) (symbols_in fresh) ≡ Some c.in-Some-place_in.place = ap (λ xs. position (symbol_eq s) (symbols_in xs))
+    let none : position (spelling_eq s) c.args.known.now.keys ≡ None = sym c.get_index_of.ensures.index ∙ c.in_default.is in
+    let at : position (spelling_eq s) (symbols_in fresh) ≡ Some c.in-Some-place_in.place = ap (λ xs. position (spelling_eq s) (symbols_in xs))
     (sym c.deref.ensures.value) ∙ sym c.place_in.ensures ∙ c.in-Some-place_in.is in
     let one = in_fresh c.args.known.now.keys (symbols_in fresh) s c.in-Some-place_in.place none at in
     record { list = one.list; place = ap (λ n. n + c.in-Some-place_in.place) c.len.ensures.len ∙ one.place }
@@ -45,8 +45,8 @@ new_one c =
     let known = c.args.known.now.keys in
     let fresh = c.args.fresh.now.items in
     let one = c.in_ok-fresh.field-0 in
-    let none : position (symbol_eq s) known ≡ None = sym c.get_index_of.ensures.index ∙ c.in_default.is in
-    let absent : position (symbol_eq s) (symbols_in fresh) ≡ None = ap (λ xs. position (symbol_eq s) (symbols_in xs)) (sym c.deref.ensures.value)
+    let none : position (spelling_eq s) known ≡ None = sym c.get_index_of.ensures.index ∙ c.in_default.is in
+    let absent : position (spelling_eq s) (symbols_in fresh) ≡ None = ap (λ xs. position (spelling_eq s) (symbols_in xs)) (sym c.deref.ensures.value)
     ∙ sym c.place_in.ensures ∙ c.in_default-place_in.is in
     let items : symbols_in c.push.new.self.items ≡ symbols_in fresh ++ s ∷ [] =
     ap symbols_in c.in_ok-push.ensures.items ∙ map-append (λ (one : FreshSymbol). one.symbol) fresh (one ∷ []) ∙ ap (λ x. symbols_in fresh

@@ -3,7 +3,8 @@ use Rattle.std.proofs.lemmas.List.{take_more}
 use Rattle.std.proofs.lemmas.Option.{slice_get-get_or}
 use Rattle.gss.specs.declared.stacks.NodeId.{NodeId}
 use Rattle.gss.specs.declared.paths.Path.{Path}
-use Rattle.gss.specs.Paths.{node_id, Leads, AreAll}
+use Rattle.forest.specs.Distinct.{AreAll}
+use Rattle.gss.specs.Paths.{node_id, Leads}
 use Rattle.gss.specs.Views.{links_in, AreLonger}
 use Rattle.gss.proofs.PathLists.{contains_at, not_before, longer_more}
 use Rattle.gss.proofs.paths.longer.Goals as goal

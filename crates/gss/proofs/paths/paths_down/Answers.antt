@@ -1,6 +1,7 @@
 use Rattle.std.proofs.Common.{List, [], ◌∷◌, ◌++◌, Contains, sym, ap, ◌∙◌, subst, arith}
 use Rattle.gss.specs.declared.paths.Path.{Path}
-use Rattle.gss.specs.Paths.{IsPathDown, AreAll}
+use Rattle.forest.specs.Distinct.{AreAll}
+use Rattle.gss.specs.Paths.{IsPathDown}
 use Rattle.gss.specs.Views.{links_in}
 use Rattle.gss.proofs.PathLists.{path_length, one_path, none_longer, paths_more}
 use Rattle.gss.proofs.paths.paths_down.Goals as goal

@@ -1,5 +1,6 @@
 use Rattle.gss.specs.declared.paths.Path.{Path}
-use Rattle.gss.specs.Paths.{IsPathDown, AreAll}
+use Rattle.forest.specs.Distinct.{AreAll}
+use Rattle.gss.specs.Paths.{IsPathDown}
 use Rattle.gss.specs.Views.{links_in}
 use Rattle.gss.proofs.paths.paths_down.Given as goal
 

@@ -1,7 +1,8 @@
 use Rattle.std.proofs.Common.{List, Option, Contains, sym, subst}
 use Rattle.gss.specs.declared.paths.Path.{Path}
 use Rattle.gss.specs.declared.stacks.LinkId.{LinkId}
-use Rattle.gss.specs.Paths.{HasStep, IsPathOf, AreAll}
+use Rattle.forest.specs.Distinct.{AreAll}
+use Rattle.gss.specs.Paths.{HasStep, IsPathOf}
 use Rattle.gss.specs.Views.{links_in}
 use Rattle.gss.proofs.PathLists.{all_through}
 use Rattle.gss.proofs.paths.paths_through.Goals as goal

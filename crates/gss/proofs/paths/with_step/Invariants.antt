@@ -1,6 +1,7 @@
 use Rattle.std.proofs.Common.{Contains, take}
 use Rattle.gss.specs.declared.paths.Path.{Path}
-use Rattle.gss.specs.Paths.{HasStep, AreAll}
+use Rattle.forest.specs.Distinct.{AreAll}
+use Rattle.gss.specs.Paths.{HasStep}
 use Rattle.gss.proofs.paths.with_step.Given as goal
 
 abbrev pub invariant-loop-path : goal.invariant-loop-path

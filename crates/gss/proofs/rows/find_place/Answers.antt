@@ -2,7 +2,7 @@ use Rattle.std.proofs.Common.{inl, inr, arith}
 use Rattle.std.proofs.lemmas.List.{length-map}
 use Rattle.std.proofs.lemmas.Option.{slice_get_within}
 use Rattle.gss.specs.declared.rows.NodeRow.{NodeRow}
-use Rattle.gss.specs.PlaceGraphs.{place_of}
+use Rattle.gss.specs.PlaceGraphs.{place_with}
 use Rattle.gss.specs.Rows.{places}
 use Rattle.gss.proofs.Searching.{none_yet}
 use Rattle.gss.proofs.rows.find_place.Goals as goal
@@ -19,6 +19,6 @@ loop-number-preserved c = elim c.else-row-at.branch [
 pub returns-clause-none : goal.returns-clause-none
 returns-clause-none c = λ (n, at). c.loop-number.invariant n (omega (
   arith,
-  slice_get_within (places c.args.nodes.now) n (place_of c.args.state c.args.at) at,
+  slice_get_within (places c.args.nodes.now) n (place_with c.args.state c.args.at) at,
   length-map c.args.nodes.now (λ (r : NodeRow). r.place),
 )) at

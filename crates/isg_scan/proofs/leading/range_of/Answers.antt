@@ -1,7 +1,7 @@
 use Rattle.std.proofs.Common.{inl, inr, ◌<◌, [], ◌∷◌, ◌++◌, length, take, Contains, sym, ap, ◌∙◌, subst, arith}
 use Rattle.std.proofs.lemmas.List.{take_more, take_all}
 use Rattle.std.proofs.lemmas.List.Elements.{Contains-push_cases}
-use Rattle.isg_scan.specs.States.{HasByte}
+use Rattle.isg_scan.specs.States.{IsInRange}
 use Rattle.isg_scan.proofs.leading.range_of.Goals as goal
 use Rattle.isg_scan.proofs.leading.range_of.Goals.{else-range-byte-via-then-range-byte+else-byte-range, else-range-byte-via-else-range-byte}
 
@@ -16,10 +16,10 @@ loop-range-preserved c = λ range there has.
         | else-range-byte-via-then-range-byte+else-byte-range w ↦ absurd (omega (
           arith,
           w.if-byte-range.false,
-          subst (λ r. HasByte r c.args.byte) (sym
+          subst (λ r. IsInRange r c.args.byte) (sym
               same) has,
         ))
-        | else-range-byte-via-else-range-byte w ↦ absurd (omega (arith, w.if-range-byte.false, subst (λ r. HasByte r c.args.byte) (sym same) has))
+        | else-range-byte-via-else-range-byte w ↦ absurd (omega (arith, w.if-range-byte.false, subst (λ r. IsInRange r c.args.byte) (sym same) has))
       ]
     ]
 

@@ -1,9 +1,9 @@
 use Rattle.std.proofs.Common.{drop, sym, subst}
 use Rattle.live_graph.specs.Cost.{RisesAsCost}
-use Rattle.isg_scan.specs.Answers.{EndsWith}
+use Rattle.isg_scan.specs.Answers.{IsScanEnd}
 use Rattle.isg_scan.specs.Asked.{AsksOnly}
-use Rattle.isg_scan.specs.Reach.{Meets}
-use Rattle.isg_scan.specs.Walks.{IsWalked}
+use Rattle.isg_scan.specs.Reach.{MeetsState}
+use Rattle.isg_scan.specs.Walks.{IsPieceWalked}
 use Rattle.isg_scan.proofs.ScannedTexts.{rest_is}
 use Rattle.isg_scan.proofs.Refusals.{if_err_from, refusal_ends, refusal_unless}
 use Rattle.isg_scan.proofs.Scans.{IsScanning, AsksReached, scan_start, scan_ends, all_asks, scan_stops, scan_full, scan_more}
@@ -26,9 +26,9 @@ returns-in_default-clause-refused g c =
     let text = c.args.text.now in
     let offset = c.pieces.offset in
     let rest = rest_is text offset in
-    let walked = subst (λ t. IsWalked new.grammar new.scans.keys t c.in_ok-length.field-0) rest c.in_ok-length.ensures.walked in
-    let asks : AsksOnly (Meets now.grammar (drop offset text)) now new c.pieces.steps c.longest.new.steps =
-    subst (λ t. AsksOnly (Meets now.grammar t) now new c.pieces.steps c.longest.new.steps) rest c.in_ok-length.ensures.asks in
+    let walked = subst (λ t. IsPieceWalked new.grammar new.scans.keys t c.in_ok-length.field-0) rest c.in_ok-length.ensures.walked in
+    let asks : AsksOnly (MeetsState now.grammar (drop offset text)) now new c.pieces.steps c.longest.new.steps =
+    subst (λ t. AsksOnly (MeetsState now.grammar t) now new c.pieces.steps c.longest.new.steps) rest c.in_ok-length.ensures.asks in
     (scan_stops old text now c.pieces.states.keys.keys c.pieces.states.accepted.items c.pieces.states.table.items offset c.pieces.tokens.items
     c.args.steps.now c.pieces.steps c.pieces.invariant new c.longest.new.steps
     c.in_ok-length.field-0 walked asks c.in_ok-length.ensures.stands c.in_ok-length.ensures.never_back c.pieces-test.true c.in_default.is).0
@@ -41,9 +41,9 @@ returns-in_default-clause-asked g c =
     let text = c.args.text.now in
     let offset = c.pieces.offset in
     let rest = rest_is text offset in
-    let walked = subst (λ t. IsWalked new.grammar new.scans.keys t c.in_ok-length.field-0) rest c.in_ok-length.ensures.walked in
-    let asks : AsksOnly (Meets now.grammar (drop offset text)) now new c.pieces.steps c.longest.new.steps =
-    subst (λ t. AsksOnly (Meets now.grammar t) now new c.pieces.steps c.longest.new.steps) rest c.in_ok-length.ensures.asks in
+    let walked = subst (λ t. IsPieceWalked new.grammar new.scans.keys t c.in_ok-length.field-0) rest c.in_ok-length.ensures.walked in
+    let asks : AsksOnly (MeetsState now.grammar (drop offset text)) now new c.pieces.steps c.longest.new.steps =
+    subst (λ t. AsksOnly (MeetsState now.grammar t) now new c.pieces.steps c.longest.new.steps) rest c.in_ok-length.ensures.asks in
     (scan_stops old text now c.pieces.states.keys.keys c.pieces.states.accepted.items c.pieces.states.table.items offset c.pieces.tokens.items
     c.args.steps.now c.pieces.steps c.pieces.invariant new c.longest.new.steps
     c.in_ok-length.field-0 walked asks c.in_ok-length.ensures.stands c.in_ok-length.ensures.never_back c.pieces-test.true c.in_default.is).1
@@ -56,9 +56,9 @@ returns-in_default-clause-steps g c =
     let text = c.args.text.now in
     let offset = c.pieces.offset in
     let rest = rest_is text offset in
-    let walked = subst (λ t. IsWalked new.grammar new.scans.keys t c.in_ok-length.field-0) rest c.in_ok-length.ensures.walked in
-    let asks : AsksOnly (Meets now.grammar (drop offset text)) now new c.pieces.steps c.longest.new.steps =
-    subst (λ t. AsksOnly (Meets now.grammar t) now new c.pieces.steps c.longest.new.steps) rest c.in_ok-length.ensures.asks in
+    let walked = subst (λ t. IsPieceWalked new.grammar new.scans.keys t c.in_ok-length.field-0) rest c.in_ok-length.ensures.walked in
+    let asks : AsksOnly (MeetsState now.grammar (drop offset text)) now new c.pieces.steps c.longest.new.steps =
+    subst (λ t. AsksOnly (MeetsState now.grammar t) now new c.pieces.steps c.longest.new.steps) rest c.in_ok-length.ensures.asks in
     (all_asks old text now c.pieces.states.keys.keys c.pieces.states.accepted.items c.pieces.states.table.items offset c.pieces.tokens.items
     c.args.steps.now c.pieces.steps c.pieces.invariant new c.longest.new.steps
     c.in_ok-length.field-0 walked asks c.in_ok-length.ensures.stands c.in_ok-length.ensures.never_back).rises
@@ -71,10 +71,10 @@ returns-in_err-take_piece-clause-refused g c =
     let text = c.args.text.now in
     let offset = c.pieces.offset in
     let rest = rest_is text offset in
-    let walked = subst (λ t. IsWalked new.grammar new.scans.keys t c.in_ok-length.field-0) rest c.in_ok-length.ensures.walked in
-    let asks : AsksOnly (Meets now.grammar (drop offset text)) now new c.pieces.steps c.longest.new.steps =
-    subst (λ t. AsksOnly (Meets now.grammar t) now new c.pieces.steps c.longest.new.steps) rest c.in_ok-length.ensures.asks in
-    if_err_from c.from_residual-in_err-take_piece.result c.in_err-take_piece.field-0.0 (EndsWith old.grammar text) c.from_residual-in_err-take_piece.ensures.1
+    let walked = subst (λ t. IsPieceWalked new.grammar new.scans.keys t c.in_ok-length.field-0) rest c.in_ok-length.ensures.walked in
+    let asks : AsksOnly (MeetsState now.grammar (drop offset text)) now new c.pieces.steps c.longest.new.steps =
+    subst (λ t. AsksOnly (MeetsState now.grammar t) now new c.pieces.steps c.longest.new.steps) rest c.in_ok-length.ensures.asks in
+    if_err_from c.from_residual-in_err-take_piece.result c.in_err-take_piece.field-0.0 (IsScanEnd old.grammar text) c.from_residual-in_err-take_piece.ensures.1
     (refusal_ends old.grammar text c.in-Some.kind offset c.pieces.tokens.items c.in_err-take_piece.field-0.0 c.in_err-take_piece.ensures.refused
     (λ symbol kind all. (scan_full old text now c.pieces.states.keys.keys c.pieces.states.accepted.items c.pieces.states.table.items offset
     c.pieces.tokens.items c.args.steps.now c.pieces.steps c.pieces.invariant new c.longest.new.steps
@@ -89,9 +89,9 @@ returns-in_err-take_piece-clause-asked g c =
     let text = c.args.text.now in
     let offset = c.pieces.offset in
     let rest = rest_is text offset in
-    let walked = subst (λ t. IsWalked new.grammar new.scans.keys t c.in_ok-length.field-0) rest c.in_ok-length.ensures.walked in
-    let asks : AsksOnly (Meets now.grammar (drop offset text)) now new c.pieces.steps c.longest.new.steps =
-    subst (λ t. AsksOnly (Meets now.grammar t) now new c.pieces.steps c.longest.new.steps) rest c.in_ok-length.ensures.asks in
+    let walked = subst (λ t. IsPieceWalked new.grammar new.scans.keys t c.in_ok-length.field-0) rest c.in_ok-length.ensures.walked in
+    let asks : AsksOnly (MeetsState now.grammar (drop offset text)) now new c.pieces.steps c.longest.new.steps =
+    subst (λ t. AsksOnly (MeetsState now.grammar t) now new c.pieces.steps c.longest.new.steps) rest c.in_ok-length.ensures.asks in
     refusal_unless old.grammar text c.in-Some.kind offset c.pieces.tokens.items c.from_residual-in_err-take_piece.result c.in_err-take_piece.field-0.0
     (AsksReached old new text) c.from_residual-in_err-take_piece.ensures c.in_err-take_piece.ensures.refused
     (λ symbol kind all. (scan_full old text now c.pieces.states.keys.keys c.pieces.states.accepted.items c.pieces.states.table.items offset
@@ -107,9 +107,9 @@ returns-in_err-take_piece-clause-steps g c =
     let text = c.args.text.now in
     let offset = c.pieces.offset in
     let rest = rest_is text offset in
-    let walked = subst (λ t. IsWalked new.grammar new.scans.keys t c.in_ok-length.field-0) rest c.in_ok-length.ensures.walked in
-    let asks : AsksOnly (Meets now.grammar (drop offset text)) now new c.pieces.steps c.longest.new.steps =
-    subst (λ t. AsksOnly (Meets now.grammar t) now new c.pieces.steps c.longest.new.steps) rest c.in_ok-length.ensures.asks in
+    let walked = subst (λ t. IsPieceWalked new.grammar new.scans.keys t c.in_ok-length.field-0) rest c.in_ok-length.ensures.walked in
+    let asks : AsksOnly (MeetsState now.grammar (drop offset text)) now new c.pieces.steps c.longest.new.steps =
+    subst (λ t. AsksOnly (MeetsState now.grammar t) now new c.pieces.steps c.longest.new.steps) rest c.in_ok-length.ensures.asks in
     let rises : RisesAsCost old new c.args.steps.now c.longest.new.steps = (all_asks old text now c.pieces.states.keys.keys c.pieces.states.accepted.items
     c.pieces.states.table.items offset c.pieces.tokens.items c.args.steps.now c.pieces.steps c.pieces.invariant new c.longest.new.steps
     c.in_ok-length.field-0 walked asks c.in_ok-length.ensures.stands c.in_ok-length.ensures.never_back).rises in
@@ -125,9 +125,9 @@ pieces-preserved g c =
     let text = c.args.text.now in
     let offset = c.pieces.offset in
     let rest = rest_is text offset in
-    let walked = subst (λ t. IsWalked new.grammar new.scans.keys t c.in_ok-length.field-0) rest c.in_ok-length.ensures.walked in
-    let asks : AsksOnly (Meets now.grammar (drop offset text)) now new c.pieces.steps c.longest.new.steps =
-    subst (λ t. AsksOnly (Meets now.grammar t) now new c.pieces.steps c.longest.new.steps) rest c.in_ok-length.ensures.asks in
+    let walked = subst (λ t. IsPieceWalked new.grammar new.scans.keys t c.in_ok-length.field-0) rest c.in_ok-length.ensures.walked in
+    let asks : AsksOnly (MeetsState now.grammar (drop offset text)) now new c.pieces.steps c.longest.new.steps =
+    subst (λ t. AsksOnly (MeetsState now.grammar t) now new c.pieces.steps c.longest.new.steps) rest c.in_ok-length.ensures.asks in
     scan_more old text now c.pieces.states.keys.keys c.pieces.states.accepted.items c.pieces.states.table.items offset c.pieces.tokens.items
     c.args.steps.now c.pieces.steps c.pieces.invariant new c.longest.new.steps
     c.in_ok-length.field-0 walked asks c.in_ok-length.ensures.stands c.in_ok-length.ensures.never_back c.in-Some.length c.in-Some.kind c.in-Some.is

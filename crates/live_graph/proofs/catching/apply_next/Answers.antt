@@ -1,5 +1,5 @@
 use Rattle.std.proofs.Common.{◌≡◌, ◌∙◌, ap, subst, sym}
-use Rattle.edit_log.specs.History.{after}
+use Rattle.edit_log.specs.History.{after_edit}
 use Rattle.edit_log.specs.Verdict.{IsAccepted}
 use Rattle.live_graph.proofs.NextEdits.{IsNextEdit, next_edit, next_accepted, next_behind}
 use Rattle.live_graph.proofs.catching.apply_next.Goals as goal
@@ -20,4 +20,4 @@ returns-clause-applied g c =
     let next = next_edit _ _ _ c.requires.next c.log_entry.result c.log_entry.ensures.entry in
     let ready = c.in_ok-ready.ensures.ready next.edit next.words_are (next_accepted _ _ _ c.requires.next c.log_entry.result next) in
     next_behind _ _ _ c.requires.next c.log_entry.result next c.apply.new.self.grammar
-    (c.apply.ensures next.edit ready ∙ ap (λ grammar. after grammar next.edit) c.in_ok-ready.ensures.history)
+    (c.apply.ensures next.edit ready ∙ ap (λ grammar. after_edit grammar next.edit) c.in_ok-ready.ensures.history)

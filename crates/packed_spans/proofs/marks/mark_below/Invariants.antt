@@ -1,4 +1,4 @@
-use Rattle.packed_spans.specs.Marks.{IsBelow, MarksExactly}
+use Rattle.packed_spans.specs.Marks.{IsPartBelow, MarksExactly}
 use Rattle.packed_spans.proofs.Links.{IsAlong}
 use Rattle.packed_spans.proofs.marks.mark_below.Given as goal
 
@@ -6,7 +6,7 @@ use Rattle.packed_spans.proofs.marks.mark_below.Given as goal
 abbrev pub invariant-loop-link : goal.invariant-loop-link
 invariant-loop-link l = record {
   along : IsAlong l.table.splits.items l.number l.link;
-  marks : MarksExactly (IsBelow l.table.splits.items l.table.parts.items l.number l.link) l.limit
+  marks : MarksExactly (IsPartBelow l.table.splits.items l.table.parts.items l.number l.link) l.limit
       l.initial.marks.marked.items l.initial.marks.waiting.items l.marks.marked.items l.marks.waiting.items;
 }
 

@@ -1,6 +1,6 @@
 use Rattle.std.proofs.Common.{inl, inr, arith}
 use Rattle.std.proofs.lemmas.List.{length-map}
-use Rattle.packed_spans.specs.Tables.{span_of}
+use Rattle.packed_spans.specs.Tables.{row_span}
 use Rattle.packed_spans.proofs.Lists.{contains_at}
 use Rattle.packed_spans.proofs.Parts.{no_parts_marked, part_marked, both_marked}
 use Rattle.packed_spans.proofs.Rows.{first_known, second_known}
@@ -25,7 +25,7 @@ returns-then-row-eq-INLINE_PARTS c =
 pub mark_part-requires-in-loop-index : goal.mark_part-requires-in-loop-index
 mark_part-requires-in-loop-index c = elim (c.requires.stored.are_parts c.part.result (contains_at _ _ _ c.part.ensures)) [
   | inl token ↦ inl token
-  | inr within ↦ inr (omega (arith, length-map c.args.table.now.spans.items span_of))
+  | inr within ↦ inr (omega (arith, length-map c.args.table.now.spans.items row_span))
 ]
 
 pub loop-index-init : goal.loop-index-init

@@ -1,7 +1,7 @@
 use Rattle.std.proofs.Common.{subst, sym, ap, ◌∙◌}
 use Rattle.std.specs.Option.{option_flatten}
 use Rattle.edit_log.specs.declared.ready.Plan.TheVariants as planned
-use Rattle.edit_log.specs.History.{after}
+use Rattle.edit_log.specs.History.{after_edit}
 use Rattle.edit_log.specs.Replicas.{Replica, IsApplicable}
 use Rattle.edit_log.specs.Agreement.{grammar_in}
 use Rattle.edit_log.proofs.AgreesAfterAddDefinition.{symbols_apart, definition_come, agrees_definition_added}
@@ -30,4 +30,4 @@ returns c edit applicable =
     definition_come c.self.inside.version c.self.inside.table.symbols.keys c.add_symbols.new.self.symbols.keys c.self.inside.rules.rules
     c.self.inside.definitions.items c.push_reserved.new.self.items edit c.args.plan
     g.plan c.add_symbols.ensures.symbols c.push_reserved.ensures.items
-    ∙ ap (λ (r : Replica). after r.grammar edit) c.self.view_is
+    ∙ ap (λ (r : Replica). after_edit r.grammar edit) c.self.view_is

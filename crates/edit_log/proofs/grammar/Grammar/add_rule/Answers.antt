@@ -14,7 +14,7 @@ use Rattle.std.specs.Str.{bytes_eq}
 use Rattle.grammar_text.specs.Sameness.{rule_eq}
 use Rattle.grammar_text.specs.declared.edit.Edit.TheVariants.{AddRule}
 use Rattle.forest.specs.declared.rules.Rules.{Rules}
-use Rattle.edit_log.specs.History.{Grammar, after}
+use Rattle.edit_log.specs.History.{Grammar, after_edit}
 use Rattle.edit_log.specs.Facts.{IsNumber}
 use Rattle.edit_log.specs.Lookups.{ListsDefinitions}
 use Rattle.edit_log.specs.Lists.{live_number, occurrences, IsLiveBy}
@@ -118,4 +118,4 @@ returns c edit applicable =
     let add = to_add _ edit c.args.plan app in
     after_rule _ c.args.plan c.add_symbols.new.self.symbols.keys c.with_rule.result.rules add c.add_symbols.ensures.symbols (c.with_rule.ensures.rules
     ∙ ap (λ (r : Rules). r.rules ++ c.args.plan.live ∷ []) c.replace-rules.ensures.value)
-    ∙ ap (after _) (sym (edit_to_add _ edit c.args.plan app)) ∙ ap (λ (r : Replica). after r.grammar edit) c.self.view_is
+    ∙ ap (after_edit _) (sym (edit_to_add _ edit c.args.plan app)) ∙ ap (λ (r : Replica). after_edit r.grammar edit) c.self.view_is

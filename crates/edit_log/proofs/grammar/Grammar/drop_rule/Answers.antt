@@ -12,7 +12,7 @@ use Rattle.edit_log.specs.Rows.{lefts_in, uses_in, literals_in}
 use Rattle.edit_log.specs.declared.symbol_table.Row.{Row}
 use Rattle.edit_log.specs.Rows.{lefts_in, uses_in, literals_in}
 use Rattle.edit_log.specs.declared.ready.Plan.TheVariants as planned
-use Rattle.edit_log.specs.History.{after}
+use Rattle.edit_log.specs.History.{after_edit}
 use Rattle.edit_log.specs.Lookups.{rule_of, ListsDefinitions}
 use Rattle.edit_log.specs.Replicas.{Replica, IsApplicable}
 use Rattle.edit_log.specs.Lists.{under, live_number, occurrences, IsLiveBy}
@@ -117,4 +117,4 @@ returns c edit applicable =
     rule_gone c.self.inside.version c.self.inside.table.symbols.keys c.self.inside.rules.rules c.without_rule-rules.result.0.rules
     c.self.inside.definitions.items edit c.args.plan c.in-Some.gone
     c.self.invariant.well_formed g.accepted g.plan gone rules
-    ∙ ap (λ (r : Replica). after r.grammar edit) c.self.view_is
+    ∙ ap (λ (r : Replica). after_edit r.grammar edit) c.self.view_is

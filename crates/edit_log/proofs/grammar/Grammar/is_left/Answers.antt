@@ -2,7 +2,7 @@ use Rattle.std.proofs.Common.{◌≡◌, ◌<◌, ◌==◌, length, slice_get, S
 use Rattle.std.proofs.lemmas.List.{length-map}
 use Rattle.std.proofs.lemmas.Option.{slice_get_within}
 use Rattle.grammar_text.specs.declared.symbol.Symbol.TheVariants.{Named}
-use Rattle.grammar_text.specs.Sameness.{symbol_eq}
+use Rattle.grammar_text.specs.Sameness.{spelling_eq}
 use Rattle.edit_log.specs.declared.symbol_table.Row.{Row}
 use Rattle.edit_log.specs.Rows.{lefts_in}
 use Rattle.edit_log.specs.declared.symbol_table.Row.{Row}
@@ -19,7 +19,7 @@ pub returns-in-Some : goal.returns-in-Some
 returns-in-Some c =
     let g : Grammar = grammar_in c.self.inside.version c.self.inside.table.symbols.keys c.self.inside.rules.rules c.self.inside.definitions.items in
     let at : slice_get g.symbols c.in-Some.place ≡ Some (Named c.args.name.now) =
-    found_at g.symbols (Named c.args.name.now) c.in-Some.place (ap (λ n. position (symbol_eq (Named n)) g.symbols) (sym c.in_ok-clone.ensures.cases)
+    found_at g.symbols (Named c.args.name.now) c.in-Some.place (ap (λ n. position (spelling_eq (Named n)) g.symbols) (sym c.in_ok-clone.ensures.cases)
     ∙ sym c.get_index_of.ensures.index ∙ c.in-Some.is) in
     let rows = c.self.inside.table.rows.items in
     let row = c.index.result.now in
@@ -37,6 +37,6 @@ returns-in-Some c =
 pub returns : goal.returns
 returns c =
     let g : Grammar = grammar_in c.self.inside.version c.self.inside.table.symbols.keys c.self.inside.rules.rules c.self.inside.definitions.items in
-    left_unknown g c.args.name.now c.self.invariant.well_formed (ap (λ n. position (symbol_eq (Named n)) g.symbols) (sym c.in_ok-clone.ensures.cases)
+    left_unknown g c.args.name.now c.self.invariant.well_formed (ap (λ n. position (spelling_eq (Named n)) g.symbols) (sym c.in_ok-clone.ensures.cases)
     ∙ sym c.get_index_of.ensures.index ∙ c.in-None.is)
     ∙ ap (λ (r : Replica). is_left r.grammar c.args.name.now) c.self.view_is

@@ -9,7 +9,7 @@ use Rattle.std.proofs.Common.{append-nil}
 use Rattle.grammar_text.specs.declared.symbol.Symbol.TheVariants.{Named}
 use Rattle.std.specs.List.{AllByRecursion}
 use Rattle.edit_log.specs.Symbols.{number_of, with_symbol}
-use Rattle.edit_log.specs.Replicas.{symbols_in, IsFresh}
+use Rattle.edit_log.specs.Replicas.{symbols_in, IsFreshSymbol}
 use Rattle.edit_log.proofs.Planning.{definition_planned}
 use Rattle.edit_log.proofs.TouchLemmas.{touch_definition_added}
 use Rattle.edit_log.proofs.grammar.Grammar.plan_definition.Goals as goal
@@ -20,8 +20,8 @@ returns-clause-plan c =
     let grown : g.symbols ++ symbols_in c.number_in.new.fresh.items ≡ with_symbol g.symbols (Named c.args.definition.name) =
     c.in_ok-symbol.ensures.grown ∙ ap (λ fs. with_symbol (g.symbols ++ symbols_in fs) (Named c.in_ok-clone.field-0)) c.new-fresh.ensures.items ∙ ap
     (λ ss. with_symbol ss (Named c.in_ok-clone.field-0)) (append-nil g.symbols) ∙ ap (λ n. with_symbol g.symbols (Named n)) c.in_ok-clone.ensures.cases in
-    let each : AllByRecursion IsFresh c.number_in.new.fresh.items =
-    c.number_in.ensures.fresh (subst (AllByRecursion IsFresh) (sym c.new-fresh.ensures.items) tt) in
+    let each : AllByRecursion IsFreshSymbol c.number_in.new.fresh.items =
+    c.number_in.ensures.fresh (subst (AllByRecursion IsFreshSymbol) (sym c.new-fresh.ensures.items) tt) in
     subst (λ (r : Replica). IsPlanFor r.grammar (adds c.args.is_skip c.args.definition) (plan.AddDefinition (record {
       name = c.args.definition.name;
       live =

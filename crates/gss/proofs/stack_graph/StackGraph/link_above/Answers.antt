@@ -2,7 +2,7 @@ use Rattle.std.proofs.Common.{List, IfNone, sym, subst, arith}
 use Rattle.gss.specs.declared.rows.LinkRow.{LinkRow}
 use Rattle.gss.specs.Numbers.{HasNone}
 use Rattle.gss.specs.PlaceGraphs.{PlaceGraph, LeadsToBy}
-use Rattle.gss.specs.Chains.{IsKey, TellsGreatest, AreOlders}
+use Rattle.gss.specs.Chains.{IsKeyAt, TellsGreatest, AreOlders}
 use Rattle.gss.specs.Rows.{edges, lowers, olders}
 use Rattle.gss.proofs.Reading.{no_above, above_told}
 use Rattle.gss.proofs.stack_graph.StackGraph.link_above.Goals as goal
@@ -19,7 +19,7 @@ find_above-requires-clause-older c =
 
 pub find_above-requires-clause-newest : goal.find_above-requires-clause-newest
 find_above-requires-clause-newest c =
-    subst (λ (rows : List LinkRow). TellsGreatest (IsKey (lowers (edges rows)) c.args.lower) c.index.result.now.above) (sym c.deref.ensures.value)
+    subst (λ (rows : List LinkRow). TellsGreatest (IsKeyAt (lowers (edges rows)) c.args.lower) c.index.result.now.above) (sym c.deref.ensures.value)
     (above_told c.self.inside.nodes.items c.self.inside.links.items c.self.invariant.1 c.args.lower c.index.result.now (omega (arith, c.self.inside.nodes.ok.0))
     c.index.ensures)
 

@@ -1,7 +1,7 @@
 use Rattle.std.proofs.Common.{◌≡◌, ◌+◌, [], ◌∷◌, ◌++◌, length, replicate, is_some, slice_get, sym, ap, ◌∙◌, subst}
 use Rattle.std.specs.Prelude.{if◌then◌else◌, vec_len}
 use Rattle.edit_log.proofs.Texts.{slice_get-append}
-use Rattle.isg_scan.specs.States.{IsTable, AreStates, Knows, LeadsToState}
+use Rattle.isg_scan.specs.States.{IsScanTable, AreStates, KnowsStates, LeadsToState}
 use Rattle.isg_scan.proofs.StateTables.{if_ok_more, placed, last_at, resized, table_row, state_more}
 use Rattle.isg_scan.proofs.states.States.entry_for.Goals as goal
 
@@ -36,6 +36,7 @@ returns-clause-knows c = λ asked is.
     let states : AreStates grammar (keys ++ c.args.key ∷ []) c.push.new.self.items =
     subst (AreStates grammar (keys ++ c.args.key ∷ [])) (sym c.in_ok-push.ensures.items) (state_more grammar keys c.args.self.now.accepted.items c.args.key
     c.accepted_by.result c.requires.states c.requires.marks c.accepted_by.ensures) in
-    let entries : IsTable grammar (keys ++ c.args.key ∷ []) asked c.resize.new.self.items =
-    subst (IsTable grammar (keys ++ c.args.key ∷ []) asked) (sym table) (table_row grammar keys asked c.args.key c.args.self.now.table.items is) in
-    subst (λ list. Knows grammar asked list c.push.new.self.items c.resize.new.self.items) (sym (pushed c)) (record { states = states; entries = entries })
+    let entries : IsScanTable grammar (keys ++ c.args.key ∷ []) asked c.resize.new.self.items =
+    subst (IsScanTable grammar (keys ++ c.args.key ∷ []) asked) (sym table) (table_row grammar keys asked c.args.key c.args.self.now.table.items is) in
+    subst (λ list. KnowsStates grammar asked list c.push.new.self.items c.resize.new.self.items) (sym (pushed c))
+        (record { states = states; entries = entries })

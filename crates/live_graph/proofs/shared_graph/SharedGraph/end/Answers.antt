@@ -1,10 +1,10 @@
 use Rattle.std.proofs.Common.{subst}
-use Rattle.live_graph.specs.Ending.{Ends}
+use Rattle.live_graph.specs.Ending.{EndsShown}
 use Rattle.live_graph.proofs.Keeping.{kept_ends}
 use Rattle.live_graph.proofs.shared_graph.SharedGraph.end.Goals as goal
 
 pub returns-clause-ends : goal.returns-clause-ends
 returns-clause-ends g c =
-    subst Ends c.self.view_is
+    subst EndsShown c.self.view_is
     (kept_ends c.self.inside.grammar.now.grammar (g.P.Page.means c.self.inside.basis.value) (g.P.Page.means c.self.inside.page)
     c.self.inside.scans.entries c.self.inside.kernels.entries c.self.invariant)

@@ -1,13 +1,13 @@
 -- A text begins with the start state at place 0, and nothing else.
 use Rattle.std.proofs.Common.{◌≡◌, length, slice_get, Some, ap, subst, arith}
-use Rattle.gss.specs.PlaceGraphs.{PlaceGraph, place_of}
+use Rattle.gss.specs.PlaceGraphs.{PlaceGraph, place_with}
 use Rattle.rekers.specs.Answers.{kinds_of}
 use Rattle.rekers.proofs.Begun.{begun_by, no_one}
 use Rattle.rekers.proofs.parser.Parser.begin.Goals as goal
 
 pub add_node-requires-clause-new : goal.add_node-requires-clause-new
 add_node-requires-clause-new g c = λ has.
-    no_one has.0 (place_of 0 0) (subst (λ (gr : PlaceGraph). slice_get gr.nodes has.0 ≡ Some (place_of 0 0)) c.clear.ensures has.1)
+    no_one has.0 (place_with 0 0) (subst (λ (gr : PlaceGraph). slice_get gr.nodes has.0 ≡ Some (place_with 0 0)) c.clear.ensures has.1)
 
 pub add_node-requires-clause-room : goal.add_node-requires-clause-room
 add_node-requires-clause-room g c = omega (arith, ap (λ (gr : PlaceGraph). length gr.nodes) c.clear.ensures)

@@ -1,8 +1,8 @@
 use Rattle.std.proofs.Common.{sym, subst}
 use Rattle.edit_log.specs.History.{Grammar}
 use Rattle.rekers.specs.Answers.{kinds_of}
-use Rattle.rekers.specs.Sound.{IsSound}
-use Rattle.parser_states.specs.Leads.{LeadsNowhere, LeadsTo}
+use Rattle.rekers.specs.Sound.{IsSoundParser}
+use Rattle.parser_states.specs.Leads.{LeadsNowhere, LeadsToKernel}
 use Rattle.rekers.proofs.Growth.{kernel_at}
 use Rattle.rekers.proofs.PlacedNodes.{states_sound}
 use Rattle.rekers.proofs.UpperNodes.{others_old}
@@ -20,7 +20,7 @@ pub returns-clause-behind : goal.returns-clause-behind
 returns-clause-behind g c =
     let rules = (g.G.Graph.means c.args.graph.now).grammar.rules in
     let is = kernel_at c.requires.linkable.node c.place-state.ensures in
-    let leads : LeadsTo rules c.args.self.now.states.kernels c.next.new.self.kernels c.requires.linkable.kernel c.args.symbol c.in-Some.behind =
+    let leads : LeadsToKernel rules c.args.self.now.states.kernels c.next.new.self.kernels c.requires.linkable.kernel c.args.symbol c.in-Some.behind =
     rw c.in-Some.is at (c.in_ok-behind.ensures.leads c.requires.linkable.kernel is.0) in
     let node = c.requires.linkable.node in
     record {
@@ -35,7 +35,7 @@ returns-clause-behind g c =
 pub returns-clause-sound : goal.returns-clause-sound
 returns-clause-sound g c =
     let p = c.args.self.now in
-    let sound = subst (λ (gr : Grammar). IsSound gr.rules (kinds_of c.args.tokens.now) p) (sym c.in_ok-behind.ensures.stands.grammar) c.requires.sound in
+    let sound = subst (λ (gr : Grammar). IsSoundParser gr.rules (kinds_of c.args.tokens.now) p) (sym c.in_ok-behind.ensures.stands.grammar) c.requires.sound in
     states_sound (g.G.Graph.means c.next.new.graph).grammar.rules (kinds_of c.args.tokens.now) p sound c.next.new.self c.in_ok-behind.ensures.expanded
     c.in_ok-behind.ensures.keeps
 
@@ -43,7 +43,7 @@ pub returns-clause-others : goal.returns-clause-others
 returns-clause-others g c =
     let rules = (g.G.Graph.means c.args.graph.now).grammar.rules in
     let is = kernel_at c.requires.linkable.node c.place-state.ensures in
-    let leads : LeadsTo rules c.args.self.now.states.kernels c.next.new.self.kernels c.requires.linkable.kernel c.args.symbol c.in-Some.behind =
+    let leads : LeadsToKernel rules c.args.self.now.states.kernels c.next.new.self.kernels c.requires.linkable.kernel c.args.symbol c.in-Some.behind =
     rw c.in-Some.is at (c.in_ok-behind.ensures.leads c.requires.linkable.kernel is.0) in
     others_old c.args.self.now.states.kernels c.next.new.self.kernels leads.upper c.in-Some.behind leads.numbered.joins leads.numbered.named
     c.in_ok-behind.ensures.expanded.told.one_number

@@ -8,7 +8,7 @@ use Rattle.rekers.specs.declared.parser.Parser.{Parser}
 use Rattle.rekers.specs.declared.level.Level.{Level}
 use Rattle.rekers.specs.Answers.{kinds_of}
 use Rattle.rekers.specs.Found.{found}
-use Rattle.rekers.specs.Sound.{IsFirst}
+use Rattle.rekers.specs.Sound.{IsFirstMover}
 use Rattle.rekers.specs.Steps.{IsLinkBy, IsUpper, IsStep, IsUnlinked}
 use Rattle.rekers.proofs.Growth.{one_at, kernel_at, node_grows, grows_on}
 use Rattle.rekers.proofs.LinkSteps.{step_alone, step_on, label_owned, linkable_on, linkable_first, nonterminal_on, unlinked_on, label_of_first}
@@ -25,7 +25,7 @@ owning_link-requires-clause-first g c = c.first_opener-first.ensures.none_before
 
 pub new_owner-requires-clause-first : goal.new_owner-requires-clause-first
 new_owner-requires-clause-first g c =
-    subst (λ n. IsFirst (g.G.Graph.means c.args.graph.now).grammar.rules (found c.args.self.now) n c.args.symbol) c.if-first-lower.true
+    subst (λ n. IsFirstMover (g.G.Graph.means c.args.graph.now).grammar.rules (found c.args.self.now) n c.args.symbol) c.if-first-lower.true
     c.first_opener-first.ensures.none_before
 
 pub edge-label-requires : goal.edge-label-requires

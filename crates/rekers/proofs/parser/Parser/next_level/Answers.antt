@@ -3,7 +3,7 @@ use Rattle.std.proofs.Common.{◌+◌}
 use Rattle.std.proofs.lemmas.Result.{err_from_is_err_and}
 use Rattle.rekers.specs.Answers.{kinds_of}
 use Rattle.rekers.specs.Found.{found}
-use Rattle.rekers.specs.Sound.{IsSound, ArePlaced}
+use Rattle.rekers.specs.Sound.{IsSoundParser, ArePlaced}
 use Rattle.rekers.proofs.LevelsDone.{IsLevelBegun, sound_in, stopped_by, stopped_reducing, asks_reducing, kernels_reducing, asks_reduced, level_done}
 use Rattle.rekers.proofs.parser.Parser.next_level.Goals as goal
 
@@ -11,7 +11,7 @@ pub returns-in_err-shift-clause-stopped : goal.returns-in_err-shift-clause-stopp
 returns-in_err-shift-clause-stopped g c =
     let tokens = kinds_of c.args.tokens.now in
     let rules = (g.G.Graph.means c.args.graph.now).grammar.rules in
-    stopped_by {P = IsSound (g.G.Graph.means c.shift.new.graph).grammar.rules tokens c.shift.new.self}
+    stopped_by {P = IsSoundParser (g.G.Graph.means c.shift.new.graph).grammar.rules tokens c.shift.new.self}
     {Q = ArePlaced (found c.args.self.now) → ArePlaced (found c.shift.new.self)} rules tokens c.shift.new.self c.in_err-shift.field-0.0
     c.from_residual.result (err_from_is_err_and c.from_residual.result c.from_residual.ensures.1)
     (sound_in tokens c.shift.new.self c.in_err-shift.ensures.stands) (λ placed. placed c.requires.done.placed) c.in_err-shift.ensures.sound

@@ -4,7 +4,7 @@ use Rattle.std.proofs.lemmas.Option.{slice_get_within}
 use Rattle.rekers.specs.declared.parser.Parser.{Parser}
 use Rattle.rekers.specs.Answers.{kinds_of}
 use Rattle.rekers.specs.Found.{found, Grows}
-use Rattle.rekers.specs.Sound.{IsSound}
+use Rattle.rekers.specs.Sound.{IsSoundParser}
 use Rattle.rekers.specs.Steps.{Reduces, labels_of}
 use Rattle.rekers.proofs.Growth.{grows_same, trail_links}
 use Rattle.rekers.proofs.Reduced.{labels_parts, span_owned, no_split, one_split}
@@ -46,7 +46,7 @@ add_trail-requires-clause-parts g c =
 
 pub returns-clause-sound : goal.returns-clause-sound
 returns-clause-sound g c =
-    subst (λ (q : Parser). IsSound (g.G.Graph.means c.args._graph.now).grammar.rules (kinds_of c.args._tokens.now) q) (sym c.in_ok-add_trail.ensures.same)
+    subst (λ (q : Parser). IsSoundParser (g.G.Graph.means c.args._graph.now).grammar.rules (kinds_of c.args._tokens.now) q) (sym c.in_ok-add_trail.ensures.same)
     (one_split (g.G.Graph.means c.args._graph.now).grammar.rules
     (kinds_of c.args._tokens.now) c.args.self.now c.requires.sound c.args.reduction c.args.link c.args.lower c.args.top
     c.requires.link c.requires.reduces c.edge-span.result c.edge-span.ensures c.index.result.now c.index.ensures c.if-index-link.false

@@ -1,5 +1,5 @@
 use Rattle.std.proofs.Common.{◌≡◌, ◌∙◌, ◌+◌, Some, inl, inr, ap, sym, subst, rules}
-use Rattle.edit_log.specs.History.{Grammar, after}
+use Rattle.edit_log.specs.History.{Grammar, after_edit}
 use Rattle.edit_log.specs.Verdict.{verdict}
 use Rattle.script_text.specs.declared.command.Command.TheVariants.{Edit}
 use Rattle.replies.specs.declared.reply.Reply.TheVariants.{Edited}
@@ -25,9 +25,9 @@ pub returns-clause-replied : goal.returns-clause-replied
 returns-clause-replied c =
     let before = c.self.inside.grammar.grammar in
     let edit = c.args.edit.now in
-    let next : c.apply.new.self.grammar ≡ after before edit =
+    let next : c.apply.new.self.grammar ≡ after_edit before edit =
     c.apply.ensures edit (c.in_ok-ready.ensures.ready edit c.in-Ok.ensures.entry c.in-Ok.ensures.taken) ∙ ap
-    (λ g. after g edit) c.in_ok-ready.ensures.history in
+    (λ g. after_edit g edit) c.in_ok-ready.ensures.history in
     let version : c.version-version.result ≡ c.args.self.now.version + 1 =
     c.version-version.ensures.version ∙ ap (λ (g : Grammar). g.version) next ∙ version_after before edit ∙ ap (λ (g : Grammar). g.version + 1) c.self.view_is in
     subst (λ n. IsReply c.args.self.now (Edit edit) (Edited n)) (sym version) (taken (ap (λ g. verdict g edit) (sym c.self.view_is)
