@@ -3,7 +3,7 @@ use Rattle.std.specs.Prelude.{Bool, true, false, List, [], ◌∷◌, map}
 use Rattle.edit_log.specs.History.{Grammar}
 use Rattle.item_sets.specs.declared.item.Item.{Item}
 use Rattle.isg_states.specs.declared.scan_key.ScanKey.{ScanKey}
-use Rattle.slot_store.specs.Meaning.{GraphMeaning as PageMeaning}
+use Rattle.slot_store.specs.Meaning.{Meaning as PageMeaning}
 use Rattle.live_graph.specs.declared.origin.Origin.{Origin}
 use Rattle.live_graph.specs.declared.origin.Origin.TheVariants.{Found, Made, Raced, Alone}
 use Rattle.live_graph.specs.Meaning.{Asked, GraphMeaning}
