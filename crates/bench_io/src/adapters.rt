@@ -14,7 +14,9 @@ use std::marker::Model;
 /// A reader of std as a source. Contracts see it as the reader and the count of its faults.
 #[derive(Drop)]
 pub struct StdSource<R> {
+    /// What the bytes are read from.
     reader: R,
+    /// How many reads failed. At the last number the count stands still.
     faults: u64,
 }
 
@@ -69,7 +71,9 @@ impl<R: Read> Source for StdSource<R> {
 /// flush: where the writer keeps a buffer, what the sink took may not be where it belongs yet.
 #[derive(Drop)]
 pub struct StdSink<W> {
+    /// What the bytes are written to.
     writer: W,
+    /// How many writes failed or took nothing. At the last number the count stands still.
     faults: u64,
 }
 

@@ -14,7 +14,9 @@ use std::marker::Model;
 /// Contracts see it as the bytes that were taken and what is known of its calls.
 #[derive(Drop)]
 pub struct MemSink {
+    /// The bytes that were taken, in order.
     bytes: Vec<u8>,
+    /// Which writes fail, and how many bytes one takes at most.
     plan: Plan,
 }
 

@@ -12,8 +12,11 @@ use std::marker::Model;
 /// see it as the bytes that are left and what is known of its calls.
 #[derive(Drop)]
 pub struct MemSource {
+    /// All bytes, those that were read too.
     bytes: Vec<u8>,
+    /// How many of them were read. Those from here on are left.
     start: usize,
+    /// Which reads fail, and how many bytes one gives at most.
     plan: Plan,
 }
 

@@ -14,7 +14,9 @@ pub(crate) const FIRST_ROOM: usize = 4096;
 /// bytes that are left.
 #[derive(Drop)]
 pub struct PlainSource {
+    /// All bytes, those that were read too.
     bytes: Vec<u8>,
+    /// How many of them were read. Those from here on are left.
     start: usize,
 }
 
@@ -60,6 +62,7 @@ impl Source for PlainSource {
 /// Keeps the bytes that are written to it. It never fails. Contracts see it as these bytes.
 #[derive(Drop)]
 pub struct PlainSink {
+    /// The bytes that were taken, in order.
     bytes: Vec<u8>,
 }
 

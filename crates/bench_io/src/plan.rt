@@ -7,13 +7,17 @@ ghost use Rattle.bench_io.specs.Turns.{Fails, new_turns, after_call, after_failu
 
 use std::marker::Model;
 
-// The calls of a source or a sink, some of which are to fail.
+/// The calls of a source or a sink, some of which are to fail.
 #[derive(Drop)]
 pub(crate) struct Plan {
+    /// The most bytes that a call moves.
     most: usize,
+    /// The numbers of the calls that are to fail, counted from 0.
     failing: Vec<u64>,
-    /// Wider than the numbers in `failing`, so that no call after the last of those has one of them.
+    /// How many calls there were, which is the number of the next one. Wider than the numbers in `failing`, so that
+    /// no call after the last of those has one of them.
     calls: u128,
+    /// How many of them failed. At the last number the count stands still.
     faults: u64,
 }
 

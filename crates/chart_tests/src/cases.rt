@@ -6,7 +6,9 @@ use std::alloc::{AllocError, Global};
 /// Rules, and the kinds of a text's tokens.
 #[derive(Drop)]
 pub(crate) struct Case {
+    /// The rules of the row, with the numbers that are written there.
     pub(crate) rules: Rules,
+    /// The kind of each token of the text, from left to right.
     pub(crate) tokens: Vec<SymbolId>,
 }
 

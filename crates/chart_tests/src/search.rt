@@ -11,8 +11,11 @@ const LONGEST: u32 = 9;
 /// A span, in the order of a forest's nodes.
 #[derive(Clone, Copy, PartialEq, Eq, PartialOrd, Ord)]
 struct Span {
+    /// The place between tokens where it begins, from 0 on.
     from: u32,
+    /// The place between tokens where it ends, which is `from` where it has no token.
     to: u32,
+    /// The number of its symbol.
     symbol: u32,
 }
 

@@ -14,7 +14,10 @@ use thiserror::Error;
 pub enum BadEntry {
     /// The first word should be the length of a text, and is more than an edit's text may have bytes.
     #[error("a text of {word} bytes")]
-    Length { word: u64 },
+    Length {
+        /// The first word as it stands.
+        word: u64,
+    },
     /// The text is one line and no edit. Its offset counts the bytes of the text. It never holds
     /// [`BadEdit::NoMemory`].
     #[error("no edit")]

@@ -5,5 +5,6 @@
 /// the last.
 #[derive(Clone, Copy, PartialEq, Eq, Debug)]
 pub struct Entry {
+    /// The length of the text, and 31 words for its bytes.
     pub words: [u64; 32],
 }

@@ -12,6 +12,7 @@ use std::marker::Model;
 /// The words of a text that grows byte by byte. A contract sees the text.
 #[derive(Drop)]
 pub(crate) struct Packer {
+    /// The length of the text so far, and its bytes from the second word on, as in an entry.
     words: [u64; 32],
 }
 

@@ -19,6 +19,7 @@ use std::alloc::{AllocError, Global};
 /// A symbol that has no number yet, with what is kept of each symbol.
 #[derive(Drop)]
 pub(crate) struct FreshSymbol {
+    /// The name or the literal.
     pub(crate) symbol: Symbol,
     /// Those of a literal.
     pub(crate) positions: Option<Positions>,

@@ -33,15 +33,23 @@ fn kind_of_definition(live: &NamedDefinition) -> DefKind
 /// A grammar at a version: the symbols, and the live rules, tokens and skips, by their numbers.
 #[derive(Drop)]
 pub struct Grammar {
+    /// Where memory is taken from for what edits bring.
     pub(crate) alloc: Global,
+    /// How many edits were applied.
     pub(crate) version: u32,
+    /// All symbols that ever appeared, with what is kept of each.
     pub(crate) table: SymbolTable,
+    /// The live rules, ascending by number.
     pub(crate) rules: Rules,
     /// Memory for the rules where their own is full.
     pub(crate) spare_rules: Vec<Rule>,
+    /// The number of each live rule, by how the rule is written. One that ended keeps its key, without a number.
     pub(crate) rule_numbers: IndexMap<RuleText, Option<RuleId>>,
+    /// The live tokens and skips, ascending by number.
     pub(crate) definitions: Vec<NamedDefinition>,
+    /// The number of each live token or skip, by its name. One that ended keeps its key, without a number.
     pub(crate) definition_numbers: IndexMap<Name, Option<RuleId>>,
+    /// All live definitions: the literals, ascending by symbol, and then the tokens and skips, ascending by number.
     pub(crate) live: Vec<DefId>,
 }
 

@@ -16,10 +16,15 @@ use std::alloc::{AllocError, Global};
 /// A live token or skip.
 #[derive(Drop)]
 pub(crate) struct NamedDefinition {
+    /// Its number: the version that it came with.
     pub(crate) number: RuleId,
+    /// The symbol of its name.
     pub(crate) name: SymbolId,
+    /// Whether it is a skip, whose pieces are passed over.
     pub(crate) is_skip: bool,
+    /// The text of its expression, byte for byte.
     pub(crate) expression: Text,
+    /// The positions of that expression.
     pub(crate) positions: Positions,
 }
 

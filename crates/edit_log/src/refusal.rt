@@ -11,13 +11,22 @@ use std::alloc::{AllocError, AllocFailed};
 pub enum Refusal {
     /// The edit adds a rule for the name of a live token or skip. Or it adds a token or a skip whose name is
     /// `START`, the left side of a live rule, or the name of a live skip or token.
-    NameClash { name: Name },
+    NameClash {
+        /// The left side of the rule, or the name of the token or skip, that the edit adds.
+        name: Name,
+    },
     /// What the edit adds is live under this number. A token or a skip is told by its name alone.
-    Exists { number: u32 },
+    Exists {
+        /// The number of the rule, token or skip that is live.
+        number: u32,
+    },
     /// What the edit drops is not live.
     NoSuch,
     /// There is no room for another edit after this version.
-    LogFull { version: u32 },
+    LogFull {
+        /// The version of the grammar, which is [`LOG_LIMIT`](crate::LOG_LIMIT).
+        version: u32,
+    },
     /// Memory ran out.
     NoMemory,
 }

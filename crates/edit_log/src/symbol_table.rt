@@ -34,7 +34,9 @@ pub(crate) struct Row {
 /// All symbols that ever appeared. A symbol's number is its place, and the place of its row.
 #[derive(Drop)]
 pub(crate) struct SymbolTable {
+    /// The symbols in the order of their numbers. That of `START` is 0.
     pub(crate) symbols: IndexSet<Symbol>,
+    /// What is kept of each symbol, in the same order.
     pub(crate) rows: Vec<Row>,
 }
 

@@ -12,8 +12,9 @@ struct Page {
     block: String,
     /// Whether the block is said to be what the script gives.
     is_output: bool,
-    /// How many blocks gave the next one, and how many did not.
+    /// How many blocks gave the next one as they should.
     right: u32,
+    /// How many blocks should give the next one and did not.
     wrong: u32,
 }
 

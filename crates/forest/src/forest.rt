@@ -15,6 +15,7 @@ use std::cmp::Ordering;
 /// derive it, ascending by `from`, then `to`, then `symbol`.
 #[derive(PartialEq, Eq, Debug, Drop)]
 pub struct Forest {
+    /// The nodes in this order, so that no span comes twice.
     pub nodes: Nodes,
     pub ghost ascending: { IsStrictlySortedBy node_cmp nodes } by { IsStrictlySortedBy-prop node_cmp nodes },
 }

@@ -15,6 +15,7 @@ use std::slice;
 /// sees the list of them. Up to four take no memory beside the value.
 #[derive(Debug, Drop)]
 pub struct Cuts {
+    /// The places from left to right.
     items: SmallVec<u32, 4>,
 }
 
@@ -96,7 +97,9 @@ impl Eq for Cuts {
 /// A rule with the cuts between its parts. An empty rule has the one cut where it stands.
 #[derive(PartialEq, Eq, Debug, Drop)]
 pub struct Split {
+    /// The rule whose right side the parts are.
     pub rule: RuleId,
+    /// Where the parts begin and end: one more than the right side has symbols.
     pub cuts: Cuts,
 }
 
@@ -110,6 +113,7 @@ enum SplitStore {
 /// The splits of a node. A contract sees the list of them. One alone takes no memory beside the value.
 #[derive(Debug, Drop)]
 pub struct Splits {
+    /// The splits, one or many.
     store: SplitStore,
 }
 
@@ -176,9 +180,13 @@ impl Eq for Splits {
 /// A span: a symbol and the tokens from one place to another that it derives, with its splits.
 #[derive(PartialEq, Eq, Debug, Drop)]
 pub struct Node {
+    /// The symbol that derives the tokens.
     pub symbol: SymbolId,
+    /// The place between tokens where they begin, from 0 on.
     pub from: u32,
+    /// The place between tokens where they end, which is `from` where there are none.
     pub to: u32,
+    /// The ways to derive them, each by a rule whose left side the symbol is.
     pub splits: Splits,
 }
 

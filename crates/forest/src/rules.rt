@@ -15,8 +15,11 @@ pub struct RuleId(pub u32);
 /// A rule: its left side may be replaced by its right side.
 #[derive(PartialEq, Eq, Debug, Drop)]
 pub struct Rule {
+    /// The number that tells it from other rules.
     pub number: RuleId,
+    /// Its left side: the symbol that may be replaced.
     pub left: SymbolId,
+    /// Its right side: the symbols that may replace it, from left to right.
     pub right: Symbols,
 }
 
@@ -26,6 +29,7 @@ pub type RuleList = ListOf<Rule>;
 /// The live rules of a grammar, ascending by number, so that no number comes twice.
 #[derive(PartialEq, Eq, Debug, Drop)]
 pub struct Rules {
+    /// The rules in this order.
     pub rules: RuleList,
     pub ghost ascending: { IsStrictlySortedBy rule_cmp rules } by { IsStrictlySortedBy-prop rule_cmp rules },
 }

@@ -20,8 +20,11 @@ pub fn number_of_start()
 /// A piece of a text, with its kind and the offsets of its first byte and of the byte after its last.
 #[derive(Clone, Copy, PartialEq, Eq, PartialOrd, Ord, Hash, Debug)]
 pub struct Token {
+    /// The symbol of the literal or of the token that matched the piece.
     pub kind: SymbolId,
+    /// The offset of its first byte.
     pub from: u32,
+    /// The offset of the byte after its last.
     pub to: u32,
 }
 

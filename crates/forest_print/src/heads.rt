@@ -9,8 +9,11 @@ use itoa::Buffer;
 /// How the line for a split with this rule and first cut begins. Most splits of a node have both in common.
 #[derive(Drop)]
 pub(crate) struct Head {
+    /// The number of the rule that the text tells.
     pub(crate) rule: u32,
+    /// The place between tokens that the text tells: the first cut.
     pub(crate) first: u32,
+    /// The word `rule` with the one, and the word `at` with the other.
     pub(crate) text: Piece,
     ghost told: { text ≡ head_text rule first },
 }

@@ -19,7 +19,9 @@ const REACH: usize = 542;
 /// length, and the piece with a line end costs no more than the piece alone.
 #[derive(Drop)]
 pub(crate) struct Piece {
+    /// The bytes of the text, and line ends behind them.
     room: [u8; ROOM],
+    /// How many bytes the text has.
     size: u8,
     /// Not read. With it a piece has 40 bytes, and less has to be reckoned to find one in a table.
     spare: [u8; 7],
@@ -69,7 +71,9 @@ impl Piece {
 /// and only its length counts.
 #[derive(Drop)]
 pub(crate) struct Lines {
+    /// The bytes that were written, and behind them those that are made ready.
     bytes: Vec<u8>,
+    /// How many bytes were written.
     end: usize,
 }
 

@@ -25,6 +25,7 @@ pub(crate) fn piece_of(place: u32) -> Piece
 /// The pieces for the places from 0 on, as far as they are made.
 #[derive(Drop)]
 pub(crate) struct Places {
+    /// For each place, in order, a blank and its number.
     pieces: Vec<Piece>,
     ghost each: { ArePlaces pieces.items },
 }

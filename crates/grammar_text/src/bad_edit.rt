@@ -16,21 +16,36 @@ pub enum BadEdit {
     /// Or a literal's second quote is not followed by a blank or the line's end, but by the byte at the
     /// offset.
     #[error("the line has not the shape of an edit at byte {offset}")]
-    Shape { offset: u32 },
+    Shape {
+        /// Where the wrong piece begins, or the wrong byte stands, or the line ends.
+        offset: u32,
+    },
     /// What begins at the offset should be a name, and is none.
     #[error("no name at byte {offset}")]
-    BadName { offset: u32 },
+    BadName {
+        /// Where the piece begins that is no name.
+        offset: u32,
+    },
     /// The quote at the offset begins no literal: it has no second quote, no bytes or too many between the
     /// two, or a backslash before a byte that takes none.
     #[error("no literal at byte {offset}")]
-    BadLiteral { offset: u32 },
+    BadLiteral {
+        /// Where the first quote stands.
+        offset: u32,
+    },
     /// The right side has all the symbols that it may have, and something more begins at the offset.
     #[error("too many symbols at byte {offset}")]
-    TooManySymbols { offset: u32 },
+    TooManySymbols {
+        /// Where the piece begins that is one too many.
+        offset: u32,
+    },
     /// Each piece is right, but the edit as it is written has more than [`EDIT_LIMIT`](crate::EDIT_LIMIT)
     /// bytes. The offset is 0.
     #[error("the edit is too long")]
-    TooLong { offset: u32 },
+    TooLong {
+        /// Always 0, as no place in the line is at fault.
+        offset: u32,
+    },
     /// Memory ran out.
     #[error("out of memory")]
     NoMemory,

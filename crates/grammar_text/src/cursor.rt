@@ -11,7 +11,9 @@ use std::marker::Model;
 /// What is left of a line, and how long the line is.
 #[derive(Drop)]
 pub(crate) struct Cursor<'a> {
+    /// How many bytes the whole line has.
     len: usize,
+    /// The bytes of the line from the place on.
     left: &'a [u8],
 }
 

@@ -10,7 +10,9 @@ use std::alloc::AllocError;
 /// A rule of a grammar, as in `E ::= E "+" E`.
 #[derive(Debug, Drop)]
 pub struct RuleText {
+    /// The name of the nonterminal that it replaces.
     pub left: Name,
+    /// The names and literals that replace it, from left to right.
     pub right: Symbols,
 }
 
@@ -38,6 +40,7 @@ impl Clone for RuleText {
 /// A named expression, as in `NUM = [0-9]+`.
 #[derive(Debug, Drop)]
 pub struct DefText {
+    /// The name of the token or the skip.
     pub name: Name,
     /// The text of the expression, byte for byte. It is not read here.
     pub expression: Text,

@@ -12,6 +12,7 @@ use std::marker::Model;
 /// underscores behind it. A contract sees it as the list of its bytes.
 #[derive(Debug, Drop)]
 pub struct Name {
+    /// The bytes of the name, 1 to 32 of them.
     bytes: Vec<u8>,
 }
 

@@ -34,6 +34,7 @@ impl Output for Text {
 /// How many bytes there were. It counts up to the largest number that it can hold.
 #[derive(Drop)]
 pub(crate) struct Length {
+    /// How many bytes were put.
     pub(crate) bytes: usize,
 }
 

@@ -8,6 +8,7 @@ use std::marker::Model;
 /// Bytes of any kind. A contract sees the list of them.
 #[derive(Debug, Drop)]
 pub struct Text {
+    /// The bytes in their order.
     bytes: Vec<u8>,
 }
 

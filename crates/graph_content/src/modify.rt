@@ -17,7 +17,9 @@ use std::marker::Model;
 /// the edit touches, and the counts.
 #[derive(Drop)]
 pub struct Modify<'g> {
+    /// The grammar before the edit, of which the rows are.
     grammar: &'g Grammar,
+    /// What the edit touches in it.
     touch: &'g Touch,
     /// How many rows of item sets were refused.
     items: u32,

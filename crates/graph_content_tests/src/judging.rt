@@ -63,7 +63,9 @@ fn judge_all(
 /// A grammar, and the same grammar, which is to have the next edit first.
 #[derive(Drop)]
 pub(crate) struct Grammars {
+    /// The grammar whose rows are judged.
     now: Grammar,
+    /// The other one, by whose expansions they are judged.
     next: Grammar,
 }
 

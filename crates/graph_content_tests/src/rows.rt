@@ -29,8 +29,11 @@ pub(crate) fn keep(modify: &mut Modify<'_>, row: &[u64]) -> bool
 /// How many rows were kept and refused, and how many of them wrongly.
 #[derive(Drop)]
 pub(crate) struct Told {
+    /// How many rows were kept.
     pub(crate) kept: u32,
+    /// How many rows were refused.
     pub(crate) refused: u32,
+    /// How many of both were not as they should be.
     pub(crate) wrong: u32,
 }
 

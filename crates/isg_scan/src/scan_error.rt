@@ -9,9 +9,15 @@ use std::alloc::{AllocError, AllocFailed};
 #[derive(Clone, Copy, PartialEq, Eq)]
 pub enum ScanError {
     /// No live definition matches a piece that begins at this offset, where a byte is there.
-    NoToken { offset: u32 },
+    NoToken {
+        /// How many bytes of the text stand before the piece.
+        offset: u32,
+    },
     /// At this offset a token begins for which there is no room.
-    TooManyTokens { offset: u32 },
+    TooManyTokens {
+        /// How many bytes of the text stand before the token.
+        offset: u32,
+    },
     /// Memory ran out.
     NoMemory,
 }

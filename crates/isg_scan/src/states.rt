@@ -30,6 +30,7 @@ pub(crate) const NOWHERE: u32 = 1;
 /// States by number, in the order in which they were met, the start first.
 #[derive(Drop)]
 pub(crate) struct States {
+    /// The key of each state. Its place is the number of the state.
     pub(crate) keys: IndexSet<ScanKey>,
     /// What a piece is that ends in the state.
     pub(crate) accepted: Vec<Option<DefKind>>,

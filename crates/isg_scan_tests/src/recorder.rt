@@ -12,6 +12,7 @@ use steps::Steps;
 /// alone: here they can be seen when the program runs. A refused call was asked for too.
 #[derive(Drop)]
 pub(crate) struct Recorder<G> {
+    /// The graph that answers.
     graph: G,
     /// In the order of their first ask, none twice.
     asked: Vec<ScanKey>,

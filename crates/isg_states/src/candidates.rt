@@ -16,7 +16,9 @@ use std::alloc::Global;
 /// A position, and the bytes that may stand there.
 #[derive(Clone, Copy)]
 pub(crate) struct Candidate<'g> {
+    /// The position with its definition.
     pub(crate) mark: Mark,
+    /// The bytes that may stand there.
     pub(crate) class: &'g ByteSet,
 }
 

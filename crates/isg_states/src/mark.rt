@@ -9,6 +9,7 @@ use forest::SymbolId;
 /// One class in the expression of a definition. For a literal it is one of its bytes.
 #[derive(Clone, Copy)]
 pub struct Mark {
+    /// The definition whose expression has the class.
     pub def: DefId,
     /// The class by its number, from 0 from left to right.
     pub index: u32,

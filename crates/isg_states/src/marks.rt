@@ -12,6 +12,7 @@ use std::marker::Model;
 /// One mark or more, ascending by number. A contract sees the list of them. A few need no memory.
 #[derive(Drop)]
 pub struct Marks {
+    /// The marks in this order, none twice.
     items: SmallVec<Mark, 4>,
 }
 

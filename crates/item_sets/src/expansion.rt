@@ -20,7 +20,9 @@ pub type Reductions = ListOf<RuleId>;
 /// by number.
 #[derive(Drop)]
 pub struct Expansion {
+    /// Each symbol that stands after a dot, with the kernel behind it.
     pub moves: Moves,
+    /// The rules of items whose dots stand at the end.
     pub reductions: Reductions,
     pub ghost moves_ascend: { IsStrictlySortedBy move_cmp moves } by { IsStrictlySortedBy-prop move_cmp moves },
     pub ghost reductions_ascend: { IsStrictlySortedBy reduction_cmp reductions } by { IsStrictlySortedBy-prop reduction_cmp reductions },

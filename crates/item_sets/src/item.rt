@@ -9,7 +9,9 @@ use forest::RuleId;
 /// `START` alone.
 #[derive(Clone, Copy, PartialEq, Eq, PartialOrd, Ord, Hash)]
 pub struct Item {
+    /// The number of the rule.
     pub rule: RuleId,
+    /// How many symbols of the right side stand before the dot.
     pub dot: u8,
 }
 

@@ -16,6 +16,7 @@ use std::marker::Model;
 /// memory beside the value.
 #[derive(Drop)]
 pub struct Kernel {
+    /// The items in this order, none twice.
     items: SmallVec<Item, 4>,
 }
 

@@ -24,6 +24,7 @@ pub(crate) struct Walk {
     pub(crate) symbols: IndexSet<SymbolId>,
     /// For each symbol, in the same order, the items whose dots moved past it.
     pub(crate) moves: Vec<(SymbolId, Kernel)>,
+    /// The rules of the items with nothing after their dots, in the order in which these were met.
     pub(crate) reductions: Vec<RuleId>,
 }
 

@@ -19,8 +19,11 @@ const MOST_KERNELS: usize = 1000;
 /// What is met on the way through the kernels of a grammar.
 #[derive(Drop)]
 struct Counts {
+    /// How many moves all expansions had together.
     moves: usize,
+    /// How many reductions all expansions had together.
     reductions: usize,
+    /// How many items all closures had together, as the search found them.
     items: usize,
 }
 

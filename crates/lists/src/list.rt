@@ -14,6 +14,7 @@ use std::marker::Model;
 /// to it, whatever memory they hold.
 #[derive(Debug, Drop)]
 pub struct ListOf<T> {
+    /// The values from first to last.
     items: Vec<T>,
 }
 

@@ -17,8 +17,11 @@ use steps::Steps;
 /// A graph that keeps what it expanded in maps of its own, and expands itself whatever it is asked for.
 #[derive(Drop)]
 pub struct PrivateGraph<'g> {
+    /// The grammar whose keys are expanded.
     grammar: &'g Grammar,
+    /// The states of the scanner that were asked for, each with its expansion, in the order of their first ask.
     scans: IndexMap<ScanKey, ScanExpansion>,
+    /// The kernels that were asked for, each with its expansion, in the order of their first ask.
     kernels: IndexMap<Kernel, Expansion>,
 }
 

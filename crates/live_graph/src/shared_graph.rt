@@ -27,11 +27,15 @@ use steps::Steps;
 /// there, where the row has room and the page and the table are not full. What it found or made it keeps, so that
 /// the page is not asked again.
 pub struct SharedGraph<'g, P: Page<GraphRows>> {
+    /// The grammar of the page's version, whose keys are expanded.
     grammar: &'g Grammar,
+    /// The page that is searched, and into which rows are put.
     page: P,
     /// The page as it was at first.
     basis: Snapshot<P>,
+    /// The states of the scanner that were asked for, each with its answer, in the order of their first ask.
     scans: IndexMap<ScanKey, Answer<ScanExpansion>>,
+    /// The kernels that were asked for, each with its answer, in the order of their first ask.
     kernels: IndexMap<Kernel, Answer<Expansion>>,
 }
 

@@ -21,7 +21,9 @@ pub struct Tally {
 /// The tallies of item sets and of scanner states.
 #[derive(Clone, Copy, Debug, PartialEq, Eq)]
 pub struct Tallies {
+    /// The tally of item sets, whose keys are kernels.
     pub items: Tally,
+    /// The tally of the scanner's states.
     pub scan: Tally,
 }
 

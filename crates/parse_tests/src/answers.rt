@@ -18,6 +18,7 @@ use steps::Steps;
 /// What the parser answers, and the chart if it was asked.
 #[derive(Drop)]
 pub(crate) struct Answers {
+    /// What the parser answers, which is never that memory ran out.
     pub(crate) parsed: Result<Parsed, ParseError>,
     /// None where there are more tokens than a chart takes.
     pub(crate) charted: Option<Option<Forest>>,

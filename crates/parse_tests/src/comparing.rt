@@ -20,9 +20,13 @@ pub(crate) fn are_same(answers: &Answers) -> bool {
 /// What is counted of the parser's answers.
 #[derive(Drop)]
 pub(crate) struct Counts {
+    /// How many texts were parsed.
     texts: usize,
+    /// How many of them have a forest.
     forests: usize,
+    /// How many nodes these forests have together.
     nodes: usize,
+    /// How many splits these forests have together.
     splits: u128,
     /// The places of all answers that a text is no sentence, added up.
     places: usize,

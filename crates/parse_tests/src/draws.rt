@@ -3,6 +3,7 @@
 /// A generator of numbers: each is the one before it, times a factor and a summand more.
 #[derive(Drop)]
 pub(crate) struct Draws {
+    /// The number that was made last, of which a draw shows the high bits; or the seed.
     number: u64,
 }
 

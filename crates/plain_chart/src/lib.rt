@@ -28,7 +28,10 @@ use std::alloc::{AllocError, Global};
 #[derive(Clone, Copy, PartialEq, Eq, Debug)]
 pub enum ChartError {
     /// There are more tokens than a chart takes.
-    TooLarge { tokens: u32 },
+    TooLarge {
+        /// How many tokens there are, more than [`MOST_TOKENS`].
+        tokens: u32,
+    },
     NoMemory,
 }
 

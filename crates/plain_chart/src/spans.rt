@@ -13,22 +13,29 @@ use std::marker::Model;
 /// A symbol with the tokens that it derives. Spans compare as the nodes of a forest do.
 #[derive(Clone, Copy, PartialEq, Eq, PartialOrd, Ord)]
 pub struct Span {
+    /// The place between tokens where they begin, from 0 on.
     pub from: u32,
+    /// The place between tokens where they end, which is `from` where there are none.
     pub to: u32,
+    /// The symbol that derives them.
     pub symbol: SymbolId,
 }
 
 /// The spans of one symbol: a row of ends for each start.
 #[derive(Drop)]
 struct Table {
+    /// The symbol of the spans.
     symbol: SymbolId,
+    /// Whether each span is there: a row for each start, with as many ends as there are places.
     bits: Vec<bool>,
 }
 
 /// Spans in the order in which they came, with a table for each symbol, so that a span is found in one look.
 #[derive(Drop)]
 pub struct Spans {
+    /// The spans in this order.
     items: Vec<Span>,
+    /// A table for each symbol of a span, with the bits of these spans and no others.
     tables: Vec<Table>,
 }
 

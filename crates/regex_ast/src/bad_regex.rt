@@ -11,17 +11,29 @@ pub enum BadRegex {
     /// The text is no expression. The offset is that of the first byte with which no expression
     /// can go on, or the length of a text that is a prefix of one.
     #[error("byte {offset}: no expression goes on like this")]
-    Shape { offset: u32 },
+    Shape {
+        /// Where that byte stands, or the length of the text.
+        offset: u32,
+    },
     /// A class has no byte. The offset is that of the bracket that opens the first such class.
     #[error("byte {offset}: this class has no byte")]
-    EmptyClass { offset: u32 },
+    EmptyClass {
+        /// Where that bracket stands.
+        offset: u32,
+    },
     /// More than 64 parentheses stand open. The offset is that of the first one inside 64 others.
     #[error("byte {offset}: more than 64 parentheses stand open")]
-    TooDeep { offset: u32 },
+    TooDeep {
+        /// Where that parenthesis stands.
+        offset: u32,
+    },
     /// There are more than 200 classes, each atom and each dot being one. The offset is that of
     /// the first byte of the 201st.
     #[error("byte {offset}: more than 200 classes")]
-    TooManyPositions { offset: u32 },
+    TooManyPositions {
+        /// Where that class begins.
+        offset: u32,
+    },
     /// Memory ran out.
     #[error("memory ran out")]
     NoMemory,

@@ -8,6 +8,7 @@ use std::marker::Model;
 /// A set of bytes, one bit for each.
 #[derive(Debug, Drop)]
 pub struct ByteSet {
+    /// The bits: that of byte `b` is bit `b % 64` of word `b / 64`, the lowest being bit 0.
     words: [u64; 4],
 }
 

@@ -45,8 +45,11 @@ pub(crate) enum Mode {
     Opened,
     /// Inside a class, with the bytes of the members so far.
     Inside {
+        /// Whether a `^` stands first in the class, so that it has the bytes that no member has.
         negated: bool,
+        /// The bytes of the members that are read whole.
         set: ByteSet,
+        /// How far the next member is read.
         place: Place,
     },
 }

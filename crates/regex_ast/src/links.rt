@@ -15,8 +15,11 @@ use crate::regex::Regex;
 pub(crate) struct Part {
     /// The number of the next class after the part.
     pub(crate) next: usize,
+    /// Whether the part matches the empty word.
     pub(crate) nullable: bool,
+    /// The positions that may begin a word of the part.
     pub(crate) first: ByteSet,
+    /// The positions that may end a word of the part.
     pub(crate) last: ByteSet,
 }
 

@@ -20,10 +20,15 @@ use std::marker::Model;
 /// All lists ascend.
 #[derive(Debug, Drop)]
 pub struct Positions {
+    /// Whether the empty word is matched.
     nullable: bool,
+    /// The positions that may begin a word.
     first: ListOf<u32>,
+    /// The positions that may end a word.
     last: ListOf<u32>,
+    /// For each position those that may come directly after it.
     follow: ListOf<ListOf<u32>>,
+    /// For each position the bytes that may stand there.
     classes: ListOf<ByteSet>,
 }
 

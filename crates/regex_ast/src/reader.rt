@@ -17,8 +17,11 @@ use std::alloc::Global;
 /// A text that is read byte by byte.
 #[derive(Drop)]
 pub(crate) struct Reader {
+    /// How far the piece is read.
     pub(crate) mode: Mode,
+    /// What the pieces before it came to.
     pub(crate) stack: Stack,
+    /// Where these pieces broke the limits.
     pub(crate) breaches: Breaches,
     /// The offset at which the piece that is read begins.
     pub(crate) start: u32,

@@ -32,8 +32,11 @@ pub(crate) struct Level {
 pub(crate) struct Stack {
     /// The levels around this one, the innermost last.
     pub(crate) outer: Vec<Level>,
+    /// The branches of this level before its last bar.
     pub(crate) choice: Option<Regex>,
+    /// The factors of the last branch before the last one.
     pub(crate) branch: Option<Regex>,
+    /// The last factor with its signs, or none where a branch begins.
     pub(crate) factor: Option<Regex>,
 }
 

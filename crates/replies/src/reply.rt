@@ -25,18 +25,23 @@ pub enum Outcome {
 pub enum Reply {
     /// The edit was taken, and this is the version from then on.
     Edited {
+        /// The version after the edit.
         version: u32,
     },
     /// The edit was refused. This is never [`Refusal::NoMemory`].
     Refused(Refusal),
     /// The text was parsed in this version.
     Parse {
+        /// How many edits the grammar had.
         version: u32,
+        /// The forest, or why there is none.
         outcome: Outcome,
     },
     /// The text was scanned in this version. The error is never [`ScanError::NoMemory`].
     Tokens {
+        /// How many edits the grammar had.
         version: u32,
+        /// The tokens, or why there are none.
         result: Result<TokenList, ScanError>,
     },
 }

@@ -22,7 +22,9 @@ use std::marker::Model;
 /// the grammar.
 #[derive(Drop)]
 pub struct Session {
+    /// The grammar after the commands so far.
     grammar: Grammar,
+    /// The parser, which keeps no more than memory from text to text.
     parser: Parser,
 }
 

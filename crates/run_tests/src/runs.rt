@@ -10,7 +10,9 @@ use workbench::{Status, run};
 /// How a run ended, and what it wrote.
 #[derive(Drop)]
 pub(crate) struct Outcome {
+    /// What the run answers when it ends.
     pub(crate) status: Status,
+    /// All bytes that its sink took.
     pub(crate) written: Vec<u8>,
 }
 

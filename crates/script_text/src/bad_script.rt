@@ -35,7 +35,9 @@ pub enum BadKind {
 /// The first bad line of a script, counted from 1, and what is wrong with it.
 #[derive(Clone, Copy, Debug, PartialEq, Eq)]
 pub struct BadScript {
+    /// The number of the line, from 1 on.
     pub line: u32,
+    /// What is wrong with it.
     pub kind: BadKind,
 }
 

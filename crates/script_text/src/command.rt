@@ -34,5 +34,6 @@ pub type Blocks = ListOf<Block>;
 /// A script that was read: its blocks in the order of its lines.
 #[derive(Debug, Drop)]
 pub struct Script {
+    /// Its commands and sections.
     pub blocks: Blocks,
 }

@@ -18,6 +18,7 @@ use std::marker::Model;
 /// What has been read of a script.
 #[derive(Drop)]
 pub(crate) struct Progress {
+    /// The blocks of the lines that were taken.
     blocks: Vec<Block>,
     /// How many commands the blocks have.
     count: usize,

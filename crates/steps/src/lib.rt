@@ -12,7 +12,9 @@ use std::sync::ledger::{Blank, Book, Ledger, Share};
 /// How many steps were taken. A contract sees the number, and only [`Steps::take`] changes it.
 #[derive(Drop)]
 pub struct Steps<L: Ledger> {
+    /// The sum of all steps, which is the number that a contract sees.
     book: Book<L>,
+    /// The parts of the ledger through which steps come into the sum, at least one.
     share: Share<L>,
 }
 

@@ -23,12 +23,19 @@ pub(crate) fn bounded(number: u64, least: u32, most: u32) -> u32
 /// The sizes that a line asks for, and how many passes.
 #[derive(Clone, Copy)]
 pub(crate) struct Wanted {
+    /// Entries of the log.
     pub(crate) log: u64,
+    /// Live versions, each with a page.
     pub(crate) versions: u64,
+    /// Places of a page.
     pub(crate) places: u64,
+    /// Rows of the whole table.
     pub(crate) rows: u64,
+    /// Words of a row.
     pub(crate) width: u64,
+    /// Pins over the table's life.
     pub(crate) pins: u64,
+    /// How many passes the table is parted for.
     pub(crate) passes: u64,
 }
 

@@ -26,11 +26,14 @@ const KEYS: u64 = 12;
 const ROUNDS: u32 = 40;
 
 /// How often a pass was answered, how many of the answers fit the version that it had pinned, and how often that
-/// version was an older one than before.
+/// version was an older one than before or its log was a wrong one.
 #[derive(Clone, Copy)]
 struct Report {
+    /// How many keys were asked for, over all pins.
     answers: u32,
+    /// For how many of them the answers fit the version.
     fitting: u32,
+    /// How many pins were at a version before one that the pass had seen, or showed a wrong log.
     falls: u32,
 }
 
