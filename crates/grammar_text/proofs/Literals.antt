@@ -30,7 +30,7 @@ bytes_are a x b y e =
 abbrev empty_list : List ℕ
 empty_list = []
 
--- these bytes in front of what was read
+-- these bytes before what was read
 abbrev pub with_front : List ℕ → Option (List ℕ × List ℕ) → Option (List ℕ × List ℕ)
 with_front front read = option_map (λ found. (front ++ found.0, found.1)) read
 

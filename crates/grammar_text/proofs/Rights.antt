@@ -10,7 +10,7 @@ use Rattle.grammar_text.specs.Limits.{the_limits}
 use Rattle.grammar_text.specs.Reading.{◌>>=◌, IsRefusal, piece_at, symbol_from, symbols_at}
 use Rattle.grammar_text.proofs.Gaps.{trimmed-trimmed}
 
--- these symbols in front of what was read
+-- these symbols before what was read
 abbrev pub with_front : List Symbol → Result (List Symbol) BadEdit → Result (List Symbol) BadEdit
 with_front front read = read >>= λ others. Ok (front ++ others)
 

@@ -77,7 +77,7 @@ abbrev pub behind_quote : List ℕ → Option (List ℕ)
 behind_quote [] = None
 behind_quote (first ∷ rest) = if first == 34 then Some rest else None
 
--- this byte in front of what was read
+-- this byte before what was read
 abbrev pub led_by : ℕ → Option (List ℕ × List ℕ) → Option (List ℕ × List ℕ)
 led_by byte read = option_map (λ found. (byte ∷ found.0, found.1)) read
 

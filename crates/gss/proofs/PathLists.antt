@@ -97,7 +97,7 @@ module _ (links : List Link) where
       let (front, bottom, lower, f, d, at, leads) = unsnoc n next rest down in
       (node ∷ front, bottom, lower, e ∙ ap (λ ns. node ∷ ns) f, (next, front, refl, first, d), at, leads)
 
-  -- the front of a path is one
+  -- the prefix of a path is one
   shorter : (n m : ℕ) (node : NodeId) (path : List NodeId) → n ≤ m → IsPathDown links node m path → (front : List NodeId) × IsPathDown links node n front
   shorter zero m node path le down = (node ∷ [], refl)
   shorter (suc n) zero node path le down = absurd (omega (arith, le))

@@ -71,7 +71,7 @@ pub(crate) fn lex(mode: Mode, byte: u8) -> Step
 {
     match mode {
         Mode::Between => begin_piece(byte),
-        Mode::Escaped => match escaped(byte) {
+        Mode::Escaped => match unescaped(byte) {
             None => Step::Refuse,
             Some(stands_for) => Step::Done(Piece::OneOf(ByteSet::of(stands_for))),
         },
@@ -123,7 +123,7 @@ fn inside(negated: bool, mut set: ByteSet, place: Place, byte: u8) -> Step
 {
     match place {
         Place::Start => begin_member(negated, set, byte),
-        Place::Backslash => match escaped(byte) {
+        Place::Backslash => match unescaped(byte) {
             None => Step::Refuse,
             Some(low) => Step::Go(Mode::Inside {
                 negated,
@@ -133,7 +133,7 @@ fn inside(negated: bool, mut set: ByteSet, place: Place, byte: u8) -> Step
         },
         Place::Byte(low) => after_low(negated, set, low, byte),
         Place::Dash(low) => after_dash(negated, set, low, byte),
-        Place::DashBackslash(low) => match escaped(byte) {
+        Place::DashBackslash(low) => match unescaped(byte) {
             None => Step::Refuse,
             Some(high) => {
                 set.insert_range(low, high);
@@ -217,7 +217,7 @@ fn is_special_in_class(byte: u8) -> bool
 
 /// What the byte stands for after a backslash.
 #[tactic(auto, unfolding(crate::specs::Spelling::escape_of))]
-fn escaped(byte: u8) -> Option<u8>
+fn unescaped(byte: u8) -> Option<u8>
     ensures { result ≡ escape_of byte }
 {
     match byte {

@@ -6,7 +6,7 @@ ghost use Rattle.script_text.specs.Texts.{unescaped_byte, with_byte_before, text
 use std::alloc::{AllocError, Global};
 
 /// The byte that an escape of this letter stands for.
-fn escaped(letter: u8) -> Option<u8>
+fn unescaped(letter: u8) -> Option<u8>
     ensures { result ≡ unescaped_byte letter }
 {
     match letter {
@@ -27,7 +27,7 @@ fn read_byte(written: &[u8]) -> Option<(u8, &[u8])>
         (λ read. text_written written.now ≡ with_byte_before (Some read.0) (text_written read.1.now)) }
 {
     match written {
-        [b'\\', letter, rest @ ..] => match escaped(*letter) {
+        [b'\\', letter, rest @ ..] => match unescaped(*letter) {
             Some(byte) => Some((byte, rest)),
             None => None,
         },
