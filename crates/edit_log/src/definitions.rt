@@ -6,7 +6,9 @@ use lists::ListOf;
 /// A definition: a literal by the number of its symbol, or a token or a skip by its own number.
 #[derive(Clone, Copy, Debug, PartialEq, Eq)]
 pub enum DefId {
+    /// A literal that a live rule uses, by its symbol.
     Literal(SymbolId),
+    /// A token or a skip, by the version that added it.
     Named(RuleId),
 }
 

@@ -70,11 +70,17 @@ impl Clone for DefText {
 /// A change of a grammar.
 #[derive(Debug, Drop, PartialEq, Eq)]
 pub enum Edit {
+    /// The rule is live from then on.
     AddRule(RuleText),
+    /// The live rule with these sides ends.
     DropRule(RuleText),
+    /// Pieces of a text that match the expression are tokens of this name.
     AddToken(DefText),
+    /// The token of this name ends.
     DropToken(Name),
+    /// Pieces of a text that match the expression are passed over.
     AddSkip(DefText),
+    /// The skip of this name ends.
     DropSkip(Name),
 }
 

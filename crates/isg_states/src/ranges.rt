@@ -1,4 +1,4 @@
-//! Where the bytes lead from a state.
+//! What a state of the scanner expands to, as data.
 
 use crate::scan_key::ScanKey;
 use lists::ListOf;

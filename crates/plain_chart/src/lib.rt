@@ -32,6 +32,7 @@ pub enum ChartError {
         /// How many tokens there are, more than [`MOST_TOKENS`].
         tokens: u32,
     },
+    /// There was no memory.
     NoMemory,
 }
 
