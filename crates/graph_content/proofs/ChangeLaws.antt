@@ -56,7 +56,7 @@ touched : (g : Grammar) (edit : Edit) (touch : Touch) (key : Key) → IsTaken g 
     → IsAffected g (after_edit g edit) key
 touched g edit touch (kernel items) t is w =
     elim (touched_items g.rules (after_edit g edit).rules touch items (rule_change g edit touch t.well t.accepted t.touches) is.1
-        (touches_items g touch items w)) [
+    (touches_items g touch items w)) [
       | inl gone ↦ inl (λ stays. gone stays.1)
       | inr differs ↦ inr differs
     ]

@@ -30,7 +30,7 @@ row_there table states state byte size within less = omega (arith, size, within,
 module _ (grammar : Grammar) (asked keys : List ScanKey) (accepted : List (Option DefKind)) (table text : List ℕ) (small : AreBytes text) (at state : ℕ)
     (best : Option (ℕ × DefKind))
     (knows : KnowsStates grammar asked keys accepted table) (walk : IsPieceWalk grammar asked keys text at state best) (byte entry : ℕ)
-        (here : slice_get text at ≡
+    (here : slice_get text at ≡
     Some byte) (less : byte < 256)
     (is : slice_get table (256 * state + byte) ≡ Some entry) where
   tells : TellsEntry grammar keys asked walk.key byte entry

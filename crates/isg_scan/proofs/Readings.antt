@@ -40,7 +40,7 @@ module _ {Base : Type 0} (old : GraphMeaning Base) (text : List ℕ) where
       → IsReading old now keys accepted table text at state best before between → at < length text
       → AsksOnly (λ key. slice_get keys state ≡ Some key) now new between after → StandsButScans now new → between ≤ after
       → KeepsNumbers keys others → KnowsStates new.grammar new.scans.keys others kinds rows → IsReading old new others kinds rows text at state best before
-          after
+      after
   reading_asked now new keys others accepted kinds table rows at state best before between after reading within asks stands on keeps knows =
       let walk = reading.walk in
       record {
@@ -52,7 +52,7 @@ module _ {Base : Type 0} (old : GraphMeaning Base) (text : List ℕ) where
             meets. meets)
             (λ key at_key. subst (λ grammar. MeetsState grammar text key) reading.stands.grammar
             (subst (MeetsState now.grammar text) (same_Some walk.key key (sym walk.number ∙ at_key))
-                (state_met now.grammar text at walk.key within walk.after)))
+            (state_met now.grammar text at walk.key within walk.after)))
             reading.asks asks;
         stands = stands_join old now new reading.stands stands;
         never_back = omega (arith, reading.never_back, on);

@@ -118,7 +118,7 @@ module _ (grammar : Grammar) (asked keys : List ScanKey) (text : List ℕ) where
     pub walk_more : (byte number : ℕ) (marks : List Mark) (accepted : Option DefKind) → slice_get text at ≡ Some byte
         → slice_get keys number ≡ Some (Set marks) → LeadsToSet grammar walk.key byte marks
         → Contains asked walk.key → IsWinnerKind grammar (Set marks) accepted → IsPieceWalk grammar asked keys text (at + 1) number (best_with best
-            (at + 1) accepted)
+        (at + 1) accepted)
     walk_more byte number marks accepted here there leads known is =
         let within : at < length text = slice_get_within text at byte here in
         let next : IsStateAfter grammar (take (at + 1) text) (Set marks) =

@@ -88,7 +88,7 @@ cuts_head tokens known (x ∷ xs) i j cuts a = (a.1, a.4)
 
 pub front_more : (tokens : List SymbolId) (known : List Span) (x : SymbolId) (xs : List SymbolId) (i j middle : ℕ) (found below : List (List ℕ))
     → AreFront tokens known x xs i j middle found → IsKnownToDerive tokens known x i middle → i ≤ middle → middle ≤ j
-        → AreAllCuts tokens known xs middle j below
+    → AreAllCuts tokens known xs middle j below
     → AreFront tokens known x xs i j (middle + 1) (found ++ map (λ p. i ∷ p) below)
 front_more tokens known x xs i j middle found below f kn lo hi b = record {
   order = sorted_append (slice_cmp nat_cmp) found (map (λ p. i ∷ p) below) f.order (sorted_map i below b.order) (λ a c m n.

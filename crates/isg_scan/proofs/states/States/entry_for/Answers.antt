@@ -39,4 +39,4 @@ returns-clause-knows c = λ asked is.
     let entries : IsScanTable grammar (keys ++ c.args.key ∷ []) asked c.resize.new.self.items =
     subst (IsScanTable grammar (keys ++ c.args.key ∷ []) asked) (sym table) (table_row grammar keys asked c.args.key c.args.self.now.table.items is) in
     subst (λ list. KnowsStates grammar asked list c.push.new.self.items c.resize.new.self.items) (sym (pushed c))
-        (record { states = states; entries = entries })
+    (record { states = states; entries = entries })

@@ -44,7 +44,7 @@ returns-in_ok-entry-in-Some-clause-knows g c =
     c.in_ok-entry-in-Some.entry
     c.requires.knows.entries c.in_ok-entry-in-Some.ensures.keeps
     (λ seen is. subst (λ grammar. KnowsStates grammar seen c.entry_for.new.self.keys.keys c.entry_for.new.self.accepted.items
-        c.entry_for.new.self.table.items) same
+    c.entry_for.new.self.table.items) same
     (c.in_ok-entry-in-Some.ensures.knows seen (subst (λ grammar. IsScanTable grammar self.keys.keys seen self.table.items) (sym same) is)))
     c.in_ok-entry-in-Some.ensures.entry led c.fill.ensures)
 
@@ -64,7 +64,7 @@ returns-in-None-clause-knows g c =
     let joins = c.in_ok-low.ensures.asks.asks.joins in
     let there = read_at c.as_slice.result.now self.keys.keys c.args.state key c.as_slice.ensures.keys c.requires.state c.index-as_slice-state.is in
     subst (λ grammar. KnowsStates grammar new.scans.keys self.keys.keys self.accepted.items c.fill-in-None.new.table.items)
-        (sym c.in_ok-low.ensures.stands.grammar)
+    (sym c.in_ok-low.ensures.stands.grammar)
     (learned_none old.grammar self.keys.keys old.scans.keys new.scans.keys self.accepted.items self.table.items c.fill-in-None.new.table.items c.args.state
     c.args.byte key there
     (joined old.scans.keys key new.scans.keys joins) (joined_kept old.scans.keys key new.scans.keys joins)
