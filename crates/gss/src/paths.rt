@@ -15,6 +15,7 @@ use std::alloc::Global;
 /// Nodes that stand below each other, from the upper one on.
 #[derive(PartialEq, Eq, Debug, Drop)]
 pub struct Path {
+    /// The nodes, the upper one first.
     pub nodes: ListOf<NodeId>,
 }
 
