@@ -1,6 +1,14 @@
 -- Paths are what trails lead over.
 use Rattle.std.proofs.Common.{◌≡◌, ◌⊎◌, inl, inr, ℕ, zero, suc, ◌+◌, ◌<◌, ◌≤◌, List, [], ◌∷◌, ◌++◌, length, map, Option, None, Some, Bool, true, false, IsTrue}
-use Rattle.std.proofs.Common.{IfSome, slice_get, get_or, Contains, refl, sym, ap, ◌∙◌, subst, arith, add-one}
+use Rattle.std.proofs.Common.{◌||◌, take, IfSome, slice_get, get_or, Contains, refl, sym, ap, ◌∙◌, subst, arith, add-one}
+use Rattle.std.specs.Prelude.{nat_eq}
+use Rattle.std.specs.Bool.{Decides}
+use Rattle.std.specs.Cmp.{unsigned_Decides}
+use Rattle.std.specs.Cmp.Lexicographic.{pointwise}
+use Rattle.std.specs.List.{list_any}
+use Rattle.std.proofs.lemmas.Bool.{or_left, or_right}
+use Rattle.std.proofs.lemmas.List.{take_more, map-append}
+use Rattle.std.proofs.lemmas.Slice.Eq.{slice_eq-Decides}
 use Rattle.std.proofs.lemmas.List.Elements.{Contains-append_left, Contains-append_right, Contains-push_cases}
 use Rattle.std.proofs.lemmas.Option.{same_Some, slice_get_within, get_or_from_slice_get}
 use Rattle.forest.specs.Distinct.{IsDistinct, AreAll}
@@ -43,20 +51,27 @@ module _ (links : List Edge) (last : ℕ) where
         down_path (lower_of links link) trail end (subst (λ (n : NodeId). LeadsDown links last n.0 trail end) below on),
       )
 
-  -- the path goes through each link of the trail
-  pub passes_step : (node : NodeId) (trail : List ℕ) (end : ℕ) (through : ℕ) (edge : Edge) → LeadsDown links last node.0 trail end
-      → Contains trail through → slice_get links through ≡ Some edge → HasStep (node ∷ map (lower_of links) trail) edge.upper edge.lower
-  passes_step node [] end through edge down has at = absurd (omega (arith, has.1))
-  passes_step node (link ∷ trail) end through edge (own, at', up, le, on) has at = elim (contains_cases link trail through has) [
+  step_at : (node : NodeId) (trail : List ℕ) (end : ℕ) (through : ℕ) (edge : Edge) → LeadsDown links last node.0 trail end
+      → Contains trail through → slice_get links through ≡ Some edge → (k : ℕ) × (slice_get (node ∷ map (lower_of links) trail) k ≡ Some (node_id edge.upper))
+      × (slice_get (map (lower_of links) trail) k ≡ Some (node_id edge.lower))
+  step_at node [] end through edge down has at = absurd (omega (arith, has.1))
+  step_at node (link ∷ trail) end through edge (own, at', up, le, on) has at = elim (contains_cases link trail through has) [
     | inl is ↦
         let there : slice_get links link ≡ Some edge = subst (λ l. slice_get links l ≡ Some edge) (sym is) at in
         let same : own ≡ edge = same_Some own edge (sym at' ∙ there) in
         (0, ap (λ n. Some (node_id n)) (sym up ∙ ap (λ (e : Edge). e.upper) same), ap Some (lower_is links link edge there))
     | inr below ↦
         let on' = subst (λ (n : NodeId). LeadsDown links last n.0 trail end) (sym (lower_is links link own at')) on in
-        let (k, upper, lower) = passes_step (lower_of links link) trail end through edge on' below at in
+        let (k, upper, lower) = step_at (lower_of links link) trail end through edge on' below at in
         (suc k, upper, lower)
   ]
+
+  -- the path goes through each link of the trail
+  pub passes_step : (node : NodeId) (trail : List ℕ) (end : ℕ) (through : ℕ) (edge : Edge) → LeadsDown links last node.0 trail end
+      → Contains trail through → slice_get links through ≡ Some edge → HasStep (node ∷ map (lower_of links) trail) edge.upper edge.lower
+  passes_step node trail end through edge down has at =
+      let (k, upper, lower) = step_at node trail end through edge down has at in
+      (k, upper, subst (λ n. slice_get (node ∷ map (lower_of links) trail) n ≡ Some (node_id edge.lower)) (sym (add-one k)) lower)
 
 -- a trail over the nodes of a path
 pub record HasTrail (links : List Edge) (last : ℕ) (node : NodeId) (count : ℕ) (nodes : List NodeId) : Type 0 where
@@ -68,7 +83,7 @@ pub record HasTrail (links : List Edge) (last : ℕ) (node : NodeId) (count : �
 
 module _ (links : List Edge) (last : ℕ) (within : (link : ℕ) → link < length links → link ≤ last) where
   -- one link more at the top of a trail
-  over : (node lower : NodeId) (count : ℕ) (rest : List NodeId) (link : ℕ) (edge : Edge) → slice_get links link ≡ Some edge → edge.upper ≡ node.0
+  abbrev over : (node lower : NodeId) (count : ℕ) (rest : List NodeId) (link : ℕ) (edge : Edge) → slice_get links link ≡ Some edge → edge.upper ≡ node.0
       → edge.lower ≡ lower.0 → HasTrail links last lower count rest → HasTrail links last node (suc count) (node ∷ rest)
   over node lower count rest link edge at up low has =
       let below : lower_of links link ≡ lower = lower_is links link edge at ∙ ap node_id low in
@@ -113,11 +128,21 @@ module _ (links : List Edge) (last : ℕ) (within : (link : ℕ) → link < leng
       (over node below count rest link own at' (ap (λ (l : Link). l.upper) same ∙ up) (ap (λ (l : Link). l.lower) same ∙ low) has,
       contains_there link has.trail through passes)
 
+-- the nodes along one link more
+pub along_more : (links : List Edge) (node : NodeId) (trail : List ℕ) (i : ℕ) (edge : Edge) (old new : List NodeId) → i < length trail
+    → slice_get links (get_or trail i 0) ≡ Some edge → old ≡ node ∷ map (lower_of links) (take i trail) → new ≡ old ++ node_id edge.lower ∷ []
+    → new ≡ node ∷ map (lower_of links) (take (i + 1) trail)
+along_more links node trail i edge old new near at old_is new_is =
+    let more : map (lower_of links) (take (i + 1) trail) ≡ map (lower_of links) (take i trail) ++ lower_of links (get_or trail i 0) ∷ [] =
+    ap (map (lower_of links)) (take_more trail i 0 near) ∙ map-append (lower_of links) (take i trail) (get_or trail i 0 ∷ []) in
+    new_is ∙ ap (λ ns. ns ++ node_id edge.lower ∷ []) old_is
+    ∙ ap (λ n. node ∷ map (lower_of links) (take i trail) ++ n ∷ []) (sym (lower_is links (get_or trail i 0) edge at)) ∙ ap (λ ns. node ∷ ns) (sym more)
+
 -- ---- the walk's trails and the paths
 
-path_is : {links : List Edge} {node : NodeId} {trail : List ℕ} (path : Path) → path.nodes ≡ node ∷ map (lower_of links) trail
+path_is : (links : List Edge) (node : NodeId) (trail : List ℕ) (path : Path) → path.nodes ≡ node ∷ map (lower_of links) trail
     → path ≡ path_along links node trail
-path_is path is = ap (λ ns. let p : Path = record { nodes = ns } in p) is
+path_is links node trail path is = ap (λ ns. let p : Path = record { nodes = ns } in p) is
 
 module _ (links : List Edge) (node : NodeId) (count : ℕ) where
   trail_passes : (through : Option LinkId) → IfSome through (λ l. l.0 < length links) → (trail : List ℕ) → IsTrailOf links (walk_of node count through) trail
@@ -139,7 +164,7 @@ module _ (links : List Edge) (node : NodeId) (count : ℕ) where
       → (trail : List ℕ) × IsTrailOf links (walk_of node count through) trail × (path ≡ path_along links node trail)
   trail_of_path few None path is =
       let has = path_down links none few count node path.nodes is.down in
-      (has.trail, record { node = has.end; down = has.down; size = has.size; passes = tt }, path_is path has.nodes_are)
+      (has.trail, record { node = has.end; down = has.down; size = has.size; passes = tt }, path_is links node has.trail path has.nodes_are)
   trail_of_path few (Some l) path is =
       let (link, at, (k, upper, lower)) = is.passes in
       let (edge, at', same) = from_column link_in links l.0 link at in
@@ -147,7 +172,7 @@ module _ (links : List Edge) (node : NodeId) (count : ℕ) where
       let lower' : slice_get path.nodes (suc k) ≡ Some (node_id edge.lower) =
       subst (λ n. slice_get path.nodes n ≡ Some (node_id link.lower)) (add-one k) lower ∙ ap (λ (q : Link). Some (node_id q.lower)) (sym same) in
       let (has, passes) = step_passes links none few l.0 edge at' count node path.nodes is.down k upper' lower' in
-      (has.trail, record { node = has.end; down = has.down; size = has.size; passes = passes }, path_is path has.nodes_are)
+      (has.trail, record { node = has.end; down = has.down; size = has.size; passes = passes }, path_is links node has.trail path has.nodes_are)
 
 -- ---- the list that the walk is made into
 
@@ -207,7 +232,7 @@ calls_left links at true = suc (left_from links at.walk at.trail)
 calls_left links at false = 0
 
 module _ (links : List Edge) (node : NodeId) (count : ℕ) (through : Option LinkId) where
-  new_walk : Standing
+  abbrev pub new_walk : Standing
   new_walk = record { walk = walk_of node count through; is_begun = false; trail = [] }
 
   pub paths_first : (at : Standing) (is_more : Bool) → at.walk ≡ walk_of node count through → IsTrue at.is_begun → IsOn links at
@@ -277,3 +302,37 @@ module _ (links : List Edge) (node : NodeId) (count : ℕ) (through : Option Lin
   pub here_within : (at : Standing) (found : List Path) → ArePathsSoFar links node count through at true found → (link : ℕ) → Contains at.trail link
       → link < length links
   here_within at found so_far link c = let is = so_far.here refl in down_within links none node.0 at.trail is.node is.down link c
+
+-- ---- whether a path is there
+
+or_cases : (a b : Bool) → (a || b) ≡ true → (a ≡ true) ⊎ (b ≡ true)
+or_cases true b e = inl refl
+or_cases false b e = inr e
+
+list_any-decides : {X : Type 0} (eq : X → X → Bool) → ((a b : X) → Decides (eq a b) (a ≡ b)) → (xs : List X) (x : X)
+    → Decides (list_any (λ y. eq y x) xs) (Contains xs x)
+list_any-decides eq decides [] x = (λ e. absurd cc, λ c. absurd (omega (arith, c.1)))
+list_any-decides eq decides (y ∷ ys) x = (
+  λ e. elim (or_cases (eq y x) (list_any (λ z. eq z x) ys) e) [
+    | inl same ↦ subst (λ z. Contains (y ∷ ys) z) ((decides y x).0 same) (contains_here y ys)
+    | inr behind ↦ contains_there y ys x ((list_any-decides eq decides ys x).0 behind)
+  ],
+  λ c. elim (contains_cases y ys x c) [
+    | inl same ↦ or_left (eq y x) (list_any (λ z. eq z x) ys) ((decides y x).1 same)
+    | inr behind ↦ or_right (eq y x) (list_any (λ z. eq z x) ys) ((list_any-decides eq decides ys x).1 behind)
+  ],
+)
+
+node_eq-decides : (a b : NodeId) → Decides (nat_eq a.0 b.0) (a ≡ b)
+node_eq-decides a b = let numbers = unsigned_Decides a.0 b.0 in (λ e. ap node_id (numbers.0 e), λ e. numbers.1 (ap (λ (n : NodeId). n.0) e))
+
+path_eq-decides : (a b : Path) → Decides (pointwise (λ (n m : NodeId). nat_eq n.0 m.0) a.nodes b.nodes) (a ≡ b)
+path_eq-decides a b =
+    let nodes = slice_eq-Decides node_eq-decides a.nodes b.nodes (pointwise (λ (n m : NodeId). nat_eq n.0 m.0) a.nodes b.nodes) refl in
+    (λ e. ap (λ ns. let p : Path = record { nodes = ns } in p) (nodes.0 e), λ e. nodes.1 (ap (λ (p : Path). p.nodes) e))
+
+pub has_path : (found : List Path) (path : Path) (has : Bool) → has ≡ list_any (λ p. pointwise (λ (n m : NodeId). nat_eq n.0 m.0) p.nodes path.nodes) found
+    → Decides has (Contains found path)
+has_path found path has is =
+    let decides = list_any-decides (λ (p q : Path). pointwise (λ (n m : NodeId). nat_eq n.0 m.0) p.nodes q.nodes) path_eq-decides found path in
+    subst (λ b. Decides b (Contains found path)) (sym is) decides

@@ -2,7 +2,7 @@
 use Rattle.std.proofs.Common.{◌≡◌, ◌⊎◌, inl, inr, ℕ, zero, suc, ◌<◌, ◌≤◌, List, [], ◌∷◌, ◌++◌, length, get_or, Some, slice_get, Contains, refl, sym, ap, ◌∙◌, subst, arith}
 use Rattle.std.proofs.lemmas.Bool.{cases_lt}
 use Rattle.std.proofs.lemmas.Option.{slice_get_within, same_Some}
-use Rattle.forest.proofs.Ascending.{contains_here, contains_there, contains_cases}
+use Rattle.forest.proofs.Ascending.{contains_cases}
 use Rattle.gss.specs.declared.stack_graph.Edge.{Edge}
 use Rattle.gss.specs.Numbers.{IsLeast}
 use Rattle.gss.specs.PlaceGraphs.{LeadsDownFrom, LeadsFromSame}
@@ -72,11 +72,6 @@ from_whole (link ∷ trail) (x ∷ other) size (inr (same, on)) = elim (from_who
 -- behind the last one are all with the property, if the least is
 pub none_until : {P : ℕ → Type 0} (least last : ℕ) → IsLeast P least → last < least → (other : ℕ) → P other → last < other
 none_until least last is behind other has = elim (cases_lt other least) [ inl less ↦ absurd (is.least other less has) | inr not ↦ omega (arith, behind, not) ]
-
-pub at_contains : (xs : List ℕ) (n d : ℕ) → n < length xs → Contains xs (get_or xs n d)
-at_contains [] n d within = absurd (omega (arith, within))
-at_contains (x ∷ xs) zero d within = contains_here x xs
-at_contains (x ∷ xs) (suc n) d within = contains_there x xs (get_or xs n d) (at_contains xs n d (omega (arith, within)))
 
 same_edge : (links : List Edge) (a b : ℕ) (edge other : Edge) → slice_get links a ≡ Some edge → slice_get links b ≡ Some other → a ≡ b → other ≡ edge
 same_edge links a b edge other at at' same = same_Some other edge (sym at' ∙ ap (λ l. slice_get links l) (sym same) ∙ at)
