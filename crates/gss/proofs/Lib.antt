@@ -6,4 +6,7 @@ pub mod Searching
 pub mod Reading
 pub mod LinkWalks
 pub mod KernelNumbers
-pub mod PathLists
+pub mod TrailOrders
+pub mod TrailRanks
+pub mod TrailSteps
+pub mod PathTrails

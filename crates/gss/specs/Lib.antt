@@ -2,6 +2,8 @@ pub mod Numbers
 pub mod PlaceGraphs
 pub mod KernelGraphs
 pub mod Paths
+pub mod Trails
+pub mod Descents
 pub mod Chains
 pub mod Rows
 pub mod Views

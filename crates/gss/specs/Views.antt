@@ -1,13 +1,17 @@
 -- Stacks by kernels as they lie in a graph by numbers.
 use Rattle.std.specs.Prelude.{◌≡◌, ℕ, ◌<◌, ◌≤◌, ◌⊎◌, List, [], ◌∷◌, ◌++◌, length, map, slice_get, slice_index_or, Option, None, Some, Contains}
-use Rattle.forest.specs.Distinct.{IsDistinct}
+use Rattle.forest.specs.declared.symbols.TheConstants.{START}
 use Rattle.item_sets.specs.declared.item.Item.{Item}
 use Rattle.gss.specs.declared.stack_graph.Place.{Place}
 use Rattle.gss.specs.declared.stack_graph.Edge.{Edge}
 use Rattle.gss.specs.declared.paths.Path.{Path}
 use Rattle.gss.specs.declared.stacks.NodeId.{NodeId}
+use Rattle.gss.specs.declared.stacks.LinkId.{LinkId}
+use Rattle.gss.specs.declared.trails.Walk.{Walk}
+use Rattle.gss.specs.PlaceGraphs.{edge_of}
+use Rattle.gss.specs.Chains.{none}
 use Rattle.gss.specs.KernelGraphs.{KernelPlace, Link, kernel_at, link_of}
-use Rattle.gss.specs.Paths.{Leads}
+use Rattle.gss.specs.Paths.{node_id}
 
 -- a node, whose state is the number of its kernel
 abbrev pub kernel_place : List (List Item) → Place → KernelPlace
@@ -40,20 +44,22 @@ IsToCome None k = ⊥
 IsToCome (Some next) k = next ≤ k
 
 -- x was added unless it was there
-abbrev pub AddsNew : List ℕ → List ℕ → ℕ → Type 0
+abbrev pub AddsNew : {X : Type 0} → List X → List X → X → Type 0
 AddsNew old new x = (Contains old x × (new ≡ old)) ⊎ ((Contains old x → ⊥) × (new ≡ old ++ x ∷ []))
 
--- the path with one node more at its end
-abbrev pub with_node : Path → NodeId → Path
-with_node path node = record { nodes = path.nodes ++ node ∷ [] }
+-- the number of the link, if one is named
+abbrev pub named : Option LinkId → Option ℕ
+named None = None
+named (Some link) = Some link.0
 
--- some link leads down from the n-th node of the path to the node
-abbrev pub HasBelow : List Link → ℕ → Path → NodeId → Type 0
-HasBelow links n path lower = (bottom : NodeId) × (slice_get path.nodes n ≡ Some bottom) × Leads links bottom lower
+-- the walk for paths of so many links down from the node
+abbrev pub walk_of : NodeId → ℕ → Option LinkId → Walk
+walk_of node count through = record { top = node.0; length = count; last = none; through = named through }
 
--- found has the paths with one node more below each of these paths, each once
-pub record AreLonger (links : List Link) (n : ℕ) (paths found : List Path) : Type 0 where
-  pub once : IsDistinct found
-  pub within : (path : Path) → Contains found path → (front : Path) × (lower : NodeId) × (path ≡ with_node front lower) × Contains paths front
-      × HasBelow links n front lower
-  pub all : (front : Path) (lower : NodeId) → Contains paths front → HasBelow links n front lower → Contains found (with_node front lower)
+-- the node below the link
+abbrev pub lower_of : List Edge → ℕ → NodeId
+lower_of links link = node_id (slice_index_or links link (edge_of 0 START 0 0)).lower
+
+-- the nodes that the trail leads over
+abbrev pub path_along : List Edge → NodeId → List ℕ → Path
+path_along links node trail = record { nodes = node ∷ map (lower_of links) trail }

@@ -18,17 +18,24 @@ pub(crate) const NONE: u32 = u32::MAX;
 /// newest first.
 #[derive(Clone, Copy)]
 pub(crate) struct NodeRow {
+    /// The state and the position.
     pub(crate) place: Place,
+    /// The oldest link down from the node, or `NONE`.
     pub(crate) first: u32,
+    /// The newest link down from the node, or `NONE`.
     pub(crate) last: u32,
+    /// The newest link down to the node, or `NONE`.
     pub(crate) above: u32,
 }
 
 /// A link with the next one down from its upper node, and the one before it down to its lower node.
 #[derive(Clone, Copy)]
 pub(crate) struct LinkRow {
+    /// The ends, the symbol and the label.
     pub(crate) edge: Edge,
+    /// The next newer link down from the same upper node, or `NONE`.
     pub(crate) next: u32,
+    /// The next older link down to the same lower node, or `NONE`.
     pub(crate) older: u32,
 }
 

@@ -13,16 +13,22 @@ use std::marker::Model;
 /// A node: a state of the parser at a position of the text, the state by a number of the caller's.
 #[derive(Clone, Copy, PartialEq, Eq, Debug)]
 pub struct Place {
+    /// The number of the state.
     pub state: u32,
+    /// The position: how many tokens stand before it.
     pub at: u32,
 }
 
 /// A link from the upper node down to the lower one, which have these numbers. The label is a number of the caller's.
 #[derive(Clone, Copy, PartialEq, Eq, Debug)]
 pub struct Edge {
+    /// The node that it leads down from.
     pub upper: u32,
+    /// The symbol that was read between the two.
     pub symbol: SymbolId,
+    /// The node that it leads down to.
     pub lower: u32,
+    /// What the caller keeps beside the link.
     pub label: u32,
 }
 
@@ -31,7 +37,9 @@ pub struct Edge {
 /// over the links down to one node.
 #[derive(Drop)]
 pub struct StackGraph {
+    /// The nodes, by number.
     nodes: Vec<NodeRow>,
+    /// The links, by number.
     links: Vec<LinkRow>,
     /// For each state its newest node.
     newest: Vec<u32>,

@@ -30,7 +30,9 @@ pub struct LinkId(pub u32);
 pub struct Stacks {
     /// Their places are the states of the graph.
     kernels: IndexSet<Kernel>,
+    /// The same nodes and links, with the numbers of kernels for states.
     graph: StackGraph,
+    /// Where the memory of paths is taken from.
     alloc: Global,
 }
 

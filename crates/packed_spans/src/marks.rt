@@ -13,7 +13,9 @@ use std::alloc::Global;
 /// Which spans are reached, and which of these wait until their parts are marked too.
 #[derive(Drop)]
 pub(crate) struct Marks {
+    /// Of each span, whether it is reached.
     pub(crate) marked: Vec<bool>,
+    /// The numbers of the reached spans that wait.
     pub(crate) waiting: Vec<u32>,
 }
 

@@ -20,7 +20,9 @@ use std::marker::Model;
 /// in the order in which they were added.
 #[derive(Drop)]
 pub struct PackedSpans {
+    /// All spans and splits.
     table: Table,
+    /// What the last forest has marked. The lists are kept for their memory alone.
     marks: Marks,
 }
 

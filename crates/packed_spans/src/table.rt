@@ -13,7 +13,9 @@ pub(crate) const INLINE_PARTS: u32 = 2;
 /// A span with a link to its newest split. A link is one more than the number of a split, and 0 leads nowhere.
 #[derive(Clone, Copy, Drop)]
 pub(crate) struct SpanRow {
+    /// The symbol and the places.
     pub(crate) span: Span,
+    /// The link to its newest split.
     pub(crate) newest: u32,
     /// How many splits it has, so that room for all is taken at once. Nothing else depends on it.
     pub(crate) count: usize,
@@ -23,20 +25,28 @@ pub(crate) struct SpanRow {
 /// list of parts.
 #[derive(Clone, Copy, Drop)]
 pub(crate) struct SplitRow {
+    /// The number of the span.
     pub(crate) span: u32,
+    /// The rule whose right side is split.
     pub(crate) rule: RuleId,
     /// The link to the next older split of the span.
     pub(crate) older: u32,
+    /// How many parts there are.
     pub(crate) length: u32,
+    /// The first of up to two parts, or where more of them begin in the list of parts.
     pub(crate) first: u32,
+    /// The second of two parts.
     pub(crate) second: u32,
 }
 
 /// Spans and splits by number, and the parts of splits with more than two.
 #[derive(Drop)]
 pub(crate) struct Table {
+    /// A row for each span.
     pub(crate) spans: Vec<SpanRow>,
+    /// A row for each split, in the order in which they were added.
     pub(crate) splits: Vec<SplitRow>,
+    /// The parts of splits with more than two, those of one split together.
     pub(crate) parts: Vec<u32>,
 }
 

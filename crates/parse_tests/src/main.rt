@@ -6,7 +6,9 @@
 #![tactic(auto)]
 
 mod answers;
+mod asks;
 mod comparing;
+mod counter;
 mod draws;
 mod families;
 mod grammars;

@@ -19,11 +19,13 @@ pub(crate) const UNKNOWN: u32 = 0;
 /// The moves of all states, those of one state together, by lists for each thing.
 #[derive(Drop)]
 pub(crate) struct MoveLists {
+    /// The symbol of each move. Those of one state ascend.
     pub(crate) symbols: Vec<SymbolId>,
     /// Where among the items those behind the move stand.
     pub(crate) behind: Vec<Part>,
     /// One more than the number of the state behind the move, or `UNKNOWN`.
     pub(crate) targets: Vec<u32>,
+    /// The items behind all moves, those of one move together.
     pub(crate) items: Vec<Item>,
 }
 

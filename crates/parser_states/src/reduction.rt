@@ -11,8 +11,11 @@ use live_graph::NoMemory;
 /// A live rule that is finished in a state, with its left side and the length of its right side.
 #[derive(Clone, Copy, PartialEq, Eq)]
 pub struct Reduction {
+    /// The number of the rule.
     pub rule: RuleId,
+    /// Its left side.
     pub left: SymbolId,
+    /// How many symbols its right side has.
     pub length: u32,
 }
 

@@ -14,7 +14,9 @@ use std::alloc::AllocError;
 /// The places of a list from the first on and before another.
 #[derive(Clone, Copy)]
 pub(crate) struct Part {
+    /// The first place.
     pub(crate) first: u32,
+    /// The place behind the last one.
     pub(crate) past: u32,
 }
 

@@ -25,6 +25,7 @@ use steps::Steps;
 /// What a method says of a state holds by whichever rules the states are expanded.
 #[derive(Drop)]
 pub struct States {
+    /// The states in lists.
     table: Table,
 }
 

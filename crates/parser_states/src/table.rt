@@ -29,10 +29,13 @@ use steps::Steps;
 /// The states in lists.
 #[derive(Drop)]
 pub(crate) struct Table {
+    /// The kernels, whose places here are the numbers of the states.
     pub(crate) keys: IndexSet<Kernel>,
     /// A row for each state.
     pub(crate) rows: Vec<Row>,
+    /// The moves of all states.
     pub(crate) moves: MoveLists,
+    /// The finished rules of all states, those of one state together.
     pub(crate) reductions: Vec<Reduction>,
     /// The finished rules of the state that is asked for.
     pub(crate) finished: Vec<RuleId>,

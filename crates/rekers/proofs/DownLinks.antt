@@ -16,6 +16,7 @@ use Rattle.gss.specs.declared.stack_graph.Edge.{Edge}
 use Rattle.gss.specs.Numbers.{IsLeast, HasNone}
 use Rattle.gss.specs.PlaceGraphs.{LeadsDownFrom, LeadsFromSame, edge_of}
 use Rattle.parser_states.specs.Asked.{StandsButKernels}
+use Rattle.parser_states.proofs.AskedKernels.{stands_same, stands_join}
 use Rattle.rekers.specs.declared.parser.Parser.{Parser}
 use Rattle.rekers.specs.declared.walk.Walk.{Walk}
 use Rattle.rekers.specs.declared.parse_error.ParseError.{ParseError}
@@ -29,7 +30,7 @@ use Rattle.rekers.specs.Sound.{IsSoundParser}
 use Rattle.rekers.specs.Steps.{IsStep, IsWithinLimit, IsWalking, IsWalked, IsFresh, IsThrough, IsToReduce, Reduces}
 use Rattle.rekers.proofs.Growth.{one_at, node_grows, partial_grows}
 use Rattle.rekers.proofs.Trails.{one_down}
-use Rattle.rekers.proofs.Stepping.{step_none, step_on, stands_none, stands_on}
+use Rattle.rekers.proofs.Stepping.{step_none, step_on}
 use Rattle.rekers.proofs.WalkedTo.{IsNext, IsWalkedTo, LeadsFromBehind, walked_none, walked_more}
 use Rattle.rekers.proofs.WalkedTo.{walked_all, walked_whole, walked_beside, walked_below, fresh_next}
 
@@ -79,7 +80,7 @@ pub down_none : {Base : Type 0} (tokens : List SymbolId) (p : Parser) (graph : G
     → IfNone next (HasNone (LeadsDownFrom p.stacks.links node)) → IsDown tokens p p graph graph steps steps walk node left next
 down_none tokens p graph steps walk node left next sound within some none = record {
   step = step_none tokens p graph steps sound;
-  stands = stands_none graph;
+  stands = stands_same graph;
   back = omega arith;
   within = within;
   end = refl;
@@ -193,7 +194,7 @@ module _ {Base : Type 0} (tokens : List SymbolId) (old p : Parser) (graph first 
       down_more walked within kept size same_size stands back next is_some is_none =
           let rules = graph.grammar.rules in
           let end = drop left old.trail.items in
-          let both = stands_on graph first second down.stands stands in
+          let both = stands_join graph first second down.stands stands in
           let later : IsSoundParser rules tokens q = subst (λ (gr : Grammar). IsSoundParser gr.rules tokens q) both.grammar step_both.sound in
           let by_rules : IsWalked rules (found p) (found q) walk p.level.at (drop (left - 1) trail.items) =
           subst (λ (gr : Grammar). IsWalked gr.rules (found p) (found q) walk p.level.at (drop (left - 1) trail.items)) down.stands.grammar walked in

@@ -18,6 +18,7 @@ use Rattle.parser_states.specs.declared.reduction.Reduction.{Reduction}
 use Rattle.parser_states.specs.Reductions.{ListsReductions}
 use Rattle.parser_states.specs.Expanded.{OfState}
 use Rattle.parser_states.specs.Asked.{StandsButKernels}
+use Rattle.parser_states.proofs.AskedKernels.{stands_same, stands_join}
 use Rattle.rekers.specs.declared.parser.Parser.{Parser}
 use Rattle.rekers.specs.declared.level.Level.{Level}
 use Rattle.rekers.specs.Found.{found, IsNode}
@@ -26,7 +27,7 @@ use Rattle.rekers.specs.Sound.{IsSoundParser}
 use Rattle.rekers.specs.Steps.{IsStep, IsWithinLimit, IsToReduce, Reduces}
 use Rattle.rekers.proofs.Growth.{one_at, one_kernel, kernel_at, node_grows, told_grows}
 use Rattle.rekers.proofs.Walks.{partial_left, reduced_on, told_back}
-use Rattle.rekers.proofs.Stepping.{step_none, step_on, stands_none, stands_on}
+use Rattle.rekers.proofs.Stepping.{step_none, step_on}
 use Rattle.rekers.proofs.DownLinks.{sound_trail, within_trail}
 use Rattle.rekers.proofs.Worked.{worked_node}
 use Rattle.rekers.proofs.EmptyRules.{one_listing, other_rule, along_none, listed_reducible, reducible_listed}
@@ -63,7 +64,7 @@ none_emptied tokens p trail graph steps node place list sound within none of_lev
     record {
       step = record { sound = sound_trail rules tokens p trail sound; grows = step.grows; placed = step.placed; level = step.level; asks = step.asks };
       within = within_trail p trail within;
-      stands = stands_none graph;
+      stands = stands_same graph;
       never_back = omega arith;
       trail = none;
       kernel = kernel;
@@ -155,7 +156,7 @@ module _ {Base : Type 0} (tokens : List SymbolId) (p q : Parser) (graph graph' :
       record {
         step = step_on tokens p q t graph graph' graph'' before between after so_far.step step;
         within = within;
-        stands = stands_on graph graph' graph'' so_far.stands stands;
+        stands = stands_join graph graph' graph'' so_far.stands stands;
         never_back = let n = so_far.never_back in omega (arith, n, never_back);
         trail = ap (λ (ts : Vec ℕ Global). ts.items) trail ∙ so_far.trail;
         kernel = so_far.kernel;

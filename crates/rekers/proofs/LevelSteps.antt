@@ -1,14 +1,12 @@
 -- From level to level what was done stays done, and the graph is asked for the states of the nodes.
-use Rattle.std.proofs.Common.{◌≡◌, ℕ, ◌≤◌, inl, inr, List, [], length, sym, subst, arith, slice_get, Some}
+use Rattle.std.proofs.Common.{◌≡◌, ℕ, ◌≤◌, inl, inr, List, [], length, sym, subst, arith}
 use Rattle.std.proofs.lemmas.Bool.{cases_lt}
 use Rattle.std.proofs.lemmas.Option.{slice_get_within}
 use Rattle.forest.specs.declared.symbols.SymbolId.{SymbolId}
 use Rattle.forest.specs.declared.rules.Rule.{Rule}
 use Rattle.item_sets.specs.declared.item.Item.{Item}
-use Rattle.item_sets.proofs.Chains.{at_below}
 use Rattle.gss.specs.PlaceGraphs.{place_with}
 use Rattle.live_graph.specs.Meaning.{GraphMeaning}
-use Rattle.live_graph.proofs.Rises.{rise_join}
 use Rattle.parser_states.specs.Asked.{IsNew, AsksNew}
 use Rattle.rekers.specs.States.{IsStateAt, IsStateReached}
 use Rattle.rekers.specs.Asked.{AsksStates, AsksSomeStates}
@@ -37,14 +35,6 @@ shifted_grows rules tokens f g at first_node first_link sound grows within level
 
 -- ---- what is asked
 
-keeps_longer : {X : Type 0} (xs ys : List X) → KeepsNumbers xs ys → length xs ≤ length ys
-keeps_longer xs ys keeps = elim (cases_lt (length ys) (length xs)) [
-  | inl less ↦
-      let (x, e) = at_below xs (length ys) less in
-      absurd (omega (arith, slice_get_within ys (length ys) x (keeps (length ys) x e)))
-  | inr most ↦ omega (arith, most)
-]
-
 pub keeps_none : {X : Type 0} (xs : List X) → KeepsNumbers [] xs
 keeps_none xs place x e = absurd (omega (arith, slice_get_within [] place x e))
 
@@ -57,28 +47,6 @@ reached rules tokens f graph placed kernel is =
     (i, node_state rules tokens f graph at)
 
 module _ {Base : Type 0} where
-  pub asks_join : (a b c : List (List Item)) (old middle new : GraphMeaning Base) (before between after : ℕ) → KeepsNumbers a b → KeepsNumbers b c
-      → AsksNew a b old middle before between → AsksNew b c middle new between after → AsksNew a c old new before after
-  asks_join a b c old middle new before between after ab bc first second = record {
-    kept = λ kernel has. second.kept kernel (first.kept kernel has);
-    asked = λ kernel is. let (number, past, there) = is in elim (cases_lt number (length b)) [
-      | inl below ↦
-          let (other, e) = at_below b number below in
-          let again = bc number other e in
-          let same : Some other ≡ Some kernel = cc in
-          second.kept kernel (first.asked kernel (number, past, subst (λ o. slice_get b number ≡ o) same e))
-      | inr new_one ↦ second.asked kernel (number, omega (arith, new_one), there)
-    ];
-    within = λ kernel has. elim (second.within kernel has) [
-      | inl earlier ↦ elim (first.within kernel earlier) [
-        | inl old_one ↦ inl old_one
-        | inr is ↦ let (number, past, there) = is in inr (number, past, bc number kernel there)
-      ]
-      | inr is ↦ let (number, past, there) = is in inr (number, omega (arith, past, keeps_longer a b ab), there)
-    ];
-    rises = rise_join old middle new before between after first.rises second.rises;
-  }
-
   pub asks_some : (rules : List Rule) (tokens : List SymbolId) (f : Findings) (old new : GraphMeaning Base) (before after : ℕ) → rules ≡ old.grammar.rules
       → IsSoundGraph rules tokens f → ArePlaced f → AsksNew [] f.kernels old new before after → AsksSomeStates tokens old new
   asks_some rules tokens f old new before after is graph placed asks = record {

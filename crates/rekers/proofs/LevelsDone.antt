@@ -10,6 +10,7 @@ use Rattle.item_sets.specs.declared.item.Item.{Item}
 use Rattle.live_graph.specs.Meaning.{GraphMeaning}
 use Rattle.live_graph.specs.Cost.{RisesAsCost}
 use Rattle.parser_states.specs.Asked.{StandsButKernels, AsksNew}
+use Rattle.parser_states.proofs.AskedKernels.{asks_join}
 use Rattle.rekers.specs.declared.level.Level.{Level}
 use Rattle.rekers.specs.declared.parser.Parser.{Parser}
 use Rattle.rekers.specs.declared.limits.TheConstants.{SIZE_LIMIT}
@@ -26,7 +27,7 @@ use Rattle.rekers.specs.Levels.{AreLevelsDone, IsStopped}
 use Rattle.rekers.proofs.Growth.{keeps_on}
 use Rattle.rekers.proofs.AtEnd.{IsAtEnd, is_done, found_size}
 use Rattle.rekers.proofs.FoundSizes.{above}
-use Rattle.rekers.proofs.LevelSteps.{shifted_grows, asks_join, asks_some, asks_all, keeps_none}
+use Rattle.rekers.proofs.LevelSteps.{shifted_grows, asks_some, asks_all, keeps_none}
 
 -- ---- what `?` hands on
 

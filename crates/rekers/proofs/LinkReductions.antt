@@ -14,6 +14,7 @@ use Rattle.gss.specs.PlaceGraphs.{place_with}
 use Rattle.packed_spans.specs.Packed.{PackedSplit}
 use Rattle.parser_states.specs.declared.reduction.Reduction.{Reduction}
 use Rattle.parser_states.specs.Asked.{StandsButKernels}
+use Rattle.parser_states.proofs.AskedKernels.{stands_same, stands_join}
 use Rattle.rekers.specs.declared.parser.Parser.{Parser}
 use Rattle.rekers.specs.declared.level.Level.{Level}
 use Rattle.forest.specs.Numbers.{KeepsNumbers}
@@ -25,7 +26,7 @@ use Rattle.rekers.proofs.Growth.{node_below, told_grows}
 use Rattle.rekers.proofs.Trails.{between, one_told, trail_rises}
 use Rattle.rekers.proofs.Walks.{partial_left, reduced_on, told_back}
 use Rattle.rekers.proofs.Worked.{below_each, reducible_back, worked_link}
-use Rattle.rekers.proofs.Stepping.{step_none, step_on, stands_none, stands_on}
+use Rattle.rekers.proofs.Stepping.{step_none, step_on}
 use Rattle.rekers.proofs.StartedWalks.{ends_up}
 
 -- all reductions from the top along trails through the link are made
@@ -169,7 +170,7 @@ pub link_way_none : {Base : Type 0} (tokens : List SymbolId) (p : Parser) (graph
     → IsWithinLimit p → IsLinkUnderWay tokens p p graph graph steps steps first first link
 link_way_none tokens p graph steps first link sound within = record {
   step = step_none tokens p graph steps sound;
-  stands = stands_none graph;
+  stands = stands_same graph;
   back = omega arith;
   within = within;
   walked = nodes_walked_none graph.grammar.rules (found p) first link p.level.at;
@@ -206,7 +207,7 @@ module _ {Base : Type 0} (tokens : List SymbolId) (old p : Parser) (graph first 
       → IsNodeWalked first.grammar.rules (found p) (found q) node link p.level.at → IsWithinLimit q → StandsButKernels first second → between ≤ after
       → IsLinkUnderWay tokens old q graph second before after begin (node + 1) link
   link_way_more q second after step walked within stands back =
-      let stood = stands_on graph first second way.stands stands in
+      let stood = stands_join graph first second way.stands stands in
       let later : IsSoundParser graph.grammar.rules tokens q = subst (λ (gr : Grammar). IsSoundParser gr.rules tokens q) stood.grammar step.sound in
       let by_rules : IsNodeWalked graph.grammar.rules (found p) (found q) node link p.level.at =
       subst (λ (gr : Grammar). IsNodeWalked gr.rules (found p) (found q) node link p.level.at) way.stands.grammar walked in

@@ -1,5 +1,5 @@
--- Steps of a parser, one after the other, and what a link is known by.
-use Rattle.std.proofs.Common.{◌≡◌, ℕ, ◌<◌, ◌≤◌, ◌≢◌, inl, inr, List, [], ◌∷◌, ◌++◌, length, refl, sym, ◌∙◌, ap, subst, arith, Contains, slice_get, Some}
+-- What a link is known by, before and after a step.
+use Rattle.std.proofs.Common.{◌≡◌, ℕ, ◌<◌, ◌≤◌, ◌≢◌, inl, inr, List, [], ◌∷◌, ◌++◌, length, sym, ◌∙◌, ap, subst, arith, Contains, slice_get, Some}
 use Rattle.std.proofs.lemmas.Bool.{cases_lt}
 use Rattle.std.proofs.lemmas.Option.{slice_get_within}
 use Rattle.forest.specs.declared.symbols.SymbolId.{SymbolId}
@@ -11,58 +11,17 @@ use Rattle.gss.specs.declared.stack_graph.Place.{Place}
 use Rattle.gss.specs.declared.stack_graph.Edge.{Edge}
 use Rattle.gss.specs.PlaceGraphs.{place_with, edge_of, LeadsToBy}
 use Rattle.edit_log.specs.History.{Grammar}
-use Rattle.live_graph.specs.Meaning.{GraphMeaning}
 use Rattle.packed_spans.specs.Complete.{IsPartAt}
-use Rattle.parser_states.specs.Asked.{AsksNew}
-use Rattle.parser_states.proofs.AskedKernels.{asks_none, asks_join}
 use Rattle.rekers.specs.declared.parser.Parser.{Parser}
 use Rattle.rekers.specs.declared.level.Level.{Level}
 use Rattle.rekers.specs.Found.{Findings, found, IsNode, Grows}
 use Rattle.rekers.specs.Reductions.{IsLinkTo}
 use Rattle.rekers.specs.Sound.{IsSoundParser, IsSoundGraph, IsFirstMover}
-use Rattle.rekers.specs.Steps.{IsStep, IsLinkable, IsUnlinked, IsLinkBy, IsFirstOf}
-use Rattle.rekers.proofs.Growth.{one_at, one_kernel, grows_same, grows_on, node_grows}
+use Rattle.rekers.specs.Steps.{IsLinkable, IsUnlinked, IsLinkBy, IsFirstOf}
+use Rattle.rekers.proofs.Growth.{one_at, one_kernel, node_grows}
 use Rattle.rekers.proofs.Trails.{between, part_cases}
 use Rattle.rekers.proofs.PlacedNodes.{highest}
 use Rattle.rekers.proofs.NewNodes.{old_or_last, first_stays}
-
--- ---- steps
-
-module _ {Base : Type 0} (tokens : List SymbolId) where
-  pub step_none : (p : Parser) (graph : GraphMeaning Base) (steps : ℕ) → IsSoundParser graph.grammar.rules tokens p → IsStep tokens p p graph graph steps steps
-  step_none p graph steps sound = record {
-    sound = sound;
-    grows = grows_same (found p);
-    placed = λ placed. placed;
-    level = refl;
-    asks = asks_none p.states.kernels graph steps;
-  }
-
-  -- a step for which the graph is not asked
-  pub step_alone : (p q : Parser) (graph : GraphMeaning Base) (steps : ℕ) → IsSoundParser graph.grammar.rules tokens q → Grows (found p) (found q)
-      → q.states ≡ p.states
-      → q.level ≡ p.level → IsStep tokens p q graph graph steps steps
-  step_alone p q graph steps sound grows states level = record {
-    sound = sound;
-    grows = grows;
-    placed = λ placed number kernel e.
-        let (node, i, is) = placed number kernel (subst (λ ss. slice_get ss.kernels number ≡ Some kernel) states e) in
-        (node, i, node_grows (found p) (found q) grows is);
-    level = level;
-    asks = subst (λ ss. AsksNew p.states.kernels ss.kernels graph graph steps steps) (sym states) (asks_none p.states.kernels graph steps);
-  }
-
-  pub step_on : (p q r : Parser) (first second third : GraphMeaning Base) (a b c : ℕ) → IsStep tokens p q first second a b → IsStep tokens q r second third b c
-      → IsStep tokens p r first third a c
-  step_on p q r first second third a b c one two = record {
-    sound = two.sound;
-    grows = grows_on (found p) (found q) (found r) one.grows two.grows;
-    placed = λ placed. two.placed (one.placed placed);
-    level = two.level ∙ one.level;
-    asks = asks_join p.states.kernels q.states.kernels r.states.kernels first second third a b c one.grows.kernels two.grows.kernels one.asks two.asks;
-  }
-
--- ---- links
 
 module _ (rules : List Rule) (tokens : List SymbolId) (p : Parser) (sound : IsSoundParser rules tokens p) where
   -- the label of a link by a left side is a span that a link made

@@ -24,6 +24,7 @@ use Rattle.parser_states.specs.declared.reduction.Reduction.{Reduction}
 use Rattle.parser_states.specs.Asked.{StandsButKernels}
 use Rattle.parser_states.specs.Expanded.{OfState}
 use Rattle.parser_states.specs.Reductions.{number_cmp, ListsReductions, IsReductionIn}
+use Rattle.parser_states.proofs.AskedKernels.{stands_same, stands_join}
 use Rattle.rekers.specs.declared.parser.Parser.{Parser}
 use Rattle.rekers.specs.declared.level.Level.{Level}
 use Rattle.rekers.specs.declared.walk.Walk.{Walk}
@@ -34,7 +35,7 @@ use Rattle.rekers.specs.Steps.{IsFoundOn, IsFresh, IsWalked, IsAnyFresh, IsNodeW
 use Rattle.rekers.proofs.Growth.{one_at, one_kernel, node_grows}
 use Rattle.rekers.proofs.Walks.{trail_size, told_back}
 use Rattle.rekers.proofs.WalkedTo.{AreMade, found_grows, made_on}
-use Rattle.rekers.proofs.Stepping.{step_none, step_on, stands_none, stands_on}
+use Rattle.rekers.proofs.Stepping.{step_none, step_on}
 use Rattle.rekers.proofs.StartedWalks.{ends_nothing}
 
 -- ---- the reductions of a state
@@ -239,7 +240,7 @@ module _ {Base : Type 0} (tokens : List SymbolId) (p : Parser) (graph : GraphMea
       let same = one_state kernel node_is in
       record {
         step = step_none tokens p graph steps sound;
-        stands = stands_none graph;
+        stands = stands_same graph;
         back = omega arith;
         within = within;
         kernel = kernel;
@@ -309,7 +310,7 @@ module _ {Base : Type 0} (tokens : List SymbolId) (old p : Parser) (graph first 
           → IsNodeUnderWay tokens old q graph second before after node link state size (count + 1)
       under_way_more q second after step walked within stands back =
           let both = step_on tokens old p q graph first second before between after way.step step in
-          let stood = stands_on graph first second way.stands stands in
+          let stood = stands_join graph first second way.stands stands in
           let later : IsSoundParser graph.grammar.rules tokens q = subst (λ (gr : Grammar). IsSoundParser gr.rules tokens q) stood.grammar step.sound in
           let by_rules : IsWalked graph.grammar.rules (found p) (found q) (walk_of reduction node link) p.level.at [] =
           subst (λ (gr : Grammar). IsWalked gr.rules (found p) (found q) (walk_of reduction node link) p.level.at []) way.stands.grammar walked in

@@ -7,6 +7,7 @@ use Rattle.edit_log.specs.History.{Grammar}
 use Rattle.item_sets.proofs.Chains.{at_below}
 use Rattle.live_graph.specs.Meaning.{GraphMeaning}
 use Rattle.parser_states.specs.Asked.{StandsButKernels}
+use Rattle.parser_states.proofs.AskedKernels.{stands_same, stands_join}
 use Rattle.rekers.specs.declared.parser.Parser.{Parser}
 use Rattle.rekers.specs.declared.level.Level.{Level}
 use Rattle.rekers.specs.declared.queue.Queue.{Queue}
@@ -19,7 +20,7 @@ use Rattle.rekers.specs.Found.{found}
 use Rattle.rekers.specs.Reductions.{IsWorked}
 use Rattle.rekers.specs.Sound.{IsSoundParser}
 use Rattle.rekers.specs.Steps.{IsStep, IsWithinLimit, GoesOn}
-use Rattle.rekers.proofs.Stepping.{step_none, step_on, stands_none, stands_on}
+use Rattle.rekers.proofs.Stepping.{step_none, step_on}
 
 -- the empty rules of the nodes before one number are worked, and the trails through the links before another
 pub record IsQueued {Base : Type 0} (tokens : List SymbolId) (old new : Parser) (graph graph' : GraphMeaning Base) (before after node link : ℕ) : Type 0 where
@@ -65,7 +66,7 @@ pub none_queued : {Base : Type 0} (tokens : List SymbolId) (p : Parser) (graph :
 none_queued tokens p graph steps sound within worked = record {
   step = step_none tokens p graph steps sound;
   within = within;
-  stands = stands_none graph;
+  stands = stands_same graph;
   never_back = omega arith;
   worked = worked;
   nodes = sound.level.nodes_within;
@@ -99,7 +100,7 @@ module _ {Base : Type 0} (tokens : List SymbolId) (p q : Parser) (graph graph' :
   queued_more t graph'' after queue next at_node at_link on step worked within stands never_back = record {
     step = step_on tokens p q t graph graph' graph'' before between after so_far.step step;
     within = within;
-    stands = stands_on graph graph' graph'' so_far.stands stands;
+    stands = stands_join graph graph' graph'' so_far.stands stands;
     never_back = let n = so_far.never_back in omega (arith, n, never_back);
     worked = subst (λ (gr : Grammar). IsWorked gr.rules (found t) next.link next.node) so_far.stands.grammar worked;
     nodes = let n = on.nodes in omega (arith, n, longer q.stacks.nodes t.stacks.nodes step.grows.nodes);

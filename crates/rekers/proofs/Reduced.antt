@@ -31,7 +31,8 @@ use Rattle.rekers.specs.Steps.{IsStep, IsLinkable, IsLinkBy, IsToReduce, Reduces
 use Rattle.rekers.proofs.Growth.{one_at}
 use Rattle.rekers.proofs.NewSplits.{labels_are, split_sound, split_grows, split_found, split_of}
 use Rattle.rekers.proofs.NewSplits.{is_told, reduces_none, reduces_one, still_to_reduce, reduces_on}
-use Rattle.rekers.proofs.LinkSteps.{step_alone, step_on, link_found}
+use Rattle.rekers.proofs.Stepping.{step_alone, step_on}
+use Rattle.rekers.proofs.LinkSteps.{link_found}
 use Rattle.rekers.proofs.Trails.{part_cases, derived, reduces_to}
 
 -- the link's label is the span

@@ -8,6 +8,7 @@ use Rattle.item_sets.specs.Expansions.{HasMove}
 use Rattle.live_graph.specs.Meaning.{GraphMeaning}
 use Rattle.packed_spans.specs.declared.span.TheConstants.{TOKEN_PART}
 use Rattle.parser_states.specs.Asked.{StandsButKernels}
+use Rattle.parser_states.proofs.AskedKernels.{stands_same, stands_join}
 use Rattle.rekers.specs.declared.level.Level.{Level}
 use Rattle.rekers.specs.declared.parser.Parser.{Parser}
 use Rattle.rekers.specs.Found.{found, IsNode}
@@ -17,7 +18,7 @@ use Rattle.rekers.specs.Shifts.{AreBefore, IsBefore, AreShiftedFrom}
 use Rattle.rekers.specs.Steps.{IsStep, IsWithinLimit, IsUnlinked, IsShift}
 use Rattle.rekers.proofs.Growth.{node_below, node_grows}
 use Rattle.rekers.proofs.Shifted.{shifted_more}
-use Rattle.rekers.proofs.Stepping.{step_none, step_on, stands_none, stands_on}
+use Rattle.rekers.proofs.Stepping.{step_none, step_on}
 
 -- the nodes from the first one on and before this one are shifted
 pub record HasShifted {Base : Type 0} (tokens : List SymbolId) (old new : Parser) (graph graph' : GraphMeaning Base) (before after first node : ℕ)
@@ -41,7 +42,7 @@ none_shifted tokens p graph steps first kind sound within links = record {
   low = omega arith;
   shifted = λ node low high. absurd (omega (arith, low, high));
   unlinked = λ other above link (past, edge, e, low, by). omega (arith, past, links, slice_get_within p.stacks.links link edge e);
-  stands = stands_none graph;
+  stands = stands_same graph;
   never_back = omega arith;
 }
 
@@ -98,7 +99,7 @@ module _ {Base : Type 0} (tokens : List SymbolId) (p q : Parser) (graph graph' :
               let first_of = so_far.step.level in
               let was = subst (λ (l : Level). IsUnlinked (found q) l.first_link other kind) (sym first_of) (so_far.unlinked other (omega (arith, above))) in
               subst (λ (l : Level). IsUnlinked (found r) l.first_link other kind) first_of (others other differs was);
-          stands = stands_on graph graph' graph'' so_far.stands stands;
+          stands = stands_join graph graph' graph'' so_far.stands stands;
           never_back = let n = so_far.never_back in omega (arith, n, never_back);
         }
 

@@ -9,8 +9,11 @@ use std::alloc::Global;
 /// The buffers of a parse, which keep their memory from text to text.
 #[derive(Drop)]
 pub struct Parser {
+    /// The states that this parse has met.
     pub(crate) states: States,
+    /// Their nodes and links.
     pub(crate) stacks: StackGraph,
+    /// The spans with their splits that were found.
     pub(crate) spans: PackedSpans,
     /// Of each span, the link that made it.
     pub(crate) owners: Vec<u32>,
@@ -20,6 +23,7 @@ pub struct Parser {
     pub(crate) trail: Vec<u32>,
     /// The labels of the trail.
     pub(crate) parts: Vec<u32>,
+    /// The last place, where nodes and links are added.
     pub(crate) level: Level,
     /// Whether no link joins two nodes of the level.
     pub(crate) is_flat: bool,

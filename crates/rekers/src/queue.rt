@@ -21,7 +21,9 @@ use steps::Steps;
 /// trails that go through them.
 #[derive(Clone, Copy)]
 pub(crate) struct Queue {
+    /// The first node whose empty rules are not made yet.
     pub(crate) node: u32,
+    /// The first link whose trails are not gone yet.
     pub(crate) link: u32,
 }
 

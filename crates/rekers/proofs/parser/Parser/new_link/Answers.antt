@@ -11,7 +11,8 @@ use Rattle.rekers.specs.Found.{found}
 use Rattle.rekers.specs.Sound.{IsFirstMover}
 use Rattle.rekers.specs.Steps.{IsLinkBy, IsUpper, IsStep, IsUnlinked}
 use Rattle.rekers.proofs.Growth.{one_at, kernel_at, node_grows, grows_on}
-use Rattle.rekers.proofs.LinkSteps.{step_alone, step_on, label_owned, linkable_on, linkable_first, nonterminal_on, unlinked_on, label_of_first}
+use Rattle.rekers.proofs.Stepping.{step_alone, step_on}
+use Rattle.rekers.proofs.LinkSteps.{label_owned, linkable_on, linkable_first, nonterminal_on, unlinked_on, label_of_first}
 use Rattle.rekers.proofs.LinkAttached.{attached_grows, label_on}
 use Rattle.rekers.proofs.parser.Parser.new_link.Goals as goal
 

@@ -7,7 +7,8 @@ use Rattle.rekers.specs.Answers.{kinds_of}
 use Rattle.rekers.specs.Found.{found}
 use Rattle.rekers.specs.Steps.{IsLinkBy}
 use Rattle.rekers.proofs.Growth.{node_below}
-use Rattle.rekers.proofs.LinkSteps.{step_alone, step_on, label_owned, others_unlinked, linkable_on, first_on, nonterminal_on, unlinked_on}
+use Rattle.rekers.proofs.Stepping.{step_alone, step_on}
+use Rattle.rekers.proofs.LinkSteps.{label_owned, others_unlinked, linkable_on, first_on, nonterminal_on, unlinked_on}
 use Rattle.rekers.proofs.parser.Parser.new_owner.Goals as goal
 
 pub own-requires-clause-linkable : goal.own-requires-clause-linkable

@@ -1,6 +1,7 @@
 -- The link that makes a span is there, or is added.
 use Rattle.rekers.specs.Answers.{kinds_of}
-use Rattle.rekers.proofs.LinkSteps.{step_none, link_found}
+use Rattle.rekers.proofs.Stepping.{step_none}
+use Rattle.rekers.proofs.LinkSteps.{link_found}
 use Rattle.rekers.proofs.parser.Parser.owning_link.Goals as goal
 
 pub returns-in-Some-clause-link : goal.returns-in-Some-clause-link

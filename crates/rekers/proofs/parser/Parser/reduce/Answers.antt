@@ -5,7 +5,7 @@ use Rattle.rekers.specs.declared.parser.Parser.{Parser}
 use Rattle.rekers.specs.Answers.{kinds_of}
 use Rattle.rekers.specs.Found.{found}
 use Rattle.rekers.specs.Steps.{IsLinkBy, IsStep}
-use Rattle.rekers.proofs.LinkSteps.{step_none}
+use Rattle.rekers.proofs.Stepping.{step_none}
 use Rattle.rekers.proofs.Reduced.{reduced_by, span_owned, no_split, step_more, few_on, unless_any}
 use Rattle.rekers.proofs.parser.Parser.reduce.Goals as goal
 

@@ -1,0 +1,185 @@
+-- Steps of a walk from one trail to the next one.
+use Rattle.std.proofs.Common.{◌≡◌, ◌⊎◌, ◌↔◌, inl, inr, ℕ, suc, ◌-◌, ◌<◌, ◌≤◌, List, [], ◌∷◌, ◌++◌, length, Bool, true, false, IsTrue, refl, sym, ap, ◌∙◌, subst, arith}
+use Rattle.std.proofs.lemmas.List.{length-append}
+use Rattle.gss.specs.declared.stack_graph.Edge.{Edge}
+use Rattle.gss.specs.declared.trails.Walk.{Walk}
+use Rattle.gss.specs.Numbers.{IsLeast}
+use Rattle.gss.specs.PlaceGraphs.{LeadsDownFrom, LeadsFromSame}
+use Rattle.gss.specs.Trails.{LeadsDown, Passes, IsTrailOf, IsBefore, IsPart, Standing, IsToCome, IsNextTrail, IsAtEnd}
+use Rattle.gss.specs.Descents.{IsFrom, GoesTo, Turns, IsFirstFrom, Finds}
+use Rattle.gss.proofs.TrailOrders.{from_here, from_on, from_before, before_from, from_pushed, before_newer, before_longer, from_whole}
+use Rattle.gss.proofs.TrailOrders.{down_pushed, down_popped, from_first, from_stuck, from_next, before_shorter}
+use Rattle.gss.proofs.TrailRanks.{lists_of, rank, rank_below, rank_before, rank_from, fits_down}
+
+part_of_trail : (links : List Edge) (walk : Walk) (trail : List ℕ) → IsTrailOf links walk trail → IsPart links walk trail
+part_of_trail links walk trail is = record { node = is.node; down = is.down; few = omega (arith, is.size) }
+
+-- ---- down
+
+-- so far the walk only went down
+pub record IsGoing (links : List Edge) (walk : Walk) (old new : List ℕ) : Type 0 where
+  pub part : IsPart links walk new
+  pub from : IsFrom old new
+  pub rest : (trail : List ℕ) → IsTrailOf links walk trail → IsFrom old trail → IsFrom new trail
+
+module _ (links : List Edge) (walk : Walk) (old : List ℕ) where
+  pub going_none : IsPart links walk old → IsGoing links walk old old
+  going_none part = record { part = part; from = from_here old; rest = λ trail is from. from }
+
+  module _ (part : List ℕ) (going : IsGoing links walk old part) where
+    pub going_more : (node first : ℕ) → length part < walk.length → LeadsDown links walk.last walk.top part node
+        → IsLeast (LeadsDownFrom links node) first → first ≤ walk.last → IsGoing links walk old (part ++ first ∷ [])
+    going_more node first more down least le =
+        let (edge, at, up) = least.is in
+        record {
+          part = record {
+            node = edge.lower;
+            down = down_pushed links walk.last walk.top part node first edge down at up le;
+            few = omega (arith, more, length-append part (first ∷ []));
+          };
+          from = from_on old part (part ++ first ∷ []) going.from (from_pushed part first);
+          rest = λ trail is from. from_first links walk.last is.node walk.top part node first trail down least is.down (omega (arith, more, is.size))
+              (going.rest trail is from);
+        }
+
+    pub going_stuck : (node : ℕ) → length part < walk.length → LeadsDown links walk.last walk.top part node
+        → ((other : ℕ) → LeadsDownFrom links node other → walk.last < other) → GoesTo links walk old part false
+    going_stuck node more down none = record {
+      part = going.part;
+      from = going.from;
+      whole = λ t. absurd cc;
+      rest = λ trail is from. inr (from_stuck links walk.last is.node walk.top part node trail down none is.down (omega (arith, more, is.size))
+          (going.rest trail is from));
+    }
+
+    pub going_whole : (passes : Bool) → walk.length ≤ length part → (IsTrue passes ↔ Passes walk.through part) → GoesTo links walk old part passes
+    going_whole passes most told = record {
+      part = going.part;
+      from = going.from;
+      whole = λ t. record { node = going.part.node; down = going.part.down; size = size; passes = told.0 t };
+      rest = λ trail is from. elim (from_whole part trail (size ∙ sym is.size) (going.rest trail is from)) [
+        | inl same ↦ inl (told.1 (subst (λ ts. Passes walk.through ts) same is.passes), same)
+        | inr later ↦ inr later
+      ];
+    }
+      where
+        size : length part ≡ walk.length
+        size = omega (arith, most, going.part.few)
+
+-- ---- up
+
+-- so far the walk only went up
+pub record IsRising (links : List Edge) (walk : Walk) (old new : List ℕ) : Type 0 where
+  pub part : IsPart links walk new
+  pub before : (trail : List ℕ) → IsBefore new trail → IsBefore old trail
+  pub rest : (trail : List ℕ) → IsPart links walk trail → IsBefore old trail → IsBefore new trail
+
+module _ (links : List Edge) (walk : Walk) (old : List ℕ) where
+  pub rising_none : IsPart links walk old → IsRising links walk old old
+  rising_none part = record { part = part; before = λ trail is. is; rest = λ trail is before. before }
+
+  module _ (part : List ℕ) (link : ℕ) (rising : IsRising links walk old (part ++ link ∷ [])) where
+    shorter : length part ≤ walk.length
+    shorter = omega (arith, rising.part.few, length-append part (link ∷ []))
+
+    pub rising_more : ((other : ℕ) → LeadsFromSame links link other → walk.last < other) → IsRising links walk old part
+    rising_more none =
+        let (edge, at, down) = down_popped links walk.last walk.top part rising.part.node link rising.part.down in
+        record {
+          part = record { node = edge.upper; down = down; few = shorter };
+          before = λ trail is. rising.before trail (before_longer part link trail is);
+          rest = λ trail is before. before_shorter links walk.last is.node walk.top part rising.part.node link trail rising.part.down none is.down
+              (rising.rest trail is before);
+        }
+
+    module _ (next : ℕ) (least : IsLeast (LeadsFromSame links link) next) (le : next ≤ walk.last) where
+      pub turned_part : IsPart links walk (part ++ next ∷ [])
+      turned_part =
+          let (edge, at, down) = down_popped links walk.last walk.top part rising.part.node link rising.part.down in
+          let (older, own, at', (other, there, up)) = least.is in
+          let same : own.upper ≡ edge.upper = cc in
+          record {
+            node = other.lower;
+            down = down_pushed links walk.last walk.top part edge.upper next other down there (up ∙ same) le;
+            few = omega (arith, rising.part.few, length-append part (link ∷ []), length-append part (next ∷ []));
+          }
+
+      pub turned : Turns links walk old (part ++ next ∷ []) true
+      turned = (
+        rising.before (part ++ next ∷ []) (before_newer part link next least.is.0),
+        λ trail is before. from_next links walk.last is.node walk.top part rising.part.node link next trail rising.part.down least is.down
+            (rising.rest trail is before),
+      )
+
+  pub turned_none : IsRising links walk old [] → Turns links walk old [] false
+  turned_none rising trail is before = rising.rest trail is before
+
+-- ---- both
+
+module _ (links : List Edge) (walk : Walk) (old part : List ℕ) (goes : GoesTo links walk old part false) where
+  -- what comes behind the part that leads no further
+  behind : (trail : List ℕ) → IsTrailOf links walk trail → IsFrom old trail → IsBefore part trail
+  behind trail is from = elim (goes.rest trail is from) [ inl whole ↦ absurd (let no = whole.0 in cc) | inr later ↦ later ]
+
+  pub goes_on : (middle new : List ℕ) (is_whole : Bool) → Turns links walk part middle true → GoesTo links walk middle new is_whole
+      → GoesTo links walk old new is_whole
+  goes_on middle new is_whole turns more = record {
+    part = more.part;
+    from = from_on old part new goes.from (from_before part new (before_from part middle new turns.0 more.from));
+    whole = more.whole;
+    rest = λ trail is from. more.rest trail is (turns.1 trail (part_of_trail links walk trail is) (behind trail is from));
+  }
+
+  pub finds_none : (new : List ℕ) → Turns links walk part new false → Finds links walk old new false
+  finds_none new turns trail is from = turns trail (part_of_trail links walk trail is) (behind trail is from)
+
+pub finds_whole : (links : List Edge) (walk : Walk) (old new : List ℕ) → GoesTo links walk old new true → Finds links walk old new true
+finds_whole links walk old new goes = record {
+  is = goes.whole refl;
+  from = goes.from;
+  first = λ other is from. elim (goes.rest other is from) [ inl same ↦ inl same.1 | inr later ↦ inr later ];
+}
+
+-- how many lists of numbers come from the part on
+abbrev pub left_from : List Edge → Walk → List ℕ → ℕ
+left_from links walk part = lists_of (suc (length links)) walk.length - rank (suc (length links)) walk.length part
+
+module _ (links : List Edge) (walk : Walk) (old new : List ℕ) (part : IsPart links walk old) (part' : IsPart links walk new) where
+  pub fewer_left : IsBefore old new → left_from links walk new < left_from links walk old
+  fewer_left before =
+      let base = suc (length links) in
+      let fits = fits_down links walk.last walk.top walk.length old part.node part.down part.few in
+      let fits' = fits_down links walk.last walk.top walk.length new part'.node part'.down part'.few in
+      let some : 0 < base = omega arith in
+      omega (arith, rank_before base some walk.length old new fits fits' before, rank_below base some walk.length new fits')
+
+-- ---- what is told of it
+
+module _ (links : List Edge) (at : Standing) where
+  pub next_first : (trail : List ℕ) → (IsTrue at.is_begun → ⊥) → Finds links at.walk [] trail true → IsNextTrail links at trail
+  next_first trail new finds = record {
+    is = finds.is;
+    to_come = λ begun. absurd (new begun);
+    first = λ other is to_come. finds.first other is tt;
+  }
+
+  pub end_first : (trail : List ℕ) → Finds links at.walk [] trail false → IsAtEnd links at
+  end_first trail finds other is to_come = finds other is tt
+
+  module _ (begun : IsTrue at.is_begun) where
+    pub next_turned : (middle trail : List ℕ) → Turns links at.walk at.trail middle true → Finds links at.walk middle trail true → IsNextTrail links at trail
+    next_turned middle trail turns finds = record {
+      is = finds.is;
+      to_come = λ b. before_from at.trail middle trail turns.0 finds.from;
+      first = λ other is to_come. finds.first other is (turns.1 other (part_of_trail links at.walk other is) (to_come begun));
+    }
+
+    pub end_turned : (middle trail : List ℕ) → Turns links at.walk at.trail middle true → Finds links at.walk middle trail false → IsAtEnd links at
+    end_turned middle trail turns finds other is to_come = finds other is (turns.1 other (part_of_trail links at.walk other is) (to_come begun))
+
+    pub end_here : (new : List ℕ) → Turns links at.walk at.trail new false → IsAtEnd links at
+    end_here new turns other is to_come = turns other (part_of_trail links at.walk other is) (to_come begun)
+
+-- the top alone is a part
+pub part_none : (links : List Edge) (walk : Walk) → IsPart links walk []
+part_none links walk = record { node = walk.top; down = refl; few = omega arith }

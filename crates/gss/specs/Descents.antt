@@ -1,0 +1,33 @@
+-- How a walk goes from one trail to the next one.
+use Rattle.std.specs.Prelude.{◌≡◌, ◌⊎◌, ℕ, ◌<◌, List, [], ◌∷◌, Bool, IsTrue, false, true}
+use Rattle.gss.specs.declared.stack_graph.Edge.{Edge}
+use Rattle.gss.specs.declared.trails.Walk.{Walk}
+use Rattle.gss.specs.Trails.{IsTrailOf, IsPart, IsBefore}
+
+-- the trail goes on from the part, or has a newer link where the two first differ
+abbrev pub IsFrom : List ℕ → List ℕ → Type 0
+IsFrom [] trail = Unit {0}
+IsFrom (link ∷ part) [] = ⊥
+IsFrom (link ∷ part) (other ∷ trail) = (link < other) ⊎ ((link ≡ other) × IsFrom part trail)
+
+-- the walk has gone from one part to another, which is whole or leads no further, and has come past no trail
+pub record GoesTo (links : List Edge) (walk : Walk) (old new : List ℕ) (is_whole : Bool) : Type 0 where
+  pub part : IsPart links walk new
+  pub from : IsFrom old new
+  pub whole : IsTrue is_whole → IsTrailOf links walk new
+  pub rest : (trail : List ℕ) → IsTrailOf links walk trail → IsFrom old trail → (IsTrue is_whole × (trail ≡ new)) ⊎ IsBefore new trail
+
+-- the walk has turned from one part to the next one that does not go on from it, if there is one
+abbrev pub Turns : List Edge → Walk → (old new : List ℕ) → Bool → Type 0
+Turns links walk old new true = IsBefore old new × ((trail : List ℕ) → IsPart links walk trail → IsBefore old trail → IsFrom new trail)
+Turns links walk old new false = (trail : List ℕ) → IsPart links walk trail → IsBefore old trail → ⊥
+
+-- the first of the trails from the part on, if there is one
+pub record IsFirstFrom (links : List Edge) (walk : Walk) (part trail : List ℕ) : Type 0 where
+  pub is : IsTrailOf links walk trail
+  pub from : IsFrom part trail
+  pub first : (other : List ℕ) → IsTrailOf links walk other → IsFrom part other → (other ≡ trail) ⊎ IsBefore trail other
+
+abbrev pub Finds : List Edge → Walk → (part trail : List ℕ) → Bool → Type 0
+Finds links walk part trail true = IsFirstFrom links walk part trail
+Finds links walk part trail false = (other : List ℕ) → IsTrailOf links walk other → IsFrom part other → ⊥

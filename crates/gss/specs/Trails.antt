@@ -1,0 +1,58 @@
+-- Trails: links by number, one after the other down from a top node, the upper one first.
+use Rattle.std.specs.Prelude.{◌≡◌, ◌⊎◌, ℕ, ◌<◌, ◌≤◌, List, [], ◌∷◌, length, slice_get, Option, None, Some, Bool, IsTrue, Contains}
+use Rattle.gss.specs.declared.stack_graph.Edge.{Edge}
+use Rattle.gss.specs.declared.trails.Walk.{Walk}
+
+-- none of them behind the last one, the links lead from the top down to the node, one after the other
+abbrev pub LeadsDown : List Edge → (last top : ℕ) → (trail : List ℕ) → (node : ℕ) → Type 0
+LeadsDown links last top [] node = top ≡ node
+LeadsDown links last top (link ∷ trail) node = (edge : Edge) × (slice_get links link ≡ Some edge) × (edge.upper ≡ top) × (link ≤ last)
+    × LeadsDown links last edge.lower trail node
+
+-- the trail goes through the link, if one is named
+abbrev pub Passes : Option ℕ → List ℕ → Type 0
+Passes None trail = Unit {0}
+Passes (Some through) trail = Contains trail through
+
+-- the trail is one of those that the walk is for
+pub record IsTrailOf (links : List Edge) (walk : Walk) (trail : List ℕ) : Type 0 where
+  pub node : ℕ
+  pub down : LeadsDown links walk.last walk.top trail node
+  pub size : length trail ≡ walk.length
+  pub passes : Passes walk.through trail
+
+-- where the two first differ, the trail has the older link
+abbrev pub IsBefore : List ℕ → List ℕ → Type 0
+IsBefore [] other = ⊥
+IsBefore (link ∷ trail) [] = ⊥
+IsBefore (link ∷ trail) (other ∷ others) = (link < other) ⊎ ((link ≡ other) × IsBefore trail others)
+
+-- a walk, and the trail that it stands at once it has begun
+pub record Standing : Type 0 where
+  pub walk : Walk
+  pub is_begun : Bool
+  pub trail : List ℕ
+
+-- what the walk stands at leads down from its top
+pub record IsPart (links : List Edge) (walk : Walk) (trail : List ℕ) : Type 0 where
+  pub node : ℕ
+  pub down : LeadsDown links walk.last walk.top trail node
+  pub few : length trail ≤ walk.length
+
+-- the walk stands at links of these, if it has begun
+abbrev pub IsOn : List Edge → Standing → Type 0
+IsOn links at = IsTrue at.is_begun → IsPart links at.walk at.trail
+
+-- the walk has not come to the trail yet
+abbrev pub IsToCome : Standing → List ℕ → Type 0
+IsToCome at trail = IsTrue at.is_begun → IsBefore at.trail trail
+
+-- the first of the trails that the walk has not come to
+pub record IsNextTrail (links : List Edge) (at : Standing) (trail : List ℕ) : Type 0 where
+  pub is : IsTrailOf links at.walk trail
+  pub to_come : IsToCome at trail
+  pub first : (other : List ℕ) → IsTrailOf links at.walk other → IsToCome at other → (other ≡ trail) ⊎ IsBefore trail other
+
+-- the walk has come to all trails
+abbrev pub IsAtEnd : List Edge → Standing → Type 0
+IsAtEnd links at = (trail : List ℕ) → IsTrailOf links at.walk trail → IsToCome at trail → ⊥
