@@ -57,7 +57,7 @@ module _ (L : List Entry → Type 0) (F : List Entry → List ℕ → Type 0) (z
     on_page : (k : KnownPlace) (row : ℕ) (i : In k v.known) → k.met ≡ suc row → IsEntry z words (F (take h.role.newest.version h.log)) h.role.newest.page k.place row
     on_page k row i is = let s = stands k i in (h.pages h.role.newest (newest_live h.role)).entries k.place row s.0 (s.1 ∙ is)
 
-    of_one_page : v.sizes ≡ z → IsOfOnePage v
+    of_one_page : v.sizes ≡ z → IsOfOnePage v.sizes v.known
     of_one_page sizes = record {
       places = λ k l i j e. sym (stands k i).1 ∙ ap (entry z words h.role.newest.page) e ∙ (stands l j).1;
       rows = λ k row i is. subst (λ (y : Sizes). row < y.rows) (sym sizes) (on_page k row i is).in_range;

@@ -71,13 +71,13 @@ pub record IsAlike (v : View) (version : ℕ) : Type 0 where
   pub words : (k : KnownPlace) (row index a b : ℕ) → In k v.known → k.met ≡ suc row → In (index, a) k.words → KnowsWord v version row index b → a ≡ b
   pub once : (k : KnownPlace) (row index a b : ℕ) → In k v.known → k.met ≡ suc row → In (index, a) k.words → In (index, b) k.words → a ≡ b
 
--- what is known with the whole share is of one page: a place has one word, a row is one of the table and has one word at an index, no key stands twice
-pub record IsOfOnePage (v : View) : Type 0 where
-  pub places : (k l : KnownPlace) → In k v.known → In l v.known → k.place ≡ l.place → k.met ≡ l.met
-  pub rows : (k : KnownPlace) (row : ℕ) → In k v.known → k.met ≡ suc row → row < v.sizes.rows
-  pub words : (k l : KnownPlace) (row index a b : ℕ) → In k v.known → In l v.known → k.met ≡ suc row → l.met ≡ suc row → In (index, a) k.words
+-- places are known of one page: a place has one word, a row is one of the table and has one word at an index, and no key stands twice
+pub record IsOfOnePage (z : Sizes) (ks : List KnownPlace) : Type 0 where
+  pub places : (k l : KnownPlace) → In k ks → In l ks → k.place ≡ l.place → k.met ≡ l.met
+  pub rows : (k : KnownPlace) (row : ℕ) → In k ks → k.met ≡ suc row → row < z.rows
+  pub words : (k l : KnownPlace) (row index a b : ℕ) → In k ks → In l ks → k.met ≡ suc row → l.met ≡ suc row → In (index, a) k.words
       → In (index, b) l.words → a ≡ b
-  pub keys_once : (k l : KnownPlace) (a b : ℕ) (g : ℕ → ℕ) → In k v.known → In l v.known → k.met ≡ suc a → l.met ≡ suc b → HasKeyWords k.words g
+  pub keys_once : (k l : KnownPlace) (a b : ℕ) (g : ℕ → ℕ) → In k ks → In l ks → k.met ≡ suc a → l.met ≡ suc b → HasKeyWords k.words g
       → HasKeyWords l.words g → k.place ≡ l.place
 
 -- of the rows of a version
@@ -97,7 +97,7 @@ pub record IsTold (fits : List ℕ → Type 0) (v : View) (version : ℕ) : Type
   -- what is known with the whole share: a row stands on the path of its key, past places that are not empty
   pub reached : v.share ≡ whole → (k : KnownPlace) (row : ℕ) (g : ℕ → ℕ) → In k v.known → k.met ≡ suc row
       → HasKeyWords k.words g → IsReached v.sizes v.known (key_of g) k.place
-  pub one_page : v.share ≡ whole → IsOfOnePage v
+  pub one_page : v.share ≡ whole → IsOfOnePage v.sizes v.known
 
 -- a view that has caught up has a lawful log, and is told of the rows of the version that this log leads to
 abbrev pub Tells : (List Entry → Type 0) → (List Entry → List ℕ → Type 0) → View → Type 0
@@ -119,10 +119,14 @@ IsAsKnown v page place n = v.share ≡ whole → (r : Role) (k : KnownPlace) →
 abbrev pub IsReadAsKnown : View → ℕ → ℕ → ℕ → Type 0
 IsReadAsKnown v row index n = v.share ≡ whole → (k : KnownPlace) (word : ℕ) → In k v.known → k.met ≡ suc row → In (index, word) k.words → n ≡ word
 
+-- the row stands at a place, as far as that place is known
+abbrev pub StandsKnown : Sizes → List KnownPlace → ℕ → Type 0
+StandsKnown z ks row = (place : ℕ) × (place < z.places) × ((k : KnownPlace) → In k ks → k.place ≡ place → k.met ≡ suc row)
+
 -- with the whole share and one version, a row in use that is not the view's own stands at a place of the newest page
 abbrev pub IsUsedAsKnown : View → ℕ → ℕ → Type 0
 IsUsedAsKnown v row n = n ≡ 1 → v.share ≡ whole → v.own ≡ None → (r : Role) → v.role ≡ Some r → r.older ≡ [] → r.giving_up ≡ None
-    → (place : ℕ) × (place < v.sizes.places) × ((k : KnownPlace) → In k v.known → k.place ≡ place → k.met ≡ suc row)
+    → StandsKnown v.sizes v.known row
 
 -- an entry of the version that is being given up names a row of the table
 abbrev pub IsOfGivenUp : View → ℕ → ℕ → Type 0
