@@ -1,5 +1,5 @@
 -- What a loan means: the value that it lends, the lifetime that names it, and its parts of the right to it.
-use Rattle.std.specs.Prelude.{ℕ}
+use Rattle.std.specs.Prelude.{◌≢◌, ℕ, None}
 use Rattle.lend.specs.declared.loan.Loan.{Loan}
 use Rattle.lend.specs.declared.limits.TheConstants.{WHOLE}
 
@@ -17,3 +17,7 @@ module _ {T : Type 0} where
 
   abbrev pub parts_of : Loan T → ℕ
   parts_of l = l.hold.parts
+
+  -- the loan has the lender's right, by which the memory of the value comes back
+  abbrev pub HasLender : Loan T → Type 0
+  HasLender l = l.lent ≢ None

@@ -2,7 +2,7 @@
 //! means and the type's own file cannot.
 
 ghost use Rattle.std.specs.Prelude.{◌≡◌, ◌+◌, ◌-◌, ◌/◌, ◌<◌, IfOk};
-ghost use Rattle.lend.specs.Loans.{value_of, age_of, parts_of, whole};
+ghost use Rattle.lend.specs.Loans.{value_of, age_of, parts_of, whole, HasLender};
 
 use crate::NoMemory;
 use crate::lent::Lent;
@@ -11,9 +11,10 @@ use crate::loose::Loose;
 use std::alloc::{AllocError, Global};
 
 impl<T: Drop> Loan<T> {
-    /// Puts the value on the heap. The loan has all parts of its right.
+    /// Puts the value on the heap. The loan has all parts of its right, and is the
+    /// lender.
     pub fn new(alloc: Global, value: T) -> Result<Loan<T>, NoMemory>
-        ensures { IfOk result (λ l. (value_of l ≡ value) × (parts_of l ≡ whole)) }
+        ensures { IfOk result (λ l. (value_of l ≡ value) × (parts_of l ≡ whole) × HasLender l) }
     {
         match Box::new(alloc, value) {
             Ok(boxed) => {
@@ -30,12 +31,12 @@ impl<T: Drop> Loan<T> {
 
     /// Drops the value and gives its memory back.
     pub fn close(self)
-        requires { parts_of self ≡ whole }
+        requires whole { parts_of self ≡ whole }
+        requires lender { HasLender self }
     {
         let (hold, lent) = self.into_parts();
-        if let Some(lent) = lent {
-            drop(hold.end(lent).into_box());
-        }
+        let Some(lent) = lent else { unreachable!() };
+        drop(hold.end(lent).into_box());
     }
 }
 
@@ -48,12 +49,13 @@ impl<T> Loan<T> {
         self.hold.show(self.at)
     }
 
-    /// Half of the parts, rounded down, go to a new loan.
+    /// Half of the parts, rounded down, go to a new loan. The lender stays this one.
     pub fn cut(&mut self) -> Loan<T>
         ensures value { (value_of self.new ≡ value_of self.old) × (value_of result ≡ value_of self.old) }
         ensures age { (age_of self.new ≡ age_of self.old) × (age_of result ≡ age_of self.old) }
         ensures kept { parts_of self.new ≡ parts_of self.old - parts_of self.old / 2 }
         ensures taken { parts_of result ≡ parts_of self.old / 2 }
+        ensures lender { HasLender self.old → HasLender self.new }
     {
         let hold = self.hold.cut();
         Loan {
@@ -63,11 +65,14 @@ impl<T> Loan<T> {
         }
     }
 
-    /// Adds the parts of another loan of this value.
+    /// Adds the parts of another loan of this value. Where one of them is the
+    /// lender, this one is.
     pub fn join(&mut self, other: Loan<T>)
         requires { age_of other ≡ age_of self.old }
         ensures same { (value_of self.new ≡ value_of self.old) × (age_of self.new ≡ age_of self.old) }
         ensures parts { parts_of self.new ≡ parts_of self.old + parts_of other }
+        ensures lender { HasLender self.old → HasLender self.new }
+        ensures theirs { HasLender other → HasLender self.new }
     {
         let (hold, lent) = other.into_parts();
         self.hold.join(hold);

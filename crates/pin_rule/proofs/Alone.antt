@@ -12,6 +12,7 @@ use Rattle.pin_rule.specs.Views.{whole}
 use Rattle.pin_rule.specs.PartShares.{OwnsNothing}
 use Rattle.pin_rule.specs.Lawful.{Lawful}
 use Rattle.pin_rule.proofs.Lists.{total_two}
+use Rattle.pin_rule.proofs.Seats.{none_some}
 
 module _ (L : List Entry → Type 0) (F : List Entry → List ℕ → Type 0) (z : Sizes) (words : List ℕ) (views : List View) (id : ℕ) (v : View)
     (at : get_elem? views id ≡ maybe.some v) (h : Lawful L F z words views) (all : v.share ≡ whole) where
@@ -26,3 +27,11 @@ module _ (L : List Entry → Type 0) (F : List Entry → List ℕ → Type 0) (z
   alone_unpinned free j u e = dite (ℕ_discrete j id)
       (λ same. subst (λ (x : View). x.pinned ≡ None) (maybe.some-injective v u (sym at ∙ ap (get_elem? views) (sym same) ∙ e)) free)
       (λ n. (alone_nothing j u n e).0)
+
+  -- this one has the editor's role, since the others own nothing
+  pub alone_has_role : v.role ≢ None
+  alone_has_role none = let e = h.editor in
+      let same : e.view.role ≡ None = dite (ℕ_discrete e.seat id)
+      (λ (s : e.seat ≡ id). subst (λ (x : View). x.role ≡ None) (maybe.some-injective v e.view (sym at ∙ ap (get_elem? views) (sym s) ∙ e.at)) none)
+      (λ n. (alone_nothing e.seat e.view n e.at).2) in
+      none_some h.role (sym same ∙ e.has)

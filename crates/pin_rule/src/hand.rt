@@ -1,6 +1,6 @@
 //! One seat with its table.
-ghost use Rattle.std.specs.Prelude.{◌≡◌, []};
-ghost use Rattle.lend.specs.Loans.{parts_of, value_of};
+ghost use Rattle.std.specs.Prelude.{◌≡◌, ◌≢◌, [], None};
+ghost use Rattle.lend.specs.Loans.{parts_of, value_of, HasLender};
 ghost use Rattle.pin_rule.specs.Layout.{word_count};
 
 use crate::content::Content;
@@ -18,8 +18,9 @@ pub(crate) type Shelf<C> = Table<(), View, Sizes, Rule<C>, Global>;
 ///
 /// The table lies on the heap. A hand has as many parts of the right to it as
 /// its view has of the share, so hands are split and joined without memory, and
-/// a hand with the whole share can give the table's memory back. A hand that is
-/// dropped loses its share, and then the memory stays.
+/// a hand with the whole share can give the table's memory back: the editor's
+/// hand is the lender of the table, and the role is never given away. A hand that
+/// is dropped loses its share, and then the memory stays.
 #[derive(Drop)]
 pub struct Hand<C: Content> {
     pub(crate) table: Loan<Shelf<C>>,
@@ -31,4 +32,5 @@ pub struct Hand<C: Content> {
     ghost wide: { (value_of table).shared.table_id.words ≡ word_count starts.sizes },
     ghost alone: { seat.me.1 ≡ [] },
     ghost told: { seat.me.0.sizes ≡ starts.sizes },
+    ghost lends: { seat.me.0.role ≢ None → HasLender table },
 }

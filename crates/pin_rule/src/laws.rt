@@ -1,6 +1,8 @@
 //! Laws of the layout and of the rule.
 
-ghost use Rattle.std.specs.Prelude.{◌≡◌, ℕ, List};
+ghost use Rattle.std.specs.Prelude.{◌≡◌, ◌≢◌, ℕ, List, None};
+ghost use mathlib.Core.Option as maybe;
+ghost use lib.ListN.{get_elem?};
 ghost use Rattle.pin_rule.specs.declared.sizes.Sizes.{Sizes};
 ghost use Rattle.pin_rule.specs.declared.view.View.{View};
 ghost use Rattle.pin_rule.specs.Layout.{full_sizes, claims_at, pages_at, log_at, rows_at, word_count};
@@ -26,4 +28,11 @@ pub fn alone<C: Content>()
         → AreOfTwoSeats views i j v w → v.share ≡ whole → w.share ≡ 0 }
     ensures nothing { (z : Sizes) (words : List ℕ) (views : List View) (i j : ℕ) (v w : View) → Lawful C.lawful C.fits z words views
         → AreOfTwoSeats views i j v w → v.share ≡ whole → OwnsNothing w }
+{}
+
+/// The view that has the whole share has the editor's role. So its hand is the
+/// lender of the table.
+pub fn whole_share_has_the_role<C: Content>()
+    ensures { (z : Sizes) (words : List ℕ) (views : List View) (i : ℕ) (v : View) → Lawful C.lawful C.fits z words views
+        → get_elem? views i ≡ maybe.some v → v.share ≡ whole → v.role ≢ None }
 {}

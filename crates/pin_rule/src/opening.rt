@@ -1,6 +1,6 @@
 //! How a table is made, and how its memory is given back.
 
-ghost use Rattle.std.specs.Prelude.{◌≡◌, IfOk};
+ghost use Rattle.std.specs.Prelude.{◌≡◌, ◌≢◌, IfOk, None};
 ghost use Rattle.pin_rule.specs.Views.{whole};
 ghost use Rattle.pin_rule.specs.Steps.{first_view};
 ghost use Rattle.pin_rule.specs.Hands.{view_of, sizes_of};
@@ -30,9 +30,11 @@ impl<C: Content> Hand<C> {
         })
     }
 
-    /// Gives the memory of the table back.
+    /// Gives the memory of the table back. Who has the whole share has the editor's
+    /// role.
     pub fn close(self)
-        requires { (view_of self).share ≡ whole }
+        requires share { (view_of self).share ≡ whole }
+        requires role { (view_of self).role ≢ None }
     {
         let Hand {
             table,
