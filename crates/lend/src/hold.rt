@@ -15,10 +15,15 @@ use std::marker::{Model, PhantomData};
 /// `age` names the lifetime for which the value is lent. Two holds of one age
 /// are holds of one value.
 pub(crate) struct Hold<T> {
+    /// Names the type of the value.
     pub(crate) marker: PhantomData<*const T>,
+    /// Where the value lies.
     pub(crate) ghost at: { Ptr } by { ptr_coded },
+    /// The value.
     pub(crate) ghost value: { T },
+    /// The lifetime for which it is lent.
     pub(crate) ghost age: { ℕ },
+    /// How many parts of the right this has.
     pub(crate) ghost parts: { ℕ },
 }
 

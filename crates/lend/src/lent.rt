@@ -11,9 +11,13 @@ use std::marker::{Model, PhantomData};
 
 /// The right to have the box back once the lifetime `age` has ended.
 pub(crate) struct Lent<T, A: Allocator> {
+    /// Where the value lies.
     pub(crate) at: *mut T,
+    /// The allocator that its memory goes back to.
     pub(crate) alloc: A,
+    /// The value.
     pub(crate) ghost value: { T },
+    /// The lifetime for which it is lent.
     pub(crate) ghost age: { ℕ },
 }
 

@@ -14,8 +14,11 @@ use std::alloc::Global;
 /// A loan that is dropped loses its parts. The value then stays where it is,
 /// and its memory is not given back.
 pub struct Loan<T> {
+    /// Where the value lies.
     pub(crate) at: *const T,
+    /// The parts that can be cut off.
     pub(crate) hold: Hold<T>,
+    /// The lender's right, where it is in this loan.
     pub(crate) lent: Option<Lent<T, Global>>,
     ghost placed: { hold.at ≡ at },
     ghost aged: { (l : _) → lent ≡ Some l → l.age ≡ hold.age },

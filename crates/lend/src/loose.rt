@@ -9,8 +9,11 @@ use std::marker::Model;
 /// A box that was taken apart into its pointer and its allocator. It owns what
 /// the box owned.
 pub(crate) struct Loose<T, A: Allocator> {
+    /// Where the value lies.
     pub(crate) at: *mut T,
+    /// The allocator that its memory goes back to.
     pub(crate) alloc: A,
+    /// The value.
     pub(crate) ghost value: { T },
 }
 

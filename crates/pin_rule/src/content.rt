@@ -3,6 +3,7 @@ ghost use Rattle.std.specs.Prelude.{ℕ, List};
 
 /// One entry of the log.
 pub struct Entry {
+    /// The words of the entry, as they stand in the table.
     pub words: [u64; 32],
 }
 

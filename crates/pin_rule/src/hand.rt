@@ -23,8 +23,11 @@ pub(crate) type Shelf<C> = Table<(), View, Sizes, Rule<C>, Global>;
 /// is dropped loses its share, and then the memory stays.
 #[derive(Drop)]
 pub struct Hand<C: Content> {
+    /// Its parts of the right to the table.
     pub(crate) table: Loan<Shelf<C>>,
+    /// Its seat, with the view that it has of the table.
     pub(crate) seat: Seat<(), View>,
+    /// Where the parts of the table begin.
     pub(crate) starts: Starts,
     ghost alive: { parts_of table ≡ seat.me.0.share },
     ghost seated: { seat.table_id ≡ (value_of table).shared.table_id },

@@ -8,6 +8,7 @@ use std::marker::PhantomData;
 
 /// The rule of a table for the content `C`.
 pub struct Rule<C> {
+    /// Names the content.
     marker: PhantomData<C>,
 }
 

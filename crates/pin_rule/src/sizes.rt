@@ -6,11 +6,17 @@ ghost use Rattle.pin_rule.specs.declared.limits.TheConstants.{MOST_ENTRIES, MOST
 /// rows, words of a row, and pins over the table's life.
 #[derive(Clone, Copy)]
 pub struct Sizes {
+    /// Entries of the log, and so versions after the first.
     pub log: u32,
+    /// Pages, and so versions that are live at once.
     pub versions: u32,
+    /// Places of a page.
     pub places: u32,
+    /// Rows that all pages share.
     pub rows: u32,
+    /// Words of a row, with the lengths of its key and its payload.
     pub width: u32,
+    /// Pins over the table's life.
     pub pins: u32,
     ghost log_in: { (1 ≤ log) × (log ≤ MOST_ENTRIES) },
     ghost versions_in: { (2 ≤ versions) × (versions ≤ MOST_VERSIONS) },

@@ -11,10 +11,15 @@ use crate::sizes::Sizes;
 /// and not anew at each step.
 #[derive(Clone, Copy)]
 pub(crate) struct Starts {
+    /// How large the table is.
     pub(crate) sizes: Sizes,
+    /// The index of the first claim word.
     claims: usize,
+    /// The index of the first place of page 0.
     pages: usize,
+    /// The index of the first word of entry 0.
     log: usize,
+    /// The index of the first word of row 0.
     rows: usize,
     ghost claims_is: { claims ≡ claim_word sizes 0 },
     ghost pages_is: { pages ≡ place_word sizes 0 0 },

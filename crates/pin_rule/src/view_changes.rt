@@ -37,6 +37,7 @@ impl Portion for Brand {
 /// An operation that tells the word that it met. Beside the view it tells what
 /// the rule says of that view and of the word.
 pub(crate) struct Reads<C, G> {
+    /// Names the content and the operation.
     marker: PhantomData<(C, G)>,
 }
 
@@ -46,6 +47,7 @@ impl<C: Content, G: Doing> Play<(), View> for Reads<C, G> {
 
 /// An operation that tells nothing of the word that it met.
 pub(crate) struct Stores<G> {
+    /// Names the operation.
     marker: PhantomData<G>,
 }
 
@@ -55,6 +57,7 @@ impl<G: Doing> Play<(), View> for Stores<G> {
 
 /// A seat gets half of the share, rounded down, and some pins.
 pub(crate) struct Halves<P> {
+    /// Names how many pins.
     marker: PhantomData<P>,
 }
 

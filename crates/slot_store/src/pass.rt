@@ -17,11 +17,17 @@ pub struct Spent;
 /// that is found last.
 #[derive(Drop)]
 pub struct Pass<C: Content> {
+    /// Its seat at the table.
     pub(crate) hand: Hand<C>,
+    /// How large the table is.
     pub(crate) sizes: Sizes,
+    /// The row at which it looks for a free one first.
     pub(crate) next: u32,
+    /// The newest version that it has seen.
     pub(crate) front: u32,
+    /// How many pins it may still take.
     pub(crate) left: u32,
+    /// The payload that was found last lies at its start.
     pub(crate) buffer: Vec<u64>,
     ghost measured: { (view_of hand).sizes ≡ sizes },
     ghost shared: { (view_of hand).share ≢ 0 },

@@ -8,8 +8,11 @@ use pin_rule::sizes::Sizes;
 /// A version's page in a table of these sizes.
 #[derive(Clone, Copy)]
 pub(crate) struct Site {
+    /// How large the table is.
     pub(crate) sizes: Sizes,
+    /// The page.
     pub(crate) page: u32,
+    /// The version that has it.
     pub(crate) version: u32,
     ghost page_in: { page < sizes.versions },
     ghost version_in: { version ≤ sizes.log },

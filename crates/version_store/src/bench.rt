@@ -18,6 +18,7 @@ use std::alloc::Global;
 /// and what stands in its page. A bench that is dropped gives the table's memory
 /// back.
 pub struct Bench<C: Content> {
+    /// The one user that there is.
     pub(crate) editor: Editor<C>,
     ghost has_all: { (view_of editor.hand).share ≡ whole },
     ghost one_version: { (role_of (view_of editor.hand)).older ≡ [] },

@@ -13,7 +13,9 @@ use std::alloc::Global;
 /// says nothing of a page that no live version has.
 #[derive(Drop)]
 pub(crate) struct CarriedRows {
+    /// How large the table is.
     pub(crate) sizes: Sizes,
+    /// For each page, a mark for each row.
     marks: Vec<bool>,
     ghost room: { length marks.items ≡ sizes.versions * sizes.rows },
 }

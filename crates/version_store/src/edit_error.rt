@@ -20,5 +20,6 @@ pub enum EditError {
 /// The log has as many entries as it has room for.
 #[derive(Clone, Copy, PartialEq, Eq)]
 pub struct LogFull {
+    /// How many entries the log has.
     pub entries: u32,
 }

@@ -18,12 +18,19 @@ use std::alloc::Global;
 /// the places of the page in the making.
 #[derive(Drop)]
 pub struct Editor<C: Content> {
+    /// Where the memory of its passes comes from.
     pub(crate) alloc: Global,
+    /// Its seat at the table.
     pub(crate) hand: Hand<C>,
+    /// How large the table is.
     pub(crate) sizes: Sizes,
+    /// The live versions.
     pub(crate) lives: Lives,
+    /// How many pins it has left, to give to passes.
     pub(crate) left: u32,
+    /// A row that is read lies at its start.
     pub(crate) row: Vec<u64>,
+    /// The places of the page in the making.
     pub(crate) places: Vec<u64>,
     ghost measured: { (view_of hand).sizes ≡ sizes },
     ghost shared: { (view_of hand).share ≢ 0 },

@@ -16,7 +16,9 @@ use pin_rule::content::Content;
 /// the pins taken on the oldest one were dropped.
 #[derive(Clone, Copy)]
 pub(crate) struct GivenUp {
+    /// How many versions were given up.
     pub(crate) count: u32,
+    /// How many pins on the oldest one that stays were dropped.
     pub(crate) released: u32,
 }
 

@@ -8,8 +8,11 @@ use pin_rule::sizes::Sizes;
 /// follows.
 #[derive(Clone, Copy)]
 pub(crate) struct Leaving {
+    /// How large the table is.
     pub(crate) sizes: Sizes,
+    /// The page of the version that is given up.
     pub(crate) page: u32,
+    /// The page of the version after it.
     pub(crate) next: u32,
     ghost page_in: { page < sizes.versions },
     ghost next_in: { next < sizes.versions },

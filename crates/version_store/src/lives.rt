@@ -15,10 +15,15 @@ use std::alloc::Global;
 /// release word is known; of another it is one from before.
 #[derive(Drop)]
 pub(crate) struct Lives {
+    /// How large the table is.
     pub(crate) sizes: Sizes,
+    /// The newest version.
     pub(crate) newest: LiveVersion,
+    /// The others, oldest first.
     pub(crate) older: Vec<OlderVersion>,
+    /// The rows that were carried into each.
     pub(crate) carried: CarriedRows,
+    /// For each page, a release word.
     releases: [u64; 16],
     ghost measured: { carried.sizes ≡ sizes },
     ghost few: { length older.items + 1 ≤ sizes.versions },

@@ -1,6 +1,6 @@
 //! A bench that has pinned its version.
 
-ghost use Rattle.std.specs.Prelude.{◌≡◌, Some, None, [], length};
+ghost use Rattle.std.specs.Prelude.{◌≡◌, ◌≢◌, Some, None, [], length};
 ghost use Rattle.pin_rule.specs.Hands.{view_of};
 ghost use Rattle.pin_rule.specs.Views.{whole};
 ghost use Rattle.slot_store.specs.PinnedHands.{view_in, site_in, buffer_in};
@@ -44,7 +44,8 @@ pub struct Lone<C: Content> {
 
 /// Gives the memory of the table back.
 fn close<C: Content>(hand: Hand<C>)
-    requires { (view_of hand).share ≡ whole }
+    requires share { (view_of hand).share ≡ whole }
+    requires role { (view_of hand).role ≢ None }
 {
     hand.close();
 }

@@ -21,7 +21,9 @@ use std::alloc::Global;
 /// Memory for some passes: a buffer for each, and a list with room for them.
 #[derive(Drop)]
 struct Room<C: Content> {
+    /// A buffer for each pass.
     buffers: Vec<Vec<u64>>,
+    /// A list with room for them.
     passes: Vec<Pass<C>>,
 }
 
