@@ -64,8 +64,12 @@ module _ (rules : List Rule) (tokens : List SymbolId) (p : Parser) (sound : IsSo
   -- the same, where the numbers of nodes and links were counted
   pub advanced_to : (openers : Vec ℕ Global) (nodes links : ℕ) → nodes ≡ length p.stacks.nodes → links ≡ length p.stacks.links
       → openers.items ≡ p.openers.items ++ nodes ∷ []
-      → IsSoundParser rules tokens (record p { openers = openers; level = record { at = p.level.at + 1; first_node = nodes; first_link = links }; is_flat =
-          true })
+      → IsSoundParser rules tokens (record p {
+        openers = openers;
+        level = record { at = p.level.at + 1; first_node = nodes; first_link = links };
+        is_flat =
+            true;
+      })
   advanced_to openers nodes links counts_nodes counts_links is =
       subst (λ n. IsSoundParser rules tokens (record p {
         openers = openers;

@@ -117,7 +117,7 @@ module _ (rules : List Rule) (tokens : List SymbolId) (f : Findings) (graph : Is
       let other : IsNode f y.lower p.lower p.from =
       subst (λ t. IsNode f y.lower t p.from) kernel (subst (λ k. IsNode f y.lower q.lower k) from q.lower_is) in
       graph.one_link a b x y _ _ e g (same_node rules tokens f graph p.lower_is other) (ap (λ
-          (l : StateLink). l.symbol) links) p.upper_is.there q.upper_is.there
+      (l : StateLink). l.symbol) links) p.upper_is.there q.upper_is.there
       (ap (λ (l : StateLink). l.to) links)
 
   -- the links that were found are some of the links

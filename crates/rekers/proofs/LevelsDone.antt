@@ -60,7 +60,7 @@ unless_both {Y} {P} {Q} {R} error r is on one two = subst (λ z. UnlessParseNoMe
 -- where what was found is sound and too much, the parser stopped for that
 pub stopped_by : {Y P Q : Type 0} (rules : List Rule) (tokens : List SymbolId) (q : Parser) (error : ParseError) (r : Result Y ParseError) → IsErrorOf r error
     → (P → IsSoundParser rules tokens q) → (Q → ArePlaced (found q)) → UnlessParseNoMemory {X = Unit {0}} (Err error) P
-        → UnlessParseNoMemory {X = Unit {0}} (Err error) Q
+    → UnlessParseNoMemory {X = Unit {0}} (Err error) Q
     → IsAboveLimit q error → IfErr r (IsStopped rules tokens q)
 stopped_by {Y} {P} {Q} rules tokens q error r is sound placed one two more =
     subst (λ z. IfErr {T = Y} z (IsStopped rules tokens q)) (sym (is_err_of r error is)) (by error one two more)
@@ -197,7 +197,7 @@ module _ {Base : Type 0} (tokens : List Token) (old middle new : GraphMeaning Ba
 
   pub done_then : AreLevelsDone middle.grammar.rules (kinds_of tokens) q (p.level.at + 1) → AsksNew p.states.kernels q.states.kernels middle new between after
       → KeepsNumbers p.states.kernels q.states.kernels → StandsButKernels middle new → between ≤ after → at < length tokens
-          → AreDoneTo tokens old new before after q (at + 1)
+      → AreDoneTo tokens old new before after q (at + 1)
   done_then done asks keeps stands later below = record {
     done = subst (λ n. AreLevelsDone old.grammar.rules (kinds_of tokens) q (n + 1)) so_far.done.at_is
         (done_back (kinds_of tokens) q (p.level.at + 1) so_far.stands done);
@@ -214,7 +214,7 @@ module _ {Base : Type 0} (tokens : List Token) (old middle new : GraphMeaning Ba
       → UnlessParseNoMemory r (AsksNew [] q.states.kernels old new before after)
   asks_stopped {Y} error r is asks keeps =
       unless_both {Y = Y} {P = AsksNew p.states.kernels q.states.kernels middle new between after} {Q = KeepsNumbers p.states.kernels q.states.kernels} error
-          r is
+      r is
       asks_then asks keeps
 
 -- ---- the parse
@@ -237,7 +237,7 @@ module _ {Base : Type 0} (tokens : List Token) (old new : GraphMeaning Base) (be
 
   pub parse_steps : {Y : Type 0} (error : ParseError) (r : Result Y ParseError) → IsErrorOf r error
       → UnlessParseNoMemory {X = Unit {0}} (Err error) (AsksNew [] q.states.kernels old new before after)
-          → UnlessParseNoMemory r (RisesAsCost old new before after)
+      → UnlessParseNoMemory r (RisesAsCost old new before after)
   parse_steps {Y} error r is asks =
       unless_mapped {Y = Y} {P = AsksNew [] q.states.kernels old new before after} error r is (λ a. a.rises) asks
 
@@ -255,7 +255,7 @@ module _ {Base : Type 0} (tokens : List Token) (old new : GraphMeaning Base) (be
 
   pub parse_asks_some : {Y : Type 0} (error : ParseError) (r : Result Y ParseError) → IsErrorOf r error
       → IsStopped old.grammar.rules (kinds_of tokens) q error → UnlessParseNoMemory {X = Unit {0}} (Err error)
-          (AsksNew [] q.states.kernels old new before after)
+      (AsksNew [] q.states.kernels old new before after)
       → IfTooLarge r (AsksSomeStates (kinds_of tokens) old new)
   parse_asks_some {Y} error r is stopped asks =
       subst (λ z. IfTooLarge {X = Y} z (AsksSomeStates (kinds_of tokens) old new)) (sym (is_err_of r error is)) (by error stopped asks)

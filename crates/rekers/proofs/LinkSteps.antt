@@ -107,7 +107,7 @@ module _ (tokens : List SymbolId) (G H : Grammar) (same : H ≡ G) (p q : Parser
       → IsFirstMover H.rules (found q) lower x
   first_on {lower} {x} sound below first =
       subst (λ (gr : Grammar). IsFirstMover gr.rules (found q) lower x) (sym same) (first_stays G.rules tokens (found p)
-          (found q) sound.graph grows below first)
+      (found q) sound.graph grows below first)
 
   pub nonterminal_on : {x : SymbolId} → IsNonterminal G.rules x → IsNonterminal H.rules x
   nonterminal_on {x} is = subst (λ (gr : Grammar). IsNonterminal gr.rules x) (sym same) is

@@ -162,7 +162,7 @@ module _ (p q : Parser) (same : q ≡ record p { trail = q.trail }) where
 
   pub begun_start : (walk : Walk) (start : Start) → IsStart p.stacks.links p.is_flat walk q.trail.items start → (rules : List Rule) (tokens : List SymbolId)
       → IsSoundParser rules tokens p → IsTop rules (found p) walk p.level.at → IsOfLevel (found p) p.level.first_link walk.through
-          → IsFresh rules (found p) walk []
+      → IsFresh rules (found p) walk []
       → IsWalking rules (found q) q.level.first_link q.level.at walk start.node start.left start.met q.trail.items
   begun_start walk start is rules tokens sound top of_level fresh =
       let begun = start_walks rules tokens p sound walk top of_level q.trail.items start is fresh in
