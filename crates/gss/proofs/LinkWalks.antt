@@ -1,18 +1,14 @@
 -- Walks over the links down from a node, from the oldest on.
-use Rattle.std.proofs.Common.{◌≡◌, inl, inr, ◌⊎◌, ℕ, ◌-◌, ◌<◌, ◌≤◌, List, [], ◌∷◌, ◌++◌, length, Option, None, Some, IfSome, IfNone, slice_get, Contains, sym}
+use Rattle.std.proofs.Common.{◌≡◌, inl, inr, ◌⊎◌, ℕ, ◌-◌, ◌<◌, ◌≤◌, List, length, Option, None, Some, IfSome, IfNone, slice_get, Contains, sym}
 use Rattle.std.proofs.Common.{ap, ◌∙◌, subst, arith}
 use Rattle.std.proofs.lemmas.Bool.{cases_lt}
 use Rattle.std.proofs.lemmas.Option.{slice_get_within, slice_get-get_or, same_Some}
-use Rattle.std.proofs.lemmas.List.Elements.{Contains-append_left, Contains-append_right, Contains-push_cases}
-use Rattle.forest.specs.Distinct.{IsDistinct, AreAll}
-use Rattle.forest.proofs.Ascending.{contains_here, contains_there}
 use Rattle.forest.specs.declared.symbols.SymbolId.{SymbolId}
 use Rattle.gss.specs.declared.stack_graph.Edge.{Edge}
 use Rattle.gss.specs.Numbers.{IsLeast, HasNone}
 use Rattle.gss.specs.PlaceGraphs.{LeadsDownFrom, LeadsFromSame}
 use Rattle.gss.specs.KernelGraphs.{Link, link_of}
-use Rattle.gss.specs.Paths.{node_id, Leads}
-use Rattle.gss.specs.Views.{link_in, links_in, IsEdge, IsToCome, AddsNew}
+use Rattle.gss.specs.Views.{link_in, links_in, IsEdge, IsToCome}
 use Rattle.gss.proofs.Columns.{to_column, from_column}
 
 -- how many links may come yet

@@ -24,8 +24,8 @@ use Rattle.gss.specs.declared.trails.Walk.{Walk}
 use Rattle.gss.specs.Chains.{none}
 use Rattle.gss.specs.PlaceGraphs.{edge_of}
 use Rattle.gss.specs.KernelGraphs.{Link}
-use Rattle.gss.specs.Paths.{node_id, Leads, IsPathDown, HasStep, GoesThrough, IsPathOf}
-use Rattle.gss.specs.Trails.{LeadsDown, Passes, IsTrailOf, IsBefore, IsPart, IsOn, Standing, IsToCome, IsNextTrail, IsAtEnd}
+use Rattle.gss.specs.Paths.{node_id, IsPathDown, HasStep, GoesThrough, IsPathOf}
+use Rattle.gss.specs.Trails.{LeadsDown, IsTrailOf, IsBefore, IsPart, IsOn, Standing, IsToCome, IsNextTrail, IsAtEnd}
 use Rattle.gss.specs.Views.{link_in, links_in, AddsNew, named, walk_of, lower_of, path_along}
 use Rattle.gss.proofs.Columns.{to_column, from_column}
 use Rattle.gss.proofs.TrailOrders.{down_within}
@@ -42,8 +42,7 @@ module _ (links : List Edge) (last : ℕ) where
       → IsPathDown (links_in links) node (length trail) (node ∷ map (lower_of links) trail)
   down_path node [] end down = refl
   down_path node (link ∷ trail) end (edge, at, up, le, on) =
-      let below = sym (lower_is links link edge at) in
-      (
+      let below = sym (lower_is links link edge at) in (
         lower_of links link,
         lower_of links link ∷ map (lower_of links) trail,
         refl,
@@ -124,9 +123,10 @@ module _ (links : List Edge) (last : ℕ) (within : (link : ℕ) → link < leng
       let lower' : slice_get rest (suc k) ≡ Some (node_id edge.lower) = ap (λ ns. slice_get ns (suc (suc k))) (sym is) ∙ lower in
       let (has, passes) = step_passes through edge there count below rest on k upper' lower' in
       let (own, at', same) = from_column link_in links link told at in
-      subst (λ ns. (has : HasTrail links last node (suc count) ns) × Contains has.trail through) (sym is)
-      (over node below count rest link own at' (ap (λ (l : Link). l.upper) same ∙ up) (ap (λ (l : Link). l.lower) same ∙ low) has,
-      contains_there link has.trail through passes)
+      subst (λ ns. (has : HasTrail links last node (suc count) ns) × Contains has.trail through) (sym is) (
+        over node below count rest link own at' (ap (λ (l : Link). l.upper) same ∙ up) (ap (λ (l : Link). l.lower) same ∙ low) has,
+        contains_there link has.trail through passes,
+      )
 
 -- the nodes along one link more
 pub along_more : (links : List Edge) (node : NodeId) (trail : List ℕ) (i : ℕ) (edge : Edge) (old new : List NodeId) → i < length trail

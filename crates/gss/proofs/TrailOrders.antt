@@ -125,8 +125,11 @@ module _ (links : List Edge) (last : ℕ) where
     from_first top (a ∷ part) node first (x ∷ trail) down least whole more (inl older) = inl older
     from_first top (a ∷ part) node first (x ∷ trail) (own, at, up, le, on) least (edge, at', up', le', on') more (inr (same, from)) =
         let is = same_edge links a x own edge at at' same in
-        inr (same, from_first own.lower part node first trail on least (subst (λ (e : Edge). LeadsDown links last e.lower trail end) is on')
-        (omega (arith, more)) from)
+        inr (
+          same,
+          from_first own.lower part node first trail on least (subst (λ (e : Edge). LeadsDown links last e.lower trail end) is on')
+              (omega (arith, more)) from,
+        )
 
     -- where the part leads no further, all longer trails from it on come later
     pub from_stuck : (top : ℕ) (part : List ℕ) (node : ℕ) (trail : List ℕ) → LeadsDown links last top part node

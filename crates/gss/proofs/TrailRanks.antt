@@ -1,10 +1,9 @@
 -- Ranks of parts of trails among all lists of so many numbers, so that a walk ends.
-use Rattle.std.proofs.Common.{◌≡◌, inl, inr, ℕ, zero, suc, ◌+◌, ◌*◌, ◌-◌, ◌<◌, ◌≤◌, List, [], ◌∷◌, length, sym, subst, arith, slice_get, Some}
+use Rattle.std.proofs.Common.{◌≡◌, inl, inr, ℕ, zero, suc, ◌+◌, ◌*◌, ◌<◌, ◌≤◌, List, [], ◌∷◌, length, subst, arith}
 use Rattle.std.proofs.Math.Nat.{mul-le-mul_right}
 use Rattle.std.proofs.lemmas.Option.{slice_get_within}
 use Rattle.gss.specs.declared.stack_graph.Edge.{Edge}
 use Rattle.gss.specs.Trails.{LeadsDown, IsBefore}
-use Rattle.gss.specs.Descents.{IsFrom}
 
 -- how many lists of n numbers below the base there are
 abbrev pub lists_of : (base n : ℕ) → ℕ
@@ -51,17 +50,6 @@ module _ (base : ℕ) (some : 0 < base) where
   rank_before (suc n) (link ∷ part) (x ∷ trail) (below, fits) (below', fits') (inr (same, before)) =
       let more = rank_before n part trail fits fits' before in
       subst (λ l. rank base (suc n) (link ∷ part) < rank base (suc n) (l ∷ trail)) same (omega (arith, more))
-
-  pub rank_from : (n : ℕ) (part trail : List ℕ) → FitsIn base n part → FitsIn base n trail → IsFrom part trail → rank base n part ≤ rank base n trail
-  rank_from zero part trail fits fits' from = omega arith
-  rank_from (suc n) [] trail fits fits' from = omega arith
-  rank_from (suc n) (link ∷ part) [] fits fits' from = absurd from
-  rank_from (suc n) (link ∷ part) (x ∷ trail) (below, fits) (below', fits') (inl older) =
-      let more : suc link * lists_of base n ≤ x * lists_of base n = mul-le-mul_right (lists_of base n) older in
-      omega (arith, more, next_rank n link, rank_below n part fits)
-  rank_from (suc n) (link ∷ part) (x ∷ trail) (below, fits) (below', fits') (inr (same, from)) =
-      let more = rank_from n part trail fits fits' from in
-      subst (λ l. rank base (suc n) (link ∷ part) ≤ rank base (suc n) (l ∷ trail)) same (omega (arith, more))
 
 -- links that lead down fit below one more than their count
 pub fits_down : (links : List Edge) (last top n : ℕ) (part : List ℕ) (node : ℕ) → LeadsDown links last top part node → length part ≤ n

@@ -1,15 +1,15 @@
 -- Steps of a walk from one trail to the next one.
-use Rattle.std.proofs.Common.{◌≡◌, ◌⊎◌, ◌↔◌, inl, inr, ℕ, suc, ◌-◌, ◌<◌, ◌≤◌, List, [], ◌∷◌, ◌++◌, length, Bool, true, false, IsTrue, refl, sym, ap, ◌∙◌, subst, arith}
+use Rattle.std.proofs.Common.{◌≡◌, ◌↔◌, inl, inr, ℕ, suc, ◌-◌, ◌<◌, ◌≤◌, List, [], ◌∷◌, ◌++◌, length, Bool, true, false, IsTrue, refl, sym, ◌∙◌, subst, arith}
 use Rattle.std.proofs.lemmas.List.{length-append}
 use Rattle.gss.specs.declared.stack_graph.Edge.{Edge}
 use Rattle.gss.specs.declared.trails.Walk.{Walk}
 use Rattle.gss.specs.Numbers.{IsLeast}
 use Rattle.gss.specs.PlaceGraphs.{LeadsDownFrom, LeadsFromSame}
-use Rattle.gss.specs.Trails.{LeadsDown, Passes, IsTrailOf, IsBefore, IsPart, Standing, IsToCome, IsNextTrail, IsAtEnd}
-use Rattle.gss.specs.Descents.{IsFrom, GoesTo, Turns, IsFirstFrom, Finds}
+use Rattle.gss.specs.Trails.{LeadsDown, Passes, IsTrailOf, IsBefore, IsPart, Standing, IsNextTrail, IsAtEnd}
+use Rattle.gss.specs.Descents.{IsFrom, GoesTo, Turns, Finds}
 use Rattle.gss.proofs.TrailOrders.{from_here, from_on, from_before, before_from, from_pushed, before_newer, before_longer, from_whole}
 use Rattle.gss.proofs.TrailOrders.{down_pushed, down_popped, from_first, from_stuck, from_next, before_shorter}
-use Rattle.gss.proofs.TrailRanks.{lists_of, rank, rank_below, rank_before, rank_from, fits_down}
+use Rattle.gss.proofs.TrailRanks.{lists_of, rank, rank_below, rank_before, fits_down}
 
 part_of_trail : (links : List Edge) (walk : Walk) (trail : List ℕ) → IsTrailOf links walk trail → IsPart links walk trail
 part_of_trail links walk trail is = record { node = is.node; down = is.down; few = omega (arith, is.size) }

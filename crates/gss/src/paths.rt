@@ -35,12 +35,7 @@ fn walk_for(node: NodeId, count: u32, through: Option<LinkId>) -> Walk
 }
 
 /// The nodes that the trail leads over.
-fn path_of(
-    alloc: Global,
-    graph: &StackGraph,
-    node: NodeId,
-    trail: &[u32],
-) -> Result<Path, NoMemory>
+fn path_of(alloc: Global, graph: &StackGraph, node: NodeId, trail: &[u32]) -> Result<Path, NoMemory>
     requires { (link : ℕ) → Contains trail.now link → link < length graph.now.links }
     ensures { IfOk result (λ path. path ≡ path_along graph.now.links node trail.now) }
 {

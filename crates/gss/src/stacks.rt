@@ -1,6 +1,6 @@
 //! Stacks by kernels.
 
-ghost use Rattle.std.specs.Prelude.{◌≡◌, ◌-◌, ◌^◌, ◌<◌, [], ◌∷◌, ◌++◌, Contains, IfSome, IfNone, IfOk, OnOk, OnErr, Some, length, slice_get};
+ghost use Rattle.std.specs.Prelude.{◌≡◌, ◌-◌, ◌^◌, ◌<◌, [], Contains, IfSome, IfNone, IfOk, OnOk, OnErr, Some, length, slice_get};
 ghost use Rattle.gss.specs.KernelGraphs.{kernel_at, link_of, IsAdded, IsThere, IsNumberIn};
 ghost use Rattle.forest.specs.Distinct.{AreAll};
 ghost use Rattle.gss.specs.Paths.{IsPathOf};

@@ -39,7 +39,11 @@ fn told_alone<L: Ledger>(
     let mut graph = Counter::new(alloc, PrivateGraph::new(alloc, grammar)?);
     let mut steps = Steps::<L>::new(blank);
     let calls = ask_twice(alloc, &mut graph, text, &mut steps)?;
-    format!(in alloc; "{} kernels, {calls} asks, {} after a second parse", graph.kernels(), graph.calls())
+    format!(in alloc;
+        "{} kernels, {calls} asks, {} after a second parse",
+        graph.kernels(),
+        graph.calls()
+    )
 }
 
 /// For how many kernels a parse of the text asks, how often, and how often two parses do.

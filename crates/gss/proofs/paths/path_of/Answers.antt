@@ -1,5 +1,5 @@
 -- The nodes that a trail leads over.
-use Rattle.std.proofs.Common.{◌≡◌, ◌<◌, length, get_or, arith}
+use Rattle.std.proofs.Common.{◌<◌, length, get_or, arith}
 use Rattle.std.proofs.lemmas.List.Elements.{Contains-get_or}
 use Rattle.gss.proofs.PathTrails.{along_more}
 use Rattle.gss.proofs.paths.path_of.Goals as goal

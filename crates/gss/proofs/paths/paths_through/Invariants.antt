@@ -1,5 +1,3 @@
-use Rattle.std.proofs.Common.{List, ℕ}
-use Rattle.gss.specs.Trails.{Standing}
 use Rattle.gss.proofs.PathTrails.{ArePathsSoFar, calls_left}
 use Rattle.gss.proofs.paths.paths_through.Given as goal
 

@@ -1,4 +1,4 @@
-use Rattle.std.proofs.Common.{length, get_or, ◌-◌, refl, arith}
+use Rattle.std.proofs.Common.{length, get_or, ◌-◌, arith}
 use Rattle.std.proofs.lemmas.List.Elements.{Contains-get_or}
 use Rattle.gss.proofs.TrailOrders.{down_within, down_end}
 use Rattle.gss.proofs.trails.end_of.Goals as goal
