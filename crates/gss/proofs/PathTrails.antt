@@ -25,7 +25,7 @@ use Rattle.gss.specs.Chains.{none}
 use Rattle.gss.specs.PlaceGraphs.{edge_of}
 use Rattle.gss.specs.KernelGraphs.{Link}
 use Rattle.gss.specs.Paths.{node_id, IsPathDown, HasStep, GoesThrough, IsPathOf}
-use Rattle.gss.specs.Trails.{LeadsDown, IsTrailOf, IsBefore, IsPart, IsOn, Standing, IsToCome, IsNextTrail, IsAtEnd}
+use Rattle.gss.specs.Trails.{LeadsDown, IsTrailOf, IsTrailBefore, IsPartOfTrail, IsOn, Standing, IsToCome, IsNextTrail, IsAtEnd}
 use Rattle.gss.specs.Views.{link_in, links_in, AddsNew, named, walk_of, lower_of, path_along}
 use Rattle.gss.proofs.Columns.{to_column, from_column}
 use Rattle.gss.proofs.TrailOrders.{down_within}
@@ -187,7 +187,7 @@ pub record ArePathsSoFar (links : List Edge) (node : NodeId) (count : ℕ) (thro
   pub within : (path : Path) → Contains found path
       → (trail : List ℕ) × IsTrailOf links (walk_of node count through) trail × (path ≡ path_along links node trail)
   pub all : (trail : List ℕ) → IsTrailOf links (walk_of node count through) trail
-      → (IsTrue is_more × ((trail ≡ at.trail) ⊎ IsBefore at.trail trail)) ⊎ Contains found (path_along links node trail)
+      → (IsTrue is_more × ((trail ≡ at.trail) ⊎ IsTrailBefore at.trail trail)) ⊎ Contains found (path_along links node trail)
 
 distinct_pushed : {X : Type 0} (xs : List X) (x : X) → IsDistinct xs → (Contains xs x → ⊥) → IsDistinct (xs ++ x ∷ [])
 distinct_pushed xs x d n = distinct_append xs (x ∷ []) d ((λ c. absurd (omega (arith, c.1)), tt)) (λ z c e. elim (contains_cases x [] z e) [
@@ -222,7 +222,7 @@ module _ {X : Type 0} (old new : List X) (x : X) (adds : AddsNew old new x) wher
 
 -- what a call of the walk tells of the trails that were to come
 comes : (links : List Edge) (at at' : Standing) (found : Bool) → (IsTrue found → IsNextTrail links at at'.trail) → (found ≡ false → IsAtEnd links at)
-    → (trail : List ℕ) → IsTrailOf links at.walk trail → IsToCome at trail → IsTrue found × ((trail ≡ at'.trail) ⊎ IsBefore at'.trail trail)
+    → (trail : List ℕ) → IsTrailOf links at.walk trail → IsToCome at trail → IsTrue found × ((trail ≡ at'.trail) ⊎ IsTrailBefore at'.trail trail)
 comes links at at' true next end trail is to_come = (refl, (next refl).first trail is to_come)
 comes links at at' false next end trail is to_come = absurd (end refl trail is to_come)
 
@@ -278,7 +278,7 @@ module _ (links : List Edge) (node : NodeId) (count : ℕ) (through : Option Lin
         fewer false is = omega arith
         fewer true is =
             let before = (next (let t : IsTrue is_more = cc in t)).to_come so_far.begun in
-            let part = subst (λ (w : Walk). IsPart links w at'.trail) walk (on begun) in
+            let part = subst (λ (w : Walk). IsPartOfTrail links w at'.trail) walk (on begun) in
             let less = fewer_left links at.walk at.trail at'.trail (so_far.on so_far.begun) part before in
             let same : left_from links at'.walk at'.trail ≡ left_from links at.walk at'.trail = ap (λ (w : Walk). left_from links w at'.trail) walk in
             omega (arith, less, same)

@@ -1,12 +1,13 @@
 -- Parts of trails, and which trails come from them on.
-use Rattle.std.proofs.Common.{◌≡◌, ◌⊎◌, inl, inr, ℕ, zero, suc, ◌<◌, ◌≤◌, List, [], ◌∷◌, ◌++◌, length, get_or, Some, slice_get, Contains, refl, sym, ap, ◌∙◌, subst, arith}
+use Rattle.std.proofs.Common.{◌≡◌, ◌⊎◌, inl, inr, ℕ, zero, suc, ◌<◌, ◌≤◌, List, [], ◌∷◌, ◌++◌, length, get_or, Some, slice_get, Contains, refl, sym, ap, ◌∙◌}
+use Rattle.std.proofs.Common.{subst, arith}
 use Rattle.std.proofs.lemmas.Bool.{cases_lt}
 use Rattle.std.proofs.lemmas.Option.{slice_get_within, same_Some}
 use Rattle.forest.proofs.Ascending.{contains_cases}
 use Rattle.gss.specs.declared.stack_graph.Edge.{Edge}
 use Rattle.gss.specs.Numbers.{IsLeast}
 use Rattle.gss.specs.PlaceGraphs.{LeadsDownFrom, LeadsFromSame}
-use Rattle.gss.specs.Trails.{LeadsDown, IsBefore}
+use Rattle.gss.specs.Trails.{LeadsDown, IsTrailBefore}
 use Rattle.gss.specs.Descents.{IsFrom}
 
 -- ---- the order
@@ -15,7 +16,7 @@ pub from_here : (part : List ℕ) → IsFrom part part
 from_here [] = tt
 from_here (link ∷ part) = inr (refl, from_here part)
 
-pub from_before : (part trail : List ℕ) → IsBefore part trail → IsFrom part trail
+pub from_before : (part trail : List ℕ) → IsTrailBefore part trail → IsFrom part trail
 from_before [] trail before = tt
 from_before (link ∷ part) [] before = absurd before
 from_before (link ∷ part) (other ∷ trail) (inl older) = inl older
@@ -30,7 +31,7 @@ from_on (a ∷ part) (b ∷ middle) (c ∷ trail) (inl older) (inr (same, on)) =
 from_on (a ∷ part) (b ∷ middle) (c ∷ trail) (inr (same, on)) (inl older) = inl (omega (arith, older, same))
 from_on (a ∷ part) (b ∷ middle) (c ∷ trail) (inr (same, on)) (inr (same', on')) = inr (same ∙ same', from_on part middle trail on on')
 
-pub before_from : (part middle trail : List ℕ) → IsBefore part middle → IsFrom middle trail → IsBefore part trail
+pub before_from : (part middle trail : List ℕ) → IsTrailBefore part middle → IsFrom middle trail → IsTrailBefore part trail
 before_from [] middle trail first second = absurd first
 before_from (a ∷ part) [] trail first second = absurd first
 before_from (a ∷ part) (b ∷ middle) [] first second = absurd second
@@ -45,19 +46,19 @@ from_pushed [] link = tt
 from_pushed (x ∷ part) link = inr (refl, from_pushed part link)
 
 -- a newer link in the last place comes later
-pub before_newer : (part : List ℕ) (old new : ℕ) → old < new → IsBefore (part ++ old ∷ []) (part ++ new ∷ [])
+pub before_newer : (part : List ℕ) (old new : ℕ) → old < new → IsTrailBefore (part ++ old ∷ []) (part ++ new ∷ [])
 before_newer [] old new older = inl older
 before_newer (x ∷ part) old new older = inr (refl, before_newer part old new older)
 
 -- what comes behind a part comes behind a longer one
-pub before_longer : (part : List ℕ) (link : ℕ) (trail : List ℕ) → IsBefore part trail → IsBefore (part ++ link ∷ []) trail
+pub before_longer : (part : List ℕ) (link : ℕ) (trail : List ℕ) → IsTrailBefore part trail → IsTrailBefore (part ++ link ∷ []) trail
 before_longer [] link trail before = absurd before
 before_longer (a ∷ part) link [] before = absurd before
 before_longer (a ∷ part) link (x ∷ trail) (inl older) = inl older
 before_longer (a ∷ part) link (x ∷ trail) (inr (same, before)) = inr (same, before_longer part link trail before)
 
 -- from a whole trail on comes the trail itself, or one behind it
-pub from_whole : (trail other : List ℕ) → length trail ≡ length other → IsFrom trail other → (other ≡ trail) ⊎ IsBefore trail other
+pub from_whole : (trail other : List ℕ) → length trail ≡ length other → IsFrom trail other → (other ≡ trail) ⊎ IsTrailBefore trail other
 from_whole [] [] size from = inl refl
 from_whole [] (x ∷ other) size from = absurd (omega (arith, size))
 from_whole (link ∷ trail) [] size from = absurd from
@@ -134,18 +135,22 @@ module _ (links : List Edge) (last : ℕ) where
     -- where the part leads no further, all longer trails from it on come later
     pub from_stuck : (top : ℕ) (part : List ℕ) (node : ℕ) (trail : List ℕ) → LeadsDown links last top part node
         → ((other : ℕ) → LeadsDownFrom links node other → last < other) → LeadsDown links last top trail end → length part < length trail → IsFrom part trail
-        → IsBefore part trail
+        → IsTrailBefore part trail
     from_stuck top [] node [] down none whole more from = absurd (omega (arith, more))
     from_stuck top [] node (x ∷ trail) down none (edge, at, up, le, on) more from = absurd (omega (arith, le, none x (edge, at, up ∙ down)))
     from_stuck top (a ∷ part) node [] down none whole more from = absurd from
     from_stuck top (a ∷ part) node (x ∷ trail) down none whole more (inl older) = inl older
     from_stuck top (a ∷ part) node (x ∷ trail) (own, at, up, le, on) none (edge, at', up', le', on') more (inr (same, from)) =
         let is = same_edge links a x own edge at at' same in
-        inr (same, from_stuck own.lower part node trail on none (subst (λ (e : Edge). LeadsDown links last e.lower trail end) is on') (omega (arith, more)) from)
+        inr (
+          same,
+          from_stuck own.lower part node trail on none (subst (λ (e : Edge). LeadsDown links last e.lower trail end) is on') (omega
+              (arith, more)) from,
+        )
 
     -- behind a part come the trails from the next link on in its last place
     pub from_next : (top : ℕ) (part : List ℕ) (node link next : ℕ) (trail : List ℕ) → LeadsDown links last top (part ++ link ∷ []) node
-        → IsLeast (LeadsFromSame links link) next → LeadsDown links last top trail end → IsBefore (part ++ link ∷ []) trail
+        → IsLeast (LeadsFromSame links link) next → LeadsDown links last top trail end → IsTrailBefore (part ++ link ∷ []) trail
         → IsFrom (part ++ next ∷ []) trail
     from_next top [] node link next [] down least whole before = absurd before
     from_next top [] node link next (x ∷ trail) (own, at, up, le, on) least (edge, at', up', le', on') (inl older) = elim (cases_lt next x) [
@@ -164,8 +169,8 @@ module _ (links : List Edge) (last : ℕ) where
 
     -- where no other link is left in its last place, they come behind the shorter part
     pub before_shorter : (top : ℕ) (part : List ℕ) (node link : ℕ) (trail : List ℕ) → LeadsDown links last top (part ++ link ∷ []) node
-        → ((other : ℕ) → LeadsFromSame links link other → last < other) → LeadsDown links last top trail end → IsBefore (part ++ link ∷ []) trail
-        → IsBefore part trail
+        → ((other : ℕ) → LeadsFromSame links link other → last < other) → LeadsDown links last top trail end → IsTrailBefore (part ++ link ∷ []) trail
+        → IsTrailBefore part trail
     before_shorter top [] node link [] down none whole before = absurd before
     before_shorter top [] node link (x ∷ trail) (own, at, up, le, on) none (edge, at', up', le', on') (inl older) =
         absurd (omega (arith, le', none x (older, own, at, (edge, at', up' ∙ sym up))))

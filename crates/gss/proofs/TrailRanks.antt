@@ -3,7 +3,7 @@ use Rattle.std.proofs.Common.{◌≡◌, inl, inr, ℕ, zero, suc, ◌+◌, ◌*
 use Rattle.std.proofs.Math.Nat.{mul-le-mul_right}
 use Rattle.std.proofs.lemmas.Option.{slice_get_within}
 use Rattle.gss.specs.declared.stack_graph.Edge.{Edge}
-use Rattle.gss.specs.Trails.{LeadsDown, IsBefore}
+use Rattle.gss.specs.Trails.{LeadsDown, IsTrailBefore}
 
 -- how many lists of n numbers below the base there are
 abbrev pub lists_of : (base n : ℕ) → ℕ
@@ -39,7 +39,7 @@ module _ (base : ℕ) (some : 0 < base) where
       let more : suc link * lists_of base n ≤ base * lists_of base n = mul-le-mul_right (lists_of base n) below in
       omega (arith, more, next_rank n link, rank_below n part fits)
 
-  pub rank_before : (n : ℕ) (part trail : List ℕ) → FitsIn base n part → FitsIn base n trail → IsBefore part trail → rank base n part < rank base n trail
+  pub rank_before : (n : ℕ) (part trail : List ℕ) → FitsIn base n part → FitsIn base n trail → IsTrailBefore part trail → rank base n part < rank base n trail
   rank_before zero [] trail fits fits' before = absurd before
   rank_before (suc n) [] trail fits fits' before = absurd before
   rank_before (suc n) (link ∷ part) [] fits fits' before = absurd before

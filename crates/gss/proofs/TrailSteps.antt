@@ -5,25 +5,25 @@ use Rattle.gss.specs.declared.stack_graph.Edge.{Edge}
 use Rattle.gss.specs.declared.trails.Walk.{Walk}
 use Rattle.gss.specs.Numbers.{IsLeast}
 use Rattle.gss.specs.PlaceGraphs.{LeadsDownFrom, LeadsFromSame}
-use Rattle.gss.specs.Trails.{LeadsDown, Passes, IsTrailOf, IsBefore, IsPart, Standing, IsNextTrail, IsAtEnd}
-use Rattle.gss.specs.Descents.{IsFrom, GoesTo, Turns, Finds}
+use Rattle.gss.specs.Trails.{LeadsDown, PassesLink, IsTrailOf, IsTrailBefore, IsPartOfTrail, Standing, IsNextTrail, IsAtEnd}
+use Rattle.gss.specs.Descents.{IsFrom, GoesTo, TurnsTo, FindsTrail}
 use Rattle.gss.proofs.TrailOrders.{from_here, from_on, from_before, before_from, from_pushed, before_newer, before_longer, from_whole}
 use Rattle.gss.proofs.TrailOrders.{down_pushed, down_popped, from_first, from_stuck, from_next, before_shorter}
 use Rattle.gss.proofs.TrailRanks.{lists_of, rank, rank_below, rank_before, fits_down}
 
-part_of_trail : (links : List Edge) (walk : Walk) (trail : List ℕ) → IsTrailOf links walk trail → IsPart links walk trail
+part_of_trail : (links : List Edge) (walk : Walk) (trail : List ℕ) → IsTrailOf links walk trail → IsPartOfTrail links walk trail
 part_of_trail links walk trail is = record { node = is.node; down = is.down; few = omega (arith, is.size) }
 
 -- ---- down
 
 -- so far the walk only went down
 pub record IsGoing (links : List Edge) (walk : Walk) (old new : List ℕ) : Type 0 where
-  pub part : IsPart links walk new
+  pub part : IsPartOfTrail links walk new
   pub from : IsFrom old new
   pub rest : (trail : List ℕ) → IsTrailOf links walk trail → IsFrom old trail → IsFrom new trail
 
 module _ (links : List Edge) (walk : Walk) (old : List ℕ) where
-  pub going_none : IsPart links walk old → IsGoing links walk old old
+  pub going_none : IsPartOfTrail links walk old → IsGoing links walk old old
   going_none part = record { part = part; from = from_here old; rest = λ trail is from. from }
 
   module _ (part : List ℕ) (going : IsGoing links walk old part) where
@@ -52,13 +52,13 @@ module _ (links : List Edge) (walk : Walk) (old : List ℕ) where
           (going.rest trail is from));
     }
 
-    pub going_whole : (passes : Bool) → walk.length ≤ length part → (IsTrue passes ↔ Passes walk.through part) → GoesTo links walk old part passes
+    pub going_whole : (passes : Bool) → walk.length ≤ length part → (IsTrue passes ↔ PassesLink walk.through part) → GoesTo links walk old part passes
     going_whole passes most told = record {
       part = going.part;
       from = going.from;
       whole = λ t. record { node = going.part.node; down = going.part.down; size = size; passes = told.0 t };
       rest = λ trail is from. elim (from_whole part trail (size ∙ sym is.size) (going.rest trail is from)) [
-        | inl same ↦ inl (told.1 (subst (λ ts. Passes walk.through ts) same is.passes), same)
+        | inl same ↦ inl (told.1 (subst (λ ts. PassesLink walk.through ts) same is.passes), same)
         | inr later ↦ inr later
       ];
     }
@@ -70,12 +70,12 @@ module _ (links : List Edge) (walk : Walk) (old : List ℕ) where
 
 -- so far the walk only went up
 pub record IsRising (links : List Edge) (walk : Walk) (old new : List ℕ) : Type 0 where
-  pub part : IsPart links walk new
-  pub before : (trail : List ℕ) → IsBefore new trail → IsBefore old trail
-  pub rest : (trail : List ℕ) → IsPart links walk trail → IsBefore old trail → IsBefore new trail
+  pub part : IsPartOfTrail links walk new
+  pub before : (trail : List ℕ) → IsTrailBefore new trail → IsTrailBefore old trail
+  pub rest : (trail : List ℕ) → IsPartOfTrail links walk trail → IsTrailBefore old trail → IsTrailBefore new trail
 
 module _ (links : List Edge) (walk : Walk) (old : List ℕ) where
-  pub rising_none : IsPart links walk old → IsRising links walk old old
+  pub rising_none : IsPartOfTrail links walk old → IsRising links walk old old
   rising_none part = record { part = part; before = λ trail is. is; rest = λ trail is before. before }
 
   module _ (part : List ℕ) (link : ℕ) (rising : IsRising links walk old (part ++ link ∷ [])) where
@@ -93,7 +93,7 @@ module _ (links : List Edge) (walk : Walk) (old : List ℕ) where
         }
 
     module _ (next : ℕ) (least : IsLeast (LeadsFromSame links link) next) (le : next ≤ walk.last) where
-      pub turned_part : IsPart links walk (part ++ next ∷ [])
+      pub turned_part : IsPartOfTrail links walk (part ++ next ∷ [])
       turned_part =
           let (edge, at, down) = down_popped links walk.last walk.top part rising.part.node link rising.part.down in
           let (older, own, at', (other, there, up)) = least.is in
@@ -104,24 +104,24 @@ module _ (links : List Edge) (walk : Walk) (old : List ℕ) where
             few = omega (arith, rising.part.few, length-append part (link ∷ []), length-append part (next ∷ []));
           }
 
-      pub turned : Turns links walk old (part ++ next ∷ []) true
+      pub turned : TurnsTo links walk old (part ++ next ∷ []) true
       turned = (
         rising.before (part ++ next ∷ []) (before_newer part link next least.is.0),
         λ trail is before. from_next links walk.last is.node walk.top part rising.part.node link next trail rising.part.down least is.down
             (rising.rest trail is before),
       )
 
-  pub turned_none : IsRising links walk old [] → Turns links walk old [] false
+  pub turned_none : IsRising links walk old [] → TurnsTo links walk old [] false
   turned_none rising trail is before = rising.rest trail is before
 
 -- ---- both
 
 module _ (links : List Edge) (walk : Walk) (old part : List ℕ) (goes : GoesTo links walk old part false) where
   -- what comes behind the part that leads no further
-  behind : (trail : List ℕ) → IsTrailOf links walk trail → IsFrom old trail → IsBefore part trail
+  behind : (trail : List ℕ) → IsTrailOf links walk trail → IsFrom old trail → IsTrailBefore part trail
   behind trail is from = elim (goes.rest trail is from) [ inl whole ↦ absurd (let no = whole.0 in cc) | inr later ↦ later ]
 
-  pub goes_on : (middle new : List ℕ) (is_whole : Bool) → Turns links walk part middle true → GoesTo links walk middle new is_whole
+  pub goes_on : (middle new : List ℕ) (is_whole : Bool) → TurnsTo links walk part middle true → GoesTo links walk middle new is_whole
       → GoesTo links walk old new is_whole
   goes_on middle new is_whole turns more = record {
     part = more.part;
@@ -130,10 +130,10 @@ module _ (links : List Edge) (walk : Walk) (old part : List ℕ) (goes : GoesTo 
     rest = λ trail is from. more.rest trail is (turns.1 trail (part_of_trail links walk trail is) (behind trail is from));
   }
 
-  pub finds_none : (new : List ℕ) → Turns links walk part new false → Finds links walk old new false
+  pub finds_none : (new : List ℕ) → TurnsTo links walk part new false → FindsTrail links walk old new false
   finds_none new turns trail is from = turns trail (part_of_trail links walk trail is) (behind trail is from)
 
-pub finds_whole : (links : List Edge) (walk : Walk) (old new : List ℕ) → GoesTo links walk old new true → Finds links walk old new true
+pub finds_whole : (links : List Edge) (walk : Walk) (old new : List ℕ) → GoesTo links walk old new true → FindsTrail links walk old new true
 finds_whole links walk old new goes = record {
   is = goes.whole refl;
   from = goes.from;
@@ -144,8 +144,8 @@ finds_whole links walk old new goes = record {
 abbrev pub left_from : List Edge → Walk → List ℕ → ℕ
 left_from links walk part = lists_of (suc (length links)) walk.length - rank (suc (length links)) walk.length part
 
-module _ (links : List Edge) (walk : Walk) (old new : List ℕ) (part : IsPart links walk old) (part' : IsPart links walk new) where
-  pub fewer_left : IsBefore old new → left_from links walk new < left_from links walk old
+module _ (links : List Edge) (walk : Walk) (old new : List ℕ) (part : IsPartOfTrail links walk old) (part' : IsPartOfTrail links walk new) where
+  pub fewer_left : IsTrailBefore old new → left_from links walk new < left_from links walk old
   fewer_left before =
       let base = suc (length links) in
       let fits = fits_down links walk.last walk.top walk.length old part.node part.down part.few in
@@ -156,30 +156,31 @@ module _ (links : List Edge) (walk : Walk) (old new : List ℕ) (part : IsPart l
 -- ---- what is told of it
 
 module _ (links : List Edge) (at : Standing) where
-  pub next_first : (trail : List ℕ) → (IsTrue at.is_begun → ⊥) → Finds links at.walk [] trail true → IsNextTrail links at trail
+  pub next_first : (trail : List ℕ) → (IsTrue at.is_begun → ⊥) → FindsTrail links at.walk [] trail true → IsNextTrail links at trail
   next_first trail new finds = record {
     is = finds.is;
     to_come = λ begun. absurd (new begun);
     first = λ other is to_come. finds.first other is tt;
   }
 
-  pub end_first : (trail : List ℕ) → Finds links at.walk [] trail false → IsAtEnd links at
+  pub end_first : (trail : List ℕ) → FindsTrail links at.walk [] trail false → IsAtEnd links at
   end_first trail finds other is to_come = finds other is tt
 
   module _ (begun : IsTrue at.is_begun) where
-    pub next_turned : (middle trail : List ℕ) → Turns links at.walk at.trail middle true → Finds links at.walk middle trail true → IsNextTrail links at trail
+    pub next_turned : (middle trail : List ℕ) → TurnsTo links at.walk at.trail middle true → FindsTrail links at.walk middle trail true
+        → IsNextTrail links at trail
     next_turned middle trail turns finds = record {
       is = finds.is;
       to_come = λ b. before_from at.trail middle trail turns.0 finds.from;
       first = λ other is to_come. finds.first other is (turns.1 other (part_of_trail links at.walk other is) (to_come begun));
     }
 
-    pub end_turned : (middle trail : List ℕ) → Turns links at.walk at.trail middle true → Finds links at.walk middle trail false → IsAtEnd links at
+    pub end_turned : (middle trail : List ℕ) → TurnsTo links at.walk at.trail middle true → FindsTrail links at.walk middle trail false → IsAtEnd links at
     end_turned middle trail turns finds other is to_come = finds other is (turns.1 other (part_of_trail links at.walk other is) (to_come begun))
 
-    pub end_here : (new : List ℕ) → Turns links at.walk at.trail new false → IsAtEnd links at
+    pub end_here : (new : List ℕ) → TurnsTo links at.walk at.trail new false → IsAtEnd links at
     end_here new turns other is to_come = turns other (part_of_trail links at.walk other is) (to_come begun)
 
 -- the top alone is a part
-pub part_none : (links : List Edge) (walk : Walk) → IsPart links walk []
+pub part_none : (links : List Edge) (walk : Walk) → IsPartOfTrail links walk []
 part_none links walk = record { node = walk.top; down = refl; few = omega arith }

@@ -2,7 +2,7 @@
 use Rattle.std.specs.Prelude.{◌≡◌, ◌⊎◌, ℕ, ◌<◌, List, [], ◌∷◌, Bool, IsTrue, false, true}
 use Rattle.gss.specs.declared.stack_graph.Edge.{Edge}
 use Rattle.gss.specs.declared.trails.Walk.{Walk}
-use Rattle.gss.specs.Trails.{IsTrailOf, IsPart, IsBefore}
+use Rattle.gss.specs.Trails.{IsTrailOf, IsPartOfTrail, IsTrailBefore}
 
 -- the trail goes on from the part, or has a newer link where the two first differ
 abbrev pub IsFrom : List ℕ → List ℕ → Type 0
@@ -12,22 +12,22 @@ IsFrom (link ∷ part) (other ∷ trail) = (link < other) ⊎ ((link ≡ other) 
 
 -- the walk has gone from one part to another, which is whole or leads no further, and has come past no trail
 pub record GoesTo (links : List Edge) (walk : Walk) (old new : List ℕ) (is_whole : Bool) : Type 0 where
-  pub part : IsPart links walk new
+  pub part : IsPartOfTrail links walk new
   pub from : IsFrom old new
   pub whole : IsTrue is_whole → IsTrailOf links walk new
-  pub rest : (trail : List ℕ) → IsTrailOf links walk trail → IsFrom old trail → (IsTrue is_whole × (trail ≡ new)) ⊎ IsBefore new trail
+  pub rest : (trail : List ℕ) → IsTrailOf links walk trail → IsFrom old trail → (IsTrue is_whole × (trail ≡ new)) ⊎ IsTrailBefore new trail
 
 -- the walk has turned from one part to the next one that does not go on from it, if there is one
-abbrev pub Turns : List Edge → Walk → (old new : List ℕ) → Bool → Type 0
-Turns links walk old new true = IsBefore old new × ((trail : List ℕ) → IsPart links walk trail → IsBefore old trail → IsFrom new trail)
-Turns links walk old new false = (trail : List ℕ) → IsPart links walk trail → IsBefore old trail → ⊥
+abbrev pub TurnsTo : List Edge → Walk → (old new : List ℕ) → Bool → Type 0
+TurnsTo links walk old new true = IsTrailBefore old new × ((trail : List ℕ) → IsPartOfTrail links walk trail → IsTrailBefore old trail → IsFrom new trail)
+TurnsTo links walk old new false = (trail : List ℕ) → IsPartOfTrail links walk trail → IsTrailBefore old trail → ⊥
 
 -- the first of the trails from the part on, if there is one
 pub record IsFirstFrom (links : List Edge) (walk : Walk) (part trail : List ℕ) : Type 0 where
   pub is : IsTrailOf links walk trail
   pub from : IsFrom part trail
-  pub first : (other : List ℕ) → IsTrailOf links walk other → IsFrom part other → (other ≡ trail) ⊎ IsBefore trail other
+  pub first : (other : List ℕ) → IsTrailOf links walk other → IsFrom part other → (other ≡ trail) ⊎ IsTrailBefore trail other
 
-abbrev pub Finds : List Edge → Walk → (part trail : List ℕ) → Bool → Type 0
-Finds links walk part trail true = IsFirstFrom links walk part trail
-Finds links walk part trail false = (other : List ℕ) → IsTrailOf links walk other → IsFrom part other → ⊥
+abbrev pub FindsTrail : List Edge → Walk → (part trail : List ℕ) → Bool → Type 0
+FindsTrail links walk part trail true = IsFirstFrom links walk part trail
+FindsTrail links walk part trail false = (other : List ℕ) → IsTrailOf links walk other → IsFrom part other → ⊥

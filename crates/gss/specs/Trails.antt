@@ -10,22 +10,22 @@ LeadsDown links last top (link ∷ trail) node = (edge : Edge) × (slice_get lin
     × LeadsDown links last edge.lower trail node
 
 -- the trail goes through the link, if one is named
-abbrev pub Passes : Option ℕ → List ℕ → Type 0
-Passes None trail = Unit {0}
-Passes (Some through) trail = Contains trail through
+abbrev pub PassesLink : Option ℕ → List ℕ → Type 0
+PassesLink None trail = Unit {0}
+PassesLink (Some through) trail = Contains trail through
 
 -- the trail is one of those that the walk is for
 pub record IsTrailOf (links : List Edge) (walk : Walk) (trail : List ℕ) : Type 0 where
   pub node : ℕ
   pub down : LeadsDown links walk.last walk.top trail node
   pub size : length trail ≡ walk.length
-  pub passes : Passes walk.through trail
+  pub passes : PassesLink walk.through trail
 
 -- where the two first differ, the trail has the older link
-abbrev pub IsBefore : List ℕ → List ℕ → Type 0
-IsBefore [] other = ⊥
-IsBefore (link ∷ trail) [] = ⊥
-IsBefore (link ∷ trail) (other ∷ others) = (link < other) ⊎ ((link ≡ other) × IsBefore trail others)
+abbrev pub IsTrailBefore : List ℕ → List ℕ → Type 0
+IsTrailBefore [] other = ⊥
+IsTrailBefore (link ∷ trail) [] = ⊥
+IsTrailBefore (link ∷ trail) (other ∷ others) = (link < other) ⊎ ((link ≡ other) × IsTrailBefore trail others)
 
 -- a walk, and the trail that it stands at once it has begun
 pub record Standing : Type 0 where
@@ -34,24 +34,24 @@ pub record Standing : Type 0 where
   pub trail : List ℕ
 
 -- what the walk stands at leads down from its top
-pub record IsPart (links : List Edge) (walk : Walk) (trail : List ℕ) : Type 0 where
+pub record IsPartOfTrail (links : List Edge) (walk : Walk) (trail : List ℕ) : Type 0 where
   pub node : ℕ
   pub down : LeadsDown links walk.last walk.top trail node
   pub few : length trail ≤ walk.length
 
 -- the walk stands at links of these, if it has begun
 abbrev pub IsOn : List Edge → Standing → Type 0
-IsOn links at = IsTrue at.is_begun → IsPart links at.walk at.trail
+IsOn links at = IsTrue at.is_begun → IsPartOfTrail links at.walk at.trail
 
 -- the walk has not come to the trail yet
 abbrev pub IsToCome : Standing → List ℕ → Type 0
-IsToCome at trail = IsTrue at.is_begun → IsBefore at.trail trail
+IsToCome at trail = IsTrue at.is_begun → IsTrailBefore at.trail trail
 
 -- the first of the trails that the walk has not come to
 pub record IsNextTrail (links : List Edge) (at : Standing) (trail : List ℕ) : Type 0 where
   pub is : IsTrailOf links at.walk trail
   pub to_come : IsToCome at trail
-  pub first : (other : List ℕ) → IsTrailOf links at.walk other → IsToCome at other → (other ≡ trail) ⊎ IsBefore trail other
+  pub first : (other : List ℕ) → IsTrailOf links at.walk other → IsToCome at other → (other ≡ trail) ⊎ IsTrailBefore trail other
 
 -- the walk has come to all trails
 abbrev pub IsAtEnd : List Edge → Standing → Type 0

@@ -3,8 +3,8 @@
 ghost use Rattle.std.specs.Prelude.{◌≡◌, ◌<◌, ◌≤◌, ◌↔◌, ℕ, false, [], IfSome, IfNone, IfOk, OnOk, IsTrue};
 ghost use Rattle.gss.specs.Numbers.{IsLeast};
 ghost use Rattle.gss.specs.PlaceGraphs.{LeadsDownFrom, LeadsFromSame};
-ghost use Rattle.gss.specs.Trails.{LeadsDown, Passes, IsPart, IsOn, IsNextTrail, IsAtEnd};
-ghost use Rattle.gss.specs.Descents.{GoesTo, Turns, Finds};
+ghost use Rattle.gss.specs.Trails.{LeadsDown, PassesLink, IsPartOfTrail, IsOn, IsNextTrail, IsAtEnd};
+ghost use Rattle.gss.specs.Descents.{GoesTo, TurnsTo, FindsTrail};
 
 use crate::NoMemory;
 use crate::stack_graph::StackGraph;
@@ -77,7 +77,7 @@ fn first_until(graph: &StackGraph, node: u32, last: u32) -> Option<u32>
 
 /// The node that the links lead down to.
 fn end_of(graph: &StackGraph, walk: Walk, links: &[u32]) -> u32
-    requires { IsPart graph.now.links walk links.now }
+    requires { IsPartOfTrail graph.now.links walk links.now }
     ensures { LeadsDown graph.now.links walk.last walk.top links.now result }
 {
     let count = links.len();
@@ -89,7 +89,7 @@ fn end_of(graph: &StackGraph, walk: Walk, links: &[u32]) -> u32
 
 /// Whether the links go through the one that is named, if one is.
 fn passes(through: Option<u32>, links: &[u32]) -> bool
-    ensures { IsTrue result ↔ Passes through links.now }
+    ensures { IsTrue result ↔ PassesLink through links.now }
 {
     let Some(link) = through else {
         return true;
@@ -99,7 +99,7 @@ fn passes(through: Option<u32>, links: &[u32]) -> bool
 
 /// Goes down by the oldest links. Whether this made a trail of the walk.
 fn go_down(graph: &StackGraph, links: &mut Vec<u32>, walk: Walk) -> Result<bool, NoMemory>
-    requires { IsPart graph.now.links walk links.old.items }
+    requires { IsPartOfTrail graph.now.links walk links.old.items }
     ensures { IfOk result (GoesTo graph.now.links walk links.old.items links.new.items) }
 {
     'down: while links.len() < walk.length as usize {
@@ -114,9 +114,9 @@ fn go_down(graph: &StackGraph, links: &mut Vec<u32>, walk: Walk) -> Result<bool,
 
 /// Goes up to the lowest link that has a newer one beside it, and takes that one in its place. Whether there is one.
 fn turn(graph: &StackGraph, links: &mut Vec<u32>, walk: Walk) -> Result<bool, NoMemory>
-    requires { IsPart graph.now.links walk links.old.items }
-    ensures part { OnOk result (IsPart graph.now.links walk links.new.items) }
-    ensures turns { IfOk result (Turns graph.now.links walk links.old.items links.new.items) }
+    requires { IsPartOfTrail graph.now.links walk links.old.items }
+    ensures part { OnOk result (IsPartOfTrail graph.now.links walk links.new.items) }
+    ensures turns { IfOk result (TurnsTo graph.now.links walk links.old.items links.new.items) }
 {
     'up: while let Some(link) = links.pop() {
         if let Some(next) = next_until(graph, link, walk.last) {
@@ -127,11 +127,11 @@ fn turn(graph: &StackGraph, links: &mut Vec<u32>, walk: Walk) -> Result<bool, No
     Ok(false)
 }
 
-/// Finds the first trail from this part on. Whether there is one.
+/// FindsTrail the first trail from this part on. Whether there is one.
 fn find(graph: &StackGraph, links: &mut Vec<u32>, walk: Walk) -> Result<bool, NoMemory>
-    requires { IsPart graph.now.links walk links.old.items }
-    ensures part { OnOk result (IsPart graph.now.links walk links.new.items) }
-    ensures finds { IfOk result (Finds graph.now.links walk links.old.items links.new.items) }
+    requires { IsPartOfTrail graph.now.links walk links.old.items }
+    ensures part { OnOk result (IsPartOfTrail graph.now.links walk links.new.items) }
+    ensures finds { IfOk result (FindsTrail graph.now.links walk links.old.items links.new.items) }
 {
     let mut is_whole = go_down(graph, links, walk)?;
     'turns: while !is_whole {

@@ -4,8 +4,8 @@ use Rattle.lend.specs.declared.loan.Loan.{Loan}
 use Rattle.lend.specs.declared.limits.TheConstants.{WHOLE}
 
 -- all parts of the right to one value
-abbrev pub whole : ℕ
-whole = WHOLE
+abbrev pub whole_right : ℕ
+whole_right = WHOLE
 
 module _ {T : Type 0} where
   abbrev pub value_of : Loan T → T

@@ -2,7 +2,7 @@
 //! means and the type's own file cannot.
 
 ghost use Rattle.std.specs.Prelude.{◌≡◌, ◌+◌, ◌-◌, ◌/◌, ◌<◌, IfOk};
-ghost use Rattle.lend.specs.Loans.{value_of, age_of, parts_of, whole, HasLender};
+ghost use Rattle.lend.specs.Loans.{value_of, age_of, parts_of, whole_right, HasLender};
 
 use crate::NoMemory;
 use crate::lent::Lent;
@@ -14,7 +14,7 @@ impl<T: Drop> Loan<T> {
     /// Puts the value on the heap. The loan has all parts of its right, and is the
     /// lender.
     pub fn new(alloc: Global, value: T) -> Result<Loan<T>, NoMemory>
-        ensures { IfOk result (λ l. (value_of l ≡ value) × (parts_of l ≡ whole) × HasLender l) }
+        ensures { IfOk result (λ l. (value_of l ≡ value) × (parts_of l ≡ whole_right) × HasLender l) }
     {
         match Box::new(alloc, value) {
             Ok(boxed) => {
@@ -31,7 +31,7 @@ impl<T: Drop> Loan<T> {
 
     /// Drops the value and gives its memory back.
     pub fn close(self)
-        requires whole { parts_of self ≡ whole }
+        requires whole_right { parts_of self ≡ whole_right }
         requires lender { HasLender self }
     {
         let (hold, lent) = self.into_parts();

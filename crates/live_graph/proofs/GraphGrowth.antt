@@ -15,7 +15,7 @@ use Rattle.live_graph.specs.declared.origin.Origin.{Origin}
 use Rattle.live_graph.specs.declared.origin.Origin.TheVariants.{Found, Made, Raced, Alone}
 use Rattle.live_graph.specs.Sharing.{Shared}
 use Rattle.live_graph.specs.Showing.{IsNarrow, IsWide}
-use Rattle.live_graph.specs.Growing.{IsAsked, made_in, HasRowOf, IsFull, Accords, IsAskedRow, Grows}
+use Rattle.live_graph.specs.Growing.{IsAsked, made_in, HasRowOf, IsFull, Accords, IsAskedRow, GrowsByAsked}
 use Rattle.live_graph.specs.Answers.{GoesOnBy}
 use Rattle.live_graph.proofs.ToldGraphs.{as_many, still_as_many, one_more}
 
@@ -65,7 +65,7 @@ record GrowsBy (graph : Shared) (first last : Graph) : Type 0 where
   pub found : (key : Key) (origin : Origin) → IsAsked graph key origin → (origin ≡ Found) ↔ HasRowWith first (key_words key)
   pub accords : (key : Key) (origin : Origin) → IsAsked graph key origin → Accords graph.basis.sizes graph.grammar key origin first last
 
-grows_by : (graph : Shared) (first last : Graph) → GrowsBy graph first last → Grows graph first last
+grows_by : (graph : Shared) (first last : Graph) → GrowsBy graph first last → GrowsByAsked graph first last
 grows_by graph first last by = record {
   kept = by.kept;
   only = by.only;
@@ -78,7 +78,7 @@ grows_by graph first last by = record {
 
 -- before anything was asked for
 pub grows_at_first : (graph : Shared) (first : Graph) → made_in graph ≡ 0 → ((key : Key) (origin : Origin) → IsAsked graph key origin → ⊥)
-    → Grows graph first first
+    → GrowsByAsked graph first first
 grows_at_first graph first none nothing = grows_by graph first first (record {
   kept = λ row there. there;
   only = λ row there. inl there;
@@ -108,7 +108,7 @@ module _ (before : Shared) (page : PageMeaning) (scans : List (ScanKey × Origin
     pub only : (other : Key) (its : Origin) → IsAsked after other its → IsAsked before other its ⊎ ◌≡◌ {A = Key × Origin} (key, origin) (other, its)
     pub made : made_in after ≡ made_on origin (made_in before)
 
-  module _ (fits : (key : Key) → IsKey before.grammar key → FitsKey key) (key : Key) (first old : Graph) (grown : Grows before first old) where
+  module _ (fits : (key : Key) → IsKey before.grammar key → FitsKey key) (key : Key) (first old : Graph) (grown : GrowsByAsked before first old) where
     -- a row that was asked for before is asked for still
     asked_row : (origin : Origin) → AsksNext key origin → (row : List ℕ) → In row old → IsAskedRow after first row
     asked_row origin next row there = elim (grown.only row there) [
@@ -146,7 +146,7 @@ module _ (before : Shared) (page : PageMeaning) (scans : List (ScanKey × Origin
 
     -- no row came
     goes_on_same : (origin : Origin) → AsksNext key origin → made_in after ≡ made_in before → (origin ≡ Found) ↔ HasRowWith first (key_words key)
-        → Accords before.basis.sizes before.grammar key origin first old → Grows after first old
+        → Accords before.basis.sizes before.grammar key origin first old → GrowsByAsked after first old
     goes_on_same origin next none found last = grows_by after first old (record {
       kept = grown.kept;
       only = asked_row origin next;
@@ -157,7 +157,7 @@ module _ (before : Shared) (page : PageMeaning) (scans : List (ScanKey × Origin
 
     -- its row came
     goes_on_made : (new : Graph) → AsksNext key Made → (HasRowWith old (key_words key) → ⊥) → (row : List ℕ) → IsRowOf before.grammar key row
-        → AddsRow old new row → Grows after first new
+        → AddsRow old new row → GrowsByAsked after first new
     goes_on_made new next lacks row is adds = grows_by after first new (record {
       kept = λ other there. adds.kept other (grown.kept other there);
       only = λ other there. elim (adds.only other there) [
@@ -173,14 +173,14 @@ module _ (before : Shared) (page : PageMeaning) (scans : List (ScanKey × Origin
     })
 
     pub goes_on : (origin : Origin) (new : Graph) → AsksNext key origin → GoesOnBy before.basis.sizes before.grammar key origin old new
-        → Grows after first new
+        → GrowsByAsked after first new
     goes_on Found new next (same, (row, there, is)) =
         let has : HasRowOf before.grammar key first = (row, in_first Found next row there is, is) in
-        subst (Grows after first) (sym same) (goes_on_same Found next next.made (found_here before.grammar key first has) has)
+        subst (GrowsByAsked after first) (sym same) (goes_on_same Found next next.made (found_here before.grammar key first has) has)
     goes_on Made new next (lacks, (row, is, adds)) = goes_on_made new next lacks row is adds
     goes_on Raced new next none = absurd none
     goes_on Alone new next (same, lacks, why) =
-        subst (Grows after first) (sym same)
+        subst (GrowsByAsked after first) (sym same)
         (goes_on_same Alone next next.made (missed first (key_words key) Alone (λ same. absurd cc) (lacked lacks)) (kept_alone why))
       where
         kept_alone : IsWide before.basis.sizes before.grammar key ⊎ (HasRows old before.basis.sizes.rows ⊎ HasRows old before.basis.sizes.places)

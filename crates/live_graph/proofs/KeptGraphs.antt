@@ -15,7 +15,7 @@ use Rattle.live_graph.specs.declared.tally.Tally.{Tally}
 use Rattle.live_graph.specs.declared.answer.Answer.{Answer}
 use Rattle.live_graph.specs.Sharing.{Shared, keys_in}
 use Rattle.live_graph.specs.Tallying.{counted, tally_of}
-use Rattle.live_graph.specs.Growing.{WhereBothTold, IsAsked, Grows, TellsGraph}
+use Rattle.live_graph.specs.Growing.{WhereBothTold, IsAsked, GrowsByAsked, TellsGraph}
 use Rattle.live_graph.specs.Answers.{GoesOnBy, origins, kernel_key, scan_key, IsKept}
 use Rattle.live_graph.proofs.RowsOfKeys.{key_fits}
 use Rattle.live_graph.proofs.TallyCounts.{tally_push}
@@ -110,11 +110,12 @@ nothing_asked grammar page (scan key) origin there = omega (arith, there.1)
 
 pub told_at_first : (grammar : Grammar) (page : PageMeaning) → TellsGraph (shared grammar page page [] [])
 told_at_first grammar page =
-    told_same (Grows (shared grammar page page [] [])) page.graph
+    told_same (GrowsByAsked (shared grammar page page [] [])) page.graph
     (λ graph. grows_at_first (shared grammar page page [] []) graph refl (nothing_asked grammar page))
 
 -- with the page as it is now
-grows_with : (before : Shared) (page : PageMeaning) (first last : Graph) → Grows before first last → Grows (record before { page = page }) first last
+grows_with : (before : Shared) (page : PageMeaning) (first last : Graph) → GrowsByAsked before first last
+    → GrowsByAsked (record before { page = page }) first last
 grows_with before page first last grown = record {
   kept = grown.kept;
   only = grown.only;
@@ -134,8 +135,8 @@ module _ (grammar : Grammar) (basis page next : PageMeaning) (scans : List (Scan
 
   still_told : next.graph ≡ page.graph → TellsGraph (shared grammar basis next scans kernels)
   still_told same =
-      subst (λ told. WhereBothTold basis.graph told (Grows (shared grammar basis next scans kernels))) (sym same)
-      (told_map (Grows before) (Grows (shared grammar basis next scans kernels)) basis.graph page.graph (grows_with before next) kept.graph)
+      subst (λ told. WhereBothTold basis.graph told (GrowsByAsked (shared grammar basis next scans kernels))) (sym same)
+      (told_map (GrowsByAsked before) (GrowsByAsked (shared grammar basis next scans kernels)) basis.graph page.graph (grows_with before next) kept.graph)
 
   kernel_gained : (new : List (List Item × Answer Expansion)) (more : _) → HasGained grammar kernel_key page next more kernels new
       → TellsGraph (shared grammar basis next scans new)
@@ -144,7 +145,8 @@ module _ (grammar : Grammar) (basis page next : PageMeaning) (scans : List (Scan
       let is = ap origins gained.longer ∙ origins_push kernels gained.key gained.answer in
       let asks = subst (λ list. AsksNext before next (origins scans) list (kernel gained.key) gained.answer.origin) (sym is)
       (kernel_next before next gained.answer.origin gained.key gained.new_key) in
-      told_join (Grows before) (GoesOnBy basis.sizes grammar (kernel gained.key) gained.answer.origin) (Grows (shared grammar basis next scans new)) basis.graph
+      told_join (GrowsByAsked before) (GoesOnBy basis.sizes grammar (kernel gained.key) gained.answer.origin) (GrowsByAsked
+      (shared grammar basis next scans new)) basis.graph
       page.graph next.graph
       (λ first old last grown on.
       goes_on before next (origins scans) (origins new) (key_fits basis.log grammar kept.log) (kernel gained.key) first old grown gained.answer.origin last
@@ -165,7 +167,8 @@ module _ (grammar : Grammar) (basis page next : PageMeaning) (scans : List (Scan
       let is = ap origins gained.longer ∙ origins_push scans gained.key gained.answer in
       let asks = subst (λ list. AsksNext before next list (origins kernels) (scan gained.key) gained.answer.origin) (sym is)
       (scan_next before next gained.answer.origin gained.key gained.new_key) in
-      told_join (Grows before) (GoesOnBy basis.sizes grammar (scan gained.key) gained.answer.origin) (Grows (shared grammar basis next new kernels)) basis.graph
+      told_join (GrowsByAsked before) (GoesOnBy basis.sizes grammar (scan gained.key) gained.answer.origin) (GrowsByAsked
+      (shared grammar basis next new kernels)) basis.graph
       page.graph next.graph
       (λ first old last grown on.
       goes_on before next (origins new) (origins kernels) (key_fits basis.log grammar kept.log) (scan gained.key) first old grown gained.answer.origin last

@@ -11,7 +11,7 @@ use Rattle.pin_rule.specs.declared.view.Live.{Live}
 use Rattle.pin_rule.specs.declared.view.Role.{Role}
 use Rattle.pin_rule.specs.Layout.{word_count, release, claim, entry, release_word, claim_word, place_word}
 use Rattle.pin_rule.specs.Lists.{Each, In, sum_to}
-use Rattle.pin_rule.specs.Views.{whole, lives, OwnsAt, EachView, IsLive}
+use Rattle.pin_rule.specs.Views.{whole, lives, OwnsAt, EachView, IsLiveVersion}
 use Rattle.pin_rule.specs.PartCurrent.{KnowsLog}
 use Rattle.pin_rule.specs.PartLive.{PinsLive}
 use Rattle.pin_rule.specs.PartFacts.{Knows, IsKnown, KnowsWhole}
@@ -60,7 +60,7 @@ begins L F z first = let ws = replicate (word_count z) (let o : ℕ = 0 in o) in
     let empty : (page p : ℕ) → entry z ws page p ≡ 0 = λ page p. zero_at (word_count z) (place_word z page p) in
     let free : (r : ℕ) → claim z ws r ≡ 0 = λ r. zero_at (word_count z) (claim_word z r) in
     let none_dropped : (page : ℕ) → release z ws page ≡ 0 = λ page. zero_at (word_count z) (release_word z page) in
-    let only : (l : Live) → IsLive first_role l → l ≡ first_role.newest = λ l i. elim i [ inl e ↦ e | inr t ↦ absurd t ] in
+    let only : (l : Live) → IsLiveVersion first_role l → l ≡ first_role.newest = λ l i. elim i [ inl e ↦ e | inr t ↦ absurd t ] in
     let bounds = z.versions_in in
     record {
       long = length_zeros (word_count z);

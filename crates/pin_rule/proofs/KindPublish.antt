@@ -22,7 +22,7 @@ use Rattle.pin_rule.specs.declared.ops.Op.TheVariants as op
 use Rattle.pin_rule.specs.Layout.{place_word, claim, entry, row_at}
 use Rattle.pin_rule.specs.Lists.{Each}
 use Rattle.pin_rule.specs.Rows.{key_of, content_of, on_path}
-use Rattle.pin_rule.specs.Views.{whole, now, OwnsAt, IsLive, version_at}
+use Rattle.pin_rule.specs.Views.{whole, now, OwnsAt, IsLiveVersion, version_at}
 use Rattle.pin_rule.specs.Pages.{StandsOnPath, IsEntry, IsPage, IsHeld, IsLeft, IsToFree}
 use Rattle.pin_rule.specs.PartClaims.{StandsIn, IsOwned, Claims}
 use Rattle.pin_rule.specs.PartCarried.{Carried}
@@ -55,7 +55,7 @@ each_without P Q place f (k ∷ ks) h = dite (ℕ_discrete k.place place)
 module _ (L : List Entry → Type 0) (F : List Entry → List ℕ → Type 0) (v : View) (o : OwnRow) (g : ℕ → ℕ) (place : ℕ)
     (ready : IsReady (F v.log) v.sizes v (now v) o g place)
     (words : List ℕ) (views : List View) (id : ℕ) (h : Lawful L F v.sizes words views) (at : get_elem? views id ≡ maybe.some v) (l : Live)
-    (live : IsLive h.role l) (version_is : l.version ≡ now v) where
+    (live : IsLiveVersion h.role l) (version_is : l.version ≡ now v) where
   abbrev z : Sizes
   z = v.sizes
 
@@ -211,7 +211,7 @@ module _ (L : List Entry → Type 0) (F : List Entry → List ℕ → Type 0) (v
 
     -- The live pages: only this place of this page is another
 
-    only : (m : Live) → IsLive role m → m.page ≡ page → l ≡ m
+    only : (m : Live) → IsLiveVersion role m → m.page ≡ page → l ≡ m
     only m i e = sym (same_live z role h.live m l i live (h.live.pages_differ m l i live e))
 
     other_place : (m : Live) (p : ℕ) → p < z.places → p ≢ place → entry z words' m.page p ≡ entry z words m.page p
@@ -261,7 +261,7 @@ module _ (L : List Entry → Type 0) (F : List Entry → List ℕ → Type 0) (v
         (λ n. inl (x.0, x.1, sym (other_place m x.0 x.1 n) ∙ x.2)))
         (λ n. inl (x.0, x.1, sym (place-page z words (suc row) page place m.page x.0 inside x.1 n) ∙ x.2))
 
-    nowhere : (m : Live) (r : ℕ) → IsLive role m → r ≡ row → IsHeld z words m.page r → ⊥
+    nowhere : (m : Live) (r : ℕ) → IsLiveVersion role m → r ≡ row → IsHeld z words m.page r → ⊥
     nowhere m r i e x = mine.in_no_page (m, i, subst (IsHeld z words m.page) e x)
 
     carried' : Carried F z words' h.log role

@@ -21,7 +21,7 @@ use Rattle.pin_rule.specs.declared.view.WordFact.{WordFact}
 use Rattle.pin_rule.specs.declared.ops.Op.TheVariants as op
 use Rattle.pin_rule.specs.Layout.{word_count, naming, taken_named, release, entry, logged, row_at}
 use Rattle.pin_rule.specs.Lists.{Each, In}
-use Rattle.pin_rule.specs.Views.{whole, now, EachView, lives, IsLive, given_page, Names, IsPrefix}
+use Rattle.pin_rule.specs.Views.{whole, now, EachView, lives, IsLiveVersion, given_page, Names, IsPrefix}
 use Rattle.pin_rule.specs.Pages.{IsPage, IsHeld, IsHeldLive}
 use Rattle.pin_rule.specs.PartCurrent.{IsCurrent, KnowsLog}
 use Rattle.pin_rule.specs.PartLive.{IsEditor, IsVersions, PinsLive, Pins, pins_on, pinning}
@@ -170,7 +170,7 @@ module _ (L : List Entry → Type 0) (F : List Entry → List ℕ → Type 0) (v
   live_still : (row : ℕ) → IsHeldLive z words' role row → IsHeldLive z words' role' row
   live_still row x = (x.0, inr x.1, x.2)
 
-  below : (l : Live) → IsLive role l → l.version < version
+  below : (l : Live) → IsLiveVersion role l → l.version < version
   below l i = let top = live_version z role h.live l i in let same = version_is in omega arith
 
   -- The parts
@@ -343,7 +343,7 @@ module _ (L : List Entry → Type 0) (F : List Entry → List ℕ → Type 0) (v
       subst (λ (l : Live). In row l.carried) (sym eb) (held_row row (subst (λ (l : Live). IsHeld z words' l.page row) ed y)) in
       let before : (d : Live) (row : ℕ) → d ≡ newest' → IsHeld z words' d.page row → IsHeld z words' role.newest.page row = λ d row ed y.
       held_newest row (subst (λ (l : Live). IsHeld z words' l.page row) ed y) in
-      let late : (b d : Live) → b ≡ newest' → IsLive role d → b.version ≤ d.version → ⊥ = λ b d eb id le. let lt = below d id in
+      let late : (b d : Live) → b ≡ newest' → IsLiveVersion role d → b.version ≤ d.version → ⊥ = λ b d eb id le. let lt = below d id in
       let is = ap (λ (l : Live). l.version) eb in omega arith in
       record {
         between = λ a b d row ia ib id lt le x y. elim id [

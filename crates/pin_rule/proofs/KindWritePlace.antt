@@ -37,7 +37,7 @@ use Rattle.pin_rule.specs.declared.view.Role.{Role}
 use Rattle.pin_rule.specs.declared.ops.Op.TheVariants as op
 use Rattle.pin_rule.specs.Layout.{place_word, entry, row_at}
 use Rattle.pin_rule.specs.Rows.{content_of}
-use Rattle.pin_rule.specs.Views.{now, IsLive}
+use Rattle.pin_rule.specs.Views.{now, IsLiveVersion}
 use Rattle.pin_rule.specs.Pages.{IsHeld}
 use Rattle.pin_rule.specs.PartCurrent.{IsMaking, IsCurrent, IsNextLog}
 use Rattle.pin_rule.specs.PartFacts.{WordStands}
@@ -76,7 +76,7 @@ module _ (L : List Entry → Type 0) (F : List Entry → List ℕ → Type 0) (v
   page_in = let b = before.page_in in let same = new.page_is in omega arith
 
   -- no live version has the page
-  apart : (l : Live) → IsLive h.role l → l.page ≢ page
+  apart : (l : Live) → IsLiveVersion h.role l → l.page ≢ page
   apart l i e = making_apart v.sizes h.role h.live m l new.making i (e ∙ new.page_is)
 
   same : (r : ℕ) → Same v.sizes.width (row_at v.sizes words r) (row_at v.sizes words' r)

@@ -20,7 +20,7 @@ use Rattle.pin_rule.specs.declared.view.GivingUp.{GivingUp}
 use Rattle.pin_rule.specs.declared.view.Making.{Making}
 use Rattle.pin_rule.specs.Layout.{release, entry}
 use Rattle.pin_rule.specs.Lists.{In}
-use Rattle.pin_rule.specs.Views.{lives, IsLive, given_page, pages_taken}
+use Rattle.pin_rule.specs.Views.{lives, IsLiveVersion, given_page, pages_taken}
 use Rattle.pin_rule.specs.GivingUp.{last_of, before_last, without_oldest, oldest}
 use Rattle.pin_rule.specs.Pages.{IsHeld, IsHeldLive, IsLeft, IsToFree}
 use Rattle.pin_rule.specs.PartCurrent.{IsCurrent, KnowsLog}
@@ -56,10 +56,10 @@ module _ (L : List Entry → Type 0) (F : List Entry → List ℕ → Type 0) (z
 
   -- The live versions
 
-  live_back : (l : Live) → IsLive role' l → IsLive role l
+  live_back : (l : Live) → IsLiveVersion role' l → IsLiveVersion role l
   live_back l i = elim i [ inl e ↦ inl e | inr t ↦ inr (subst (λ (ls : List Older). In l (lives_of ls)) (sym older) (live_whole a l os t)) ]
 
-  live_cases : (l : Live) → IsLive role l → IsLive role' l ⊎ (l ≡ gone)
+  live_cases : (l : Live) → IsLiveVersion role l → IsLiveVersion role' l ⊎ (l ≡ gone)
   live_cases l i = elim i [
     | inl e ↦ inl (inl e)
     | inr t ↦ elim (live_split a l os (subst (λ (ls : List Older). In l (lives_of ls)) older t)) [ inl u ↦ inl (inr u) | inr e ↦ inr e ]
@@ -73,13 +73,13 @@ module _ (L : List Entry → Type 0) (F : List Entry → List ℕ → Type 0) (z
   gone_at : get_elem? (lives role) (suc (length os)) ≡ maybe.some gone
   gone_at = subst (λ (ls : List Older). get_elem? (lives_of ls) (length os) ≡ maybe.some gone) (sym older) (last_place a os)
 
-  gone_live : IsLive role gone
+  gone_live : IsLiveVersion role gone
   gone_live = at_in gone (lives role) (suc (length os)) gone_at
 
   consecutive' : (i : ℕ) (l : Live) → get_elem? (lives role') i ≡ maybe.some l → l.version + i ≡ role.newest.version
   consecutive' i l e = h.live.consecutive i l (at_back i l e).0
 
-  gone_first : (l : Live) → IsLive role' l → gone.version < l.version
+  gone_first : (l : Live) → IsLiveVersion role' l → gone.version < l.version
   gone_first l i = let r = in_at l (lives role') i in let b = at_back r.0 l r.1 in let x = h.live.consecutive r.0 l b.0 in
       let y = h.live.consecutive (suc (length os)) gone gone_at in let lt = b.1 in omega arith
 

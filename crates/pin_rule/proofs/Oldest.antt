@@ -7,7 +7,7 @@ use Rattle.pin_rule.specs.declared.view.Live.{Live}
 use Rattle.pin_rule.specs.declared.view.Older.{Older}
 use Rattle.pin_rule.specs.declared.view.Role.{Role}
 use Rattle.pin_rule.specs.Lists.{In}
-use Rattle.pin_rule.specs.Views.{lives, IsLive}
+use Rattle.pin_rule.specs.Views.{lives, IsLiveVersion}
 use Rattle.pin_rule.specs.GivingUp.{last_of, before_last, last_live, oldest}
 use Rattle.pin_rule.specs.PartLive.{IsVersions}
 use Rattle.pin_rule.proofs.Lists.{in_at, at_in, at_short}
@@ -24,10 +24,10 @@ count [] = refl
 count (o ∷ os) = ap suc (count os)
 
 module _ (z : Sizes) (role : Role) (h : IsVersions z role) where
-  pub oldest_live : IsLive role (oldest role)
+  pub oldest_live : IsLiveVersion role (oldest role)
   oldest_live = at_in (oldest role) (lives role) (length role.older) (last_at role.newest role.older)
 
-  pub oldest_first : (l : Live) → IsLive role l → (oldest role).version ≤ l.version
+  pub oldest_first : (l : Live) → IsLiveVersion role l → (oldest role).version ≤ l.version
   oldest_first l i = let r = in_at l (lives role) i in let a = h.consecutive r.0 l r.1 in let b = h.consecutive (length role.older) (oldest role)
       (last_at role.newest role.older) in let short = at_short (lives role) r.0 l r.1 in let n = count role.older in omega arith
 

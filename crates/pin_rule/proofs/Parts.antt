@@ -11,7 +11,7 @@ use Rattle.pin_rule.specs.declared.view.GivingUp.{GivingUp}
 use Rattle.pin_rule.specs.declared.view.Role.{Role}
 use Rattle.pin_rule.specs.Layout.{release, claim, entry, row_at, logged}
 use Rattle.pin_rule.specs.Rows.{content_of}
-use Rattle.pin_rule.specs.Views.{IsLive}
+use Rattle.pin_rule.specs.Views.{IsLiveVersion}
 use Rattle.pin_rule.specs.Pages.{IsHeld, IsHeldLive, IsLeft, IsToFree}
 use Rattle.pin_rule.specs.PartCurrent.{IsCurrent, current_of}
 use Rattle.pin_rule.specs.PartLive.{IsVersions}
@@ -59,16 +59,16 @@ module _ (z : Sizes) (words words' : List ℕ) (role : Role) where
 
   -- each live page has the entries that it had, and the rows that it names are in use and as they were
   pub record Kept : Type 0 where
-    pub places : (l : Live) (p : ℕ) → IsLive role l → p < z.places → entry z words' l.page p ≡ entry z words l.page p
+    pub places : (l : Live) (p : ℕ) → IsLiveVersion role l → p < z.places → entry z words' l.page p ≡ entry z words l.page p
     pub in_use : (r : ℕ) → r < z.rows → claim z words r ≡ 1 → IsHeldLive z words role r → claim z words' r ≡ 1
     pub rows : (r : ℕ) → r < z.rows → claim z words r ≡ 1 → IsHeldLive z words role r → Same z.width (row_at z words r) (row_at z words' r)
     -- the page that is being given up has its entries
     pub given : (g : GivingUp) (p : ℕ) → role.giving_up ≡ Some g → p < z.places → entry z words' g.page p ≡ entry z words g.page p
 
-  pub held_on : Kept → (l : Live) (r : ℕ) → IsLive role l → IsHeld z words l.page r → IsHeld z words' l.page r
+  pub held_on : Kept → (l : Live) (r : ℕ) → IsLiveVersion role l → IsHeld z words l.page r → IsHeld z words' l.page r
   held_on kept l r i x = (x.0, x.1, kept.places l x.0 i x.1 ∙ x.2)
 
-  pub held_back : Kept → (l : Live) (r : ℕ) → IsLive role l → IsHeld z words' l.page r → IsHeld z words l.page r
+  pub held_back : Kept → (l : Live) (r : ℕ) → IsLiveVersion role l → IsHeld z words' l.page r → IsHeld z words l.page r
   held_back kept l r i x = (x.0, x.1, sym (kept.places l x.0 i x.1) ∙ x.2)
 
   pub live_on : Kept → (r : ℕ) → IsHeldLive z words role r → IsHeldLive z words' role r
@@ -88,7 +88,7 @@ module _ (z : Sizes) (words words' : List ℕ) (role : Role) where
 
   module _ (F : List Entry → List ℕ → Type 0) (log : List Entry) (live : IsVersions z role) (h : ArePages F z words log role) (kept : Kept) where
     -- the words of a held row stay
-    pub row_stays : (l : Live) (r : ℕ) → IsLive role l → IsHeld z words l.page r → Same z.width (row_at z words r) (row_at z words' r)
+    pub row_stays : (l : Live) (r : ℕ) → IsLiveVersion role l → IsHeld z words l.page r → Same z.width (row_at z words r) (row_at z words' r)
     row_stays l r i x = let e = (h l i).entries x.0 r x.1 x.2 in kept.rows r e.in_range e.in_use (l, i, x)
 
     pub pages_move : ArePages F z words' log role
@@ -98,7 +98,7 @@ module _ (z : Sizes) (words words' : List ℕ) (role : Role) where
       rows = λ r ri c x. kept.rows r ri c (l, i, x);
     })
 
-    pub content_stays : (next : List Entry) (l : Live) (r : ℕ) → IsLive role l → IsHeld z words l.page r → F next (content_of (row_at z words r))
+    pub content_stays : (next : List Entry) (l : Live) (r : ℕ) → IsLiveVersion role l → IsHeld z words l.page r → F next (content_of (row_at z words r))
         → F next (content_of (row_at z words' r))
     content_stays next l r i x = subst (F next) (content_same (row_at z words r) (row_at z words' r) z.width ((h l i).entries x.0 r x.1 x.2).room
         (row_stays l r i x))
@@ -114,7 +114,7 @@ module _ (z : Sizes) (words words' : List ℕ) (role : Role) where
           (held_on kept role.newest row i k.0, content_stays next role.newest row i k.0 k.1);
     }
 
-    stands_on : (l : Live) (r : ℕ) → IsLive role l → IsHeld z words l.page r → (w : ℕ × ℕ) → StandsIn z words r w → StandsIn z words' r w
+    stands_on : (l : Live) (r : ℕ) → IsLiveVersion role l → IsHeld z words l.page r → (w : ℕ × ℕ) → StandsIn z words r w → StandsIn z words' r w
     stands_on l r i x w s = (s.0, sym (row_stays l r i x w.0 s.0) ∙ s.1)
 
     pub knows_on : (v : View) → Knows z words role v → Knows z words' role v

@@ -1,5 +1,6 @@
 -- What the rule says of one view that has a share, and of the word that an operation met.
-use Rattle.std.proofs.Common.{◌≡◌, ◌≢◌, ℕ, suc, ◌+◌, ◌<◌, ◌≤◌, List, [], ◌∷◌, map, length, length-append, inl, inr, take, slice_index, sym, refl, ap, ◌∙◌, subst, arith}
+use Rattle.std.proofs.Common.{◌≡◌, ◌≢◌, ℕ, suc, ◌+◌, ◌<◌, ◌≤◌, List, [], ◌∷◌, map, length, length-append, inl, inr, take, slice_index, sym, refl, ap, ◌∙◌}
+use Rattle.std.proofs.Common.{subst, arith}
 use mathlib.Core.Option as maybe
 use lib.ListN.{get_elem?}
 use Rattle.std.specs.Prelude.{Some, None}
@@ -20,13 +21,14 @@ use Rattle.pin_rule.specs.Layout.{release, entry, claim, row_at, version_named, 
 use Rattle.pin_rule.specs.Ops.{word_of, IsIn}
 use Rattle.pin_rule.specs.Lists.{In}
 use Rattle.pin_rule.specs.Rows.{key_of, content_of}
-use Rattle.pin_rule.specs.Views.{whole, now, OwnsAt, IsLive}
+use Rattle.pin_rule.specs.Views.{whole, now, OwnsAt, IsLiveVersion}
 use Rattle.pin_rule.specs.Pages.{IsEntry, IsHeld, IsHeldLive}
 use Rattle.pin_rule.specs.PartLive.{pins_on}
 use Rattle.pin_rule.specs.PartClaims.{StandsIn}
 use Rattle.pin_rule.specs.PartFacts.{HasEntry, EntryStands, WordStands, IsKnown}
 use Rattle.pin_rule.specs.Lawful.{Lawful}
-use Rattle.pin_rule.specs.Told.{KnowsPlace, KnowsRow, KnowsWord, KnowsKey, HasKeyWords, IsReached, IsAlike, IsOfOnePage, IsTold, Tells, IsCurrentFor, NamesNewest, IsAsKnown, IsReadAsKnown, IsUsedAsKnown, IsOfGivenUp}
+use Rattle.pin_rule.specs.Told.{KnowsPlace, KnowsRow, KnowsWord, KnowsKey, HasKeyWords, IsReached, IsAlike, IsOfOnePage, IsTold, Tells, IsCurrentFor}
+use Rattle.pin_rule.specs.Told.{NamesNewest, IsAsKnown, IsReadAsKnown, IsUsedAsKnown, IsOfGivenUp}
 use Rattle.pin_rule.specs.Told.{IsReleaseOf, Meets}
 use Rattle.pin_rule.proofs.Frames.{Same, key_alike, content_same}
 use Rattle.pin_rule.proofs.Lists.{each_in, total_zero}
@@ -54,7 +56,8 @@ module _ (L : List Entry → Type 0) (F : List Entry → List ℕ → Type 0) (z
     reaches : (k : KnownPlace) (row : ℕ) (g : ℕ → ℕ) → In k v.known → k.met ≡ suc row → HasKeyWords k.words g → IsReached z v.known (key_of g) k.place
     reaches k row g i is key = subst (λ (key : List ℕ). IsReached z v.known key k.place) (known_key k row g i is key) (past k row i is)
 
-    on_page : (k : KnownPlace) (row : ℕ) (i : In k v.known) → k.met ≡ suc row → IsEntry z words (F (take h.role.newest.version h.log)) h.role.newest.page k.place row
+    on_page : (k : KnownPlace) (row : ℕ) (i : In k v.known) → k.met ≡ suc row → IsEntry z words (F
+        (take h.role.newest.version h.log)) h.role.newest.page k.place row
     on_page k row i is = let s = stands k i in (h.pages h.role.newest (newest_live h.role)).entries k.place row s.0 (s.1 ∙ is)
 
     of_one_page : v.sizes ≡ z → IsOfOnePage v.sizes v.known
@@ -90,7 +93,7 @@ module _ (L : List Entry → Type 0) (F : List Entry → List ℕ → Type 0) (z
         once = λ k row index a b i is w x. sym (known_word all k row index a i is w) ∙ known_word all k row index b i is x;
       }
 
-  module _ (l : Live) (live : IsLive h.role l) (version_is : l.version ≡ now v) where
+  module _ (l : Live) (live : IsLiveVersion h.role l) (version_is : l.version ≡ now v) where
     -- a row that the view knows stands in the page
     placed : (place row : ℕ) → KnowsPlace v (now v) place row → HasEntry z words h.role l.page (record { version = now v; place = place; row = row })
     placed place row k = (each_in (EntryStands z words h.role) _ v.entries (h.facts id v at).0 k).live l live version_is

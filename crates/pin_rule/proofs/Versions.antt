@@ -18,7 +18,7 @@ use Rattle.pin_rule.specs.declared.view.Making.{Making}
 use Rattle.pin_rule.specs.Lists.{In}
 use Rattle.pin_rule.specs.Views.{
   lives,
-  IsLive,
+  IsLiveVersion,
   given_page,
   pages_taken,
   Names,
@@ -35,20 +35,20 @@ use Rattle.pin_rule.specs.Lawful.{Lawful}
 use Rattle.pin_rule.proofs.Lists.{in_at, in_mapped, in_right, take_prefix}
 use Rattle.pin_rule.proofs.Seats.{none_some, same_some}
 
-pub newest_live : (role : Role) → IsLive role role.newest
+pub newest_live : (role : Role) → IsLiveVersion role role.newest
 newest_live role = inl refl
 
 module _ (z : Sizes) (role : Role) (h : IsVersions z role) where
-  pub live_version : (l : Live) → IsLive role l → l.version ≤ role.newest.version
+  pub live_version : (l : Live) → IsLiveVersion role l → l.version ≤ role.newest.version
   live_version l i = let r = in_at l (lives role) i in let e = h.consecutive r.0 l r.1 in omega arith
 
   -- a version has one page
-  pub same_live : (a b : Live) → IsLive role a → IsLive role b → a.version ≡ b.version → a ≡ b
+  pub same_live : (a b : Live) → IsLiveVersion role a → IsLiveVersion role b → a.version ≡ b.version → a ≡ b
   same_live a b i j e = let r = in_at a (lives role) i in let s = in_at b (lives role) j in let x = h.consecutive r.0 a r.1 in
       let y = h.consecutive s.0 b s.1 in let same : r.0 ≡ s.0 = omega arith in
       maybe.some-injective a b (sym r.1 ∙ ap (get_elem? (lives role)) same ∙ s.1)
 
-  pub taken_live : (taken : ℕ) (l : Live) (t : ℕ) → HasTaken role taken l t → IsLive role l
+  pub taken_live : (taken : ℕ) (l : Live) (t : ℕ) → HasTaken role taken l t → IsLiveVersion role l
   taken_live taken l t h = elim h [
     | inl x ↦ inl x.0
     | inr x ↦ inr (subst (λ (m : Live). In m (map (λ (o : Older). o.live) role.older)) x.2
@@ -61,7 +61,7 @@ module _ (z : Sizes) (role : Role) (h : IsVersions z role) where
       let e = h.consecutive (suc r.0) o.live r.1 in omega arith
 
   -- the page in the making is that of no live version
-  pub making_apart : (m : Making) (l : Live) → role.making ≡ Some m → IsLive role l → l.page ≢ m.page
+  pub making_apart : (m : Making) (l : Live) → role.making ≡ Some m → IsLiveVersion role l → l.page ≢ m.page
   making_apart m l is i e = h.making m is (subst (λ (page : ℕ). In page (pages_taken role)) e
       (in_right l.page (given_page role.giving_up) (map (λ (x : Live). x.page) (lives role)) (in_mapped (λ (x : Live). x.page) l (lives role) i)))
 
@@ -71,12 +71,12 @@ module _ (z : Sizes) (role : Role) (h : IsVersions z role) where
       (subst (λ (o : Option GivingUp). In g.page (given_page o ++ ls)) (sym up) (inl refl)))
 
   -- the version that is being given up is not live
-  pub given_old : (g : GivingUp) (l : Live) → role.giving_up ≡ Some g → IsLive role l → g.version ≢ l.version
+  pub given_old : (g : GivingUp) (l : Live) → role.giving_up ≡ Some g → IsLiveVersion role l → g.version ≢ l.version
   given_old g l is i e = let b = (h.given_up g is).below l i in omega arith
 
 -- the version is none above the newest, and if it is live or being given up this is its page
 abbrev pub Speaks : Role → ℕ → ℕ → Type 0
-Speaks role page m = (m ≤ role.newest.version) × ((l : Live) → IsLive role l → l.version ≡ m → l.page ≡ page) ×
+Speaks role page m = (m ≤ role.newest.version) × ((l : Live) → IsLiveVersion role l → l.version ≡ m → l.page ≡ page) ×
     ((g : GivingUp) → role.giving_up ≡ Some g → g.version ≡ m → g.page ≡ page)
 
 pub if_at_is : (page at version : ℕ) (else_ : Option ℕ) (m : ℕ) → if_at page at version else_ ≡ Some m → ((at ≡ page) × (version ≡ m)) ⊎ (else_ ≡ Some m)
@@ -150,7 +150,7 @@ module _ (L : List Entry → Type 0) (F : List Entry → List ℕ → Type 0) (z
   my_log = let p = (h.logs id v at).prefix in ap (take (now v)) p.1 ∙ take_prefix v.log p.0
 
   -- a view that has caught up speaks of a live version
-  pub caught_up : IsCaughtUp v → (l : Live) × IsLive h.role l × (l.version ≡ now v)
+  pub caught_up : IsCaughtUp v → (l : Live) × IsLiveVersion h.role l × (l.version ≡ now v)
   caught_up c = elim c [
     | inl t ↦ let k = h.pinned id v at t.0 t.1 in (k.0, k.1, k.2 ∙ t.2)
     | inr t ↦ (h.role.newest, newest_live h.role, sym h.current.version ∙ sym (editor_log t.0 t.1))

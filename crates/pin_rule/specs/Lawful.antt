@@ -6,7 +6,7 @@ use Rattle.pin_rule.specs.declared.view.View.{View}
 use Rattle.pin_rule.specs.declared.view.Live.{Live}
 use Rattle.pin_rule.specs.declared.view.Role.{Role}
 use Rattle.pin_rule.specs.Layout.{word_count}
-use Rattle.pin_rule.specs.Views.{EachView, IsLive}
+use Rattle.pin_rule.specs.Views.{EachView, IsLiveVersion}
 use Rattle.pin_rule.specs.Pages.{IsPage}
 use Rattle.pin_rule.specs.PartCurrent.{IsCurrent, KnowsLog}
 use Rattle.pin_rule.specs.PartLive.{IsEditor, IsVersions, PinsLive, Pins, Budget}
@@ -21,7 +21,7 @@ IsMeasured z v = v.share ≢ 0 → v.sizes ≡ z
 
 -- the page of each live version is a page for the log up to it
 abbrev pub ArePages : (List Entry → List ℕ → Type 0) → Sizes → List ℕ → List Entry → Role → Type 0
-ArePages fits z words log role = (l : Live) → IsLive role l → IsPage z words (fits (take l.version log)) l.page
+ArePages fits z words log role = (l : Live) → IsLiveVersion role l → IsPage z words (fits (take l.version log)) l.page
 
 pub record Lawful (lawful : List Entry → Type 0) (fits : List Entry → List ℕ → Type 0) (z : Sizes) (words : List ℕ) (views : List View) : Type 0 where
   pub long : length words ≡ word_count z

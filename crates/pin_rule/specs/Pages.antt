@@ -6,7 +6,7 @@ use Rattle.pin_rule.specs.declared.view.Role.{Role}
 use Rattle.pin_rule.specs.declared.view.GivingUp.{GivingUp}
 use Rattle.pin_rule.specs.Layout.{claim, entry, row_at}
 use Rattle.pin_rule.specs.Rows.{key_of, content_of, on_path}
-use Rattle.pin_rule.specs.Views.{IsLive}
+use Rattle.pin_rule.specs.Views.{IsLiveVersion}
 
 module _ (z : Sizes) (words : List ℕ) where
   -- a place of the page holds the row
@@ -34,7 +34,7 @@ module _ (z : Sizes) (words : List ℕ) where
 
   -- a live page holds the row
   abbrev pub IsHeldLive : Role → ℕ → Type 0
-  IsHeldLive role row = (l : Live) × IsLive role l × IsHeld l.page row
+  IsHeldLive role row = (l : Live) × IsLiveVersion role l × IsHeld l.page row
 
   -- the row stands at a place of the version that is being given up which was not reached yet
   abbrev pub IsLeft : GivingUp → ℕ → Type 0

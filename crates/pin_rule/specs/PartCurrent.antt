@@ -9,7 +9,7 @@ use Rattle.pin_rule.specs.declared.view.Live.{Live}
 use Rattle.pin_rule.specs.declared.view.Role.{Role}
 use Rattle.pin_rule.specs.declared.view.Making.{Making}
 use Rattle.pin_rule.specs.Layout.{logged, entry, naming}
-use Rattle.pin_rule.specs.Views.{IsLive, IsPrefix}
+use Rattle.pin_rule.specs.Views.{IsLiveVersion, IsPrefix}
 
 -- CUR names the newest version and its page, and counts the pins taken on it
 abbrev pub current_of : Role → ℕ → ℕ
@@ -36,7 +36,7 @@ pub record IsCurrent (lawful : List Entry → Type 0) (z : Sizes) (words : List 
   pub log_in : length log ≤ z.log
   pub log_wide : (i : ℕ) (e : Entry) → get_elem? log i ≡ maybe.some e → length e.words ≡ 32
   pub log_is : (i index : ℕ) (e : Entry) → get_elem? log i ≡ maybe.some e → index < 32 → logged z words i index ≡ slice_index e.words index
-  pub lawful_log : (l : Live) → IsLive role l → lawful (take l.version log)
+  pub lawful_log : (l : Live) → IsLiveVersion role l → lawful (take l.version log)
   pub making : (m : Making) → role.making ≡ Some m → IsMaking z words log m
   pub next_log : (m : Making) (next : List Entry) → role.making ≡ Some m → IsNextLog log m.entry next → lawful next
 

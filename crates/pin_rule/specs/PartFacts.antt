@@ -10,7 +10,7 @@ use Rattle.pin_rule.specs.declared.view.WordFact.{WordFact}
 use Rattle.pin_rule.specs.declared.view.KnownPlace.{KnownPlace}
 use Rattle.pin_rule.specs.Layout.{entry}
 use Rattle.pin_rule.specs.Lists.{Each}
-use Rattle.pin_rule.specs.Views.{IsLive, whole}
+use Rattle.pin_rule.specs.Views.{IsLiveVersion, whole}
 use Rattle.pin_rule.specs.Pages.{IsHeld}
 use Rattle.pin_rule.specs.PartClaims.{StandsIn}
 
@@ -21,12 +21,12 @@ module _ (z : Sizes) (words : List ℕ) (role : Role) where
 
   pub record EntryStands (e : EntryFact) : Type 0 where
     pub known : e.version ≤ role.newest.version
-    pub live : (l : Live) → IsLive role l → l.version ≡ e.version → HasEntry l.page e
+    pub live : (l : Live) → IsLiveVersion role l → l.version ≡ e.version → HasEntry l.page e
     pub given_up : (g : GivingUp) → role.giving_up ≡ Some g → g.version ≡ e.version → HasEntry g.page e
 
   pub record WordStands (w : WordFact) : Type 0 where
     pub known : w.version ≤ role.newest.version
-    pub live : (l : Live) → IsLive role l → l.version ≡ w.version → IsHeld z words l.page w.row × StandsIn z words w.row (w.index, w.word)
+    pub live : (l : Live) → IsLiveVersion role l → l.version ≡ w.version → IsHeld z words l.page w.row × StandsIn z words w.row (w.index, w.word)
 
   abbrev pub Knows : View → Type 0
   Knows v = Each EntryStands v.entries × Each WordStands v.words

@@ -14,7 +14,7 @@ use Rattle.pin_rule.specs.declared.view.GivingUp.{GivingUp}
 use Rattle.pin_rule.specs.declared.view.Role.{Role}
 use Rattle.pin_rule.specs.Layout.{release}
 use Rattle.pin_rule.specs.Lists.{In, total, sum_to}
-use Rattle.pin_rule.specs.Views.{lives, IsLive, pages_taken, Names}
+use Rattle.pin_rule.specs.Views.{lives, IsLiveVersion, pages_taken, Names}
 
 -- one view has the editor's role, and its log is the log
 pub record IsEditor (views : List View) (log : List Entry) (role : Role) : Type 0 where
@@ -27,17 +27,17 @@ pub record IsEditor (views : List View) (log : List Entry) (role : Role) : Type 
 
 -- the version that is being given up is older than each live one, has a page of its own, and a place of it comes next
 pub record IsGivenUp (z : Sizes) (role : Role) (g : GivingUp) : Type 0 where
-  pub below : (l : Live) → IsLive role l → g.version < l.version
+  pub below : (l : Live) → IsLiveVersion role l → g.version < l.version
   pub page_in : g.page < z.versions
-  pub apart : (l : Live) → IsLive role l → l.page ≢ g.page
+  pub apart : (l : Live) → IsLiveVersion role l → l.page ≢ g.page
   pub reached_in : g.reached < z.places
 
 pub record IsVersions (z : Sizes) (role : Role) : Type 0 where
   -- the live versions are consecutive, newest first, and end with the newest
   pub consecutive : (i : ℕ) (l : Live) → get_elem? (lives role) i ≡ maybe.some l → l.version + i ≡ role.newest.version
   pub few : length (lives role) ≤ z.versions
-  pub page_in : (l : Live) → IsLive role l → l.page < z.versions
-  pub pages_differ : (a b : Live) → IsLive role a → IsLive role b → a.page ≡ b.page → a.version ≡ b.version
+  pub page_in : (l : Live) → IsLiveVersion role l → l.page < z.versions
+  pub pages_differ : (a b : Live) → IsLiveVersion role a → IsLiveVersion role b → a.page ≡ b.page → a.version ≡ b.version
   -- while a version is in the making there is room for it, and its page is none of those taken
   pub room : (m : Making) → role.making ≡ Some m → length (pages_taken role) < z.versions
   pub making : (m : Making) → role.making ≡ Some m → ¬ (In m.page (pages_taken role))
@@ -69,8 +69,8 @@ pub record Pins (z : Sizes) (words : List ℕ) (views : List View) (role : Role)
   -- each pin that was taken is held or was dropped
   pub counted : (l : Live) (t : ℕ) → HasTaken role taken l t → release z words l.page + pinning views l.version ≡ l.base + t
   -- release words never fall
-  pub from_base : (l : Live) → IsLive role l → l.base ≤ release z words l.page
-  pub released : (page : ℕ) → page < z.versions → ((l : Live) → IsLive role l → l.page ≢ page) → release z words page ≡ known_release role.released page
+  pub from_base : (l : Live) → IsLiveVersion role l → l.base ≤ release z words l.page
+  pub released : (page : ℕ) → page < z.versions → ((l : Live) → IsLiveVersion role l → l.page ≢ page) → release z words page ≡ known_release role.released page
 
 -- a pin that is held
 abbrev pub one_pin : Option Pin → ℕ

@@ -40,8 +40,8 @@ AreOfTwoSeats views i j v w = (i ≢ j) × (get_elem? views i ≡ maybe.some v) 
 abbrev pub lives : Role → List Live
 lives r = r.newest ∷ map (λ (o : Older). o.live) r.older
 
-abbrev pub IsLive : Role → Live → Type 0
-IsLive r l = In l (lives r)
+abbrev pub IsLiveVersion : Role → Live → Type 0
+IsLiveVersion r l = In l (lives r)
 
 abbrev pub given_page : Option GivingUp → List ℕ
 given_page None = []
@@ -53,7 +53,7 @@ pages_taken r = given_page r.giving_up ++ map (λ (l : Live). l.page) (lives r)
 
 -- a pin names a live version and its page
 abbrev pub Names : Role → Pin → Type 0
-Names r p = (l : Live) × IsLive r l × (l.version ≡ p.version) × (l.page ≡ p.page)
+Names r p = (l : Live) × IsLiveVersion r l × (l.version ≡ p.version) × (l.page ≡ p.page)
 
 -- a log is the beginning of another
 abbrev pub IsPrefix : List Entry → List Entry → Type 0

@@ -24,7 +24,7 @@ use Rattle.slot_store.specs.declared.page.Put.TheVariants as put
 use Rattle.slot_store.specs.Keys.{row_of, head_of, TellsKey}
 use Rattle.slot_store.specs.Quiet.{IsQuiet}
 use Rattle.slot_store.specs.Answers.{IsWordOf, GivesBack, PutIs}
-use Rattle.slot_store.specs.Walks.{IsAtWork, MovesBy, OwnsRow, HasWrittenAll, KnowsAt, ReadsKey, Passed, Claims, IsRowStep, Settles, Places}
+use Rattle.slot_store.specs.Walks.{IsAtWork, MovesBy, OwnsRow, HasWrittenAll, KnowsAt, ReadsKey, Passed, ClaimsRow, IsRowStep, Settles, Places}
 use Rattle.slot_store.proofs.Growing.{Grows, work_on, quietly, moves_on, moves_as, row_moves, met_on, key_on, passed_on}
 use Rattle.slot_store.proofs.Passing.{full}
 use Rattle.slot_store.proofs.Settling.{settles_after}
@@ -43,7 +43,7 @@ owner : (v : View) (words : List ℕ) (row : ℕ) → HasWrittenAll v row words 
     → In (index, slice_index words index) (words_of_own v.own)
 owner v words row wrote index lt = let h = wrote index lt in subst (λ (o : Option OwnRow). In (index, slice_index words index) (words_of_own o)) (sym h.1) h.3
 
-module _ (z : Site) (v w y : View) (row : ℕ) (key payload : List ℕ) (claim : Claims z v w 0 z.sizes.rows (Some row)) where
+module _ (z : Site) (v w y : View) (row : ℕ) (key payload : List ℕ) (claim : ClaimsRow z v w 0 z.sizes.rows (Some row)) where
   abbrev P : Step → Type 0
   P = IsRowStep z.sizes row (row_of key payload)
 

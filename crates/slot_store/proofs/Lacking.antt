@@ -15,7 +15,7 @@ use Rattle.pin_rule.specs.Ready.{KnowsOther}
 use Rattle.pin_rule.proofs.Paths.{on_page, path_reaches}
 use Rattle.slot_store.specs.declared.site.Site.{Site}
 use Rattle.slot_store.specs.Keys.{row_of, head_of}
-use Rattle.slot_store.specs.Known.{KnowsPlaces, IsSoleAt, HasKnownKey, LacksKey, IsFilled, HoldsWords}
+use Rattle.slot_store.specs.Known.{KnowsPlaces, IsSoleAt, HasKnownKey, LacksKey, AreTaken, HoldsWords}
 use Rattle.slot_store.specs.Walks.{IsAtWork, MovesBy, KnowsAt, Passed, IsEmptyIn}
 use Rattle.slot_store.proofs.ByWord.{head_key_is, head_in_row}
 use Rattle.slot_store.proofs.LaterPlaces.{places_on}
@@ -98,5 +98,5 @@ module _ (F : List ℕ → Type 0) (z : Site) (w : View) (work : IsAtWork z w) (
       pub all_lack : LacksKey w.known key
       all_lack k i h = other_there k.place (other_at k i) k i refl h
 
-      pub all_filled : IsFilled w.known
+      pub all_filled : AreTaken w.known
       all_filled k i e = let o = other_at k i in let s : 0 ≡ suc o.0 = sym e ∙ alike.places k k.place o.0 i refl o.3 in omega arith

@@ -10,7 +10,7 @@ use Rattle.pin_rule.specs.declared.view.KnownPlace.{KnownPlace}
 use Rattle.pin_rule.specs.Lists.{In}
 use Rattle.pin_rule.specs.Views.{whole}
 use Rattle.pin_rule.specs.Steps.{keeps_page, learned_place, learned_word, after_load_place, after_load_row}
-use Rattle.slot_store.specs.Known.{IsLater, AreLater, KnowsPlaces, LearnsWords, LacksKey, IsFilled}
+use Rattle.slot_store.specs.Known.{IsLater, AreLater, KnowsPlaces, LearnsWords, LacksKey, AreTaken}
 
 pub later_self : (ks : List KnownPlace) → AreLater ks ks
 later_self [] = tt
@@ -46,7 +46,7 @@ pub lacks_back : (ks ls : List KnownPlace) (key : List ℕ) → AreLater ks ls �
 lacks_back ks ls key a lacks k i h = let l = later_in ks ls a k i in
     lacks l.0 l.1 ((λ e. h.0 (sym l.2.1 ∙ e)), λ index of. l.2.2 _ (h.1 index of))
 
-pub filled_back : (ks ls : List KnownPlace) → AreLater ks ls → IsFilled ls → IsFilled ks
+pub filled_back : (ks ls : List KnownPlace) → AreLater ks ls → AreTaken ls → AreTaken ks
 filled_back ks ls a filled k i e = let l = later_in ks ls a k i in filled l.0 l.1 (l.2.1 ∙ e)
 
 -- What steps learn

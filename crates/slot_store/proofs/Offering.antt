@@ -163,7 +163,8 @@ pub offered : (F G H : List ℕ → Type 0) (z : Site) (v u : View) (row n : ℕ
     → (x : View) (w : WritesRow z u x row (row_of key payload)) (y : View) (m : ℕ) → y ≡ after_publish x z.page place row m → IsAsKnown x z.page place m
     → IsTold H y z.version
     → Offers z v y place row key (row_of key payload) m
-offered F G H z v u row n key payload step place work p is told as_known e x w y m to known_there told_after = let lt = inside G z v row key payload step place p in
+offered F G H z v u row n key payload step place work p is told as_known e x w y m to known_there told_after = let lt = inside G z v row key payload step
+    place p in
     let words = row_of key payload in record {
       added = (loaded_place z.sizes z.page place n ∷ w.added) ++ published z.sizes z.page place row m ∷ [];
       won = λ z0. (

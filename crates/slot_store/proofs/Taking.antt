@@ -16,7 +16,7 @@ use Rattle.slot_store.proofs.Lacking.{sole_on}
 use Rattle.pin_rule.specs.Lists.{In}
 use Rattle.pin_rule.specs.Steps.{claimed, after_claim}
 use Rattle.pin_rule.proofs.Lists.{in_left, in_right}
-use Rattle.slot_store.specs.Walks.{IsAtWork, Moves, Claims}
+use Rattle.slot_store.specs.Walks.{IsAtWork, Moves, ClaimsRow}
 use Rattle.slot_store.proofs.Growing.{stays, moves_on}
 use Rattle.slot_store.proofs.Single.{claim_apart}
 
@@ -65,7 +65,7 @@ module _ (z : Site) (v w u : View) (work : IsAtWork z v) (from at n : ℕ) (is :
   last m e = subst (λ (k : ℕ). In (claimed z.sizes at k) (t.added ++ claimed z.sizes at n ∷ [])) e
       (in_right (claimed z.sizes at n) t.added (claimed z.sizes at n ∷ []) (inl refl))
 
-  pub won : n ≡ 0 → at < z.sizes.rows → (to : ℕ) → Claims z v u from to (Some at)
+  pub won : n ≡ 0 → at < z.sizes.rows → (to : ℕ) → ClaimsRow z v u from to (Some at)
   won e inside to = record {
     added = t.added ++ claimed z.sizes at n ∷ [];
     moves = moves;
@@ -91,7 +91,7 @@ module _ (z : Site) (v w u : View) (work : IsAtWork z v) (from at n : ℕ) (is :
         (λ other. t.stand sole row ge (omega arith));
   }
 
-pub ends : (z : Site) (v w : View) (from at to : ℕ) → to ≤ at → Taking z v w from at → Claims z v w from to None
+pub ends : (z : Site) (v w : View) (from at to : ℕ) → to ≤ at → Taking z v w from at → ClaimsRow z v w from to None
 ends z v w from at to all t = record {
   added = t.added;
   moves = t.moves;
@@ -100,7 +100,7 @@ ends z v w from at to all t = record {
 }
 
 -- two ranges that meet are one
-pub both : (z : Site) (u v w : View) (next : ℕ) → Claims z u v next z.sizes.rows None → (r : _) → Claims z v w 0 next r → Claims z u w 0 z.sizes.rows r
+pub both : (z : Site) (u v w : View) (next : ℕ) → ClaimsRow z u v next z.sizes.rows None → (r : _) → ClaimsRow z v w 0 next r → ClaimsRow z u w 0 z.sizes.rows r
 both z u v w next a None b = record {
   added = a.added ++ b.added;
   moves = moves_on u v w a.added b.added a.moves b.moves;

@@ -106,7 +106,8 @@ Finds fits m n key look = (added : List Step) × (n ≡ extended m added) × Eac
 
 -- the same, but for the graph
 abbrev pub Publishes : Meaning → Meaning → List ℕ → List ℕ → Put → Type 0
-Publishes m n key payload put = (added : List Step) × (n ≡ extended (with_graph m n.graph) added) × Each IsQuiet added × PutIs m.sizes m.page added key payload put
+Publishes m n key payload put = (added : List Step) × (n ≡ extended (with_graph m n.graph) added) × Each IsQuiet added ×
+    PutIs m.sizes m.page added key payload put
 
 -- the call added loads of log words alone
 abbrev pub ReadsLog : Meaning → Meaning → Type 0

@@ -55,14 +55,14 @@ PutTells z key put.PoolFull graph = HasRows graph z.rows
 PutTells z key put.TooWide graph = Unit {0}
 
 -- a row that was made was added, and nothing else was
-abbrev pub GoesOn : List ℕ → List ℕ → Put → Option (List (List ℕ)) → Option (List (List ℕ)) → Type 0
-GoesOn key payload put.Made None next = next ≡ None
-GoesOn key payload put.Made (Some graph) next = (g : List (List ℕ)) × (next ≡ Some g) × AddsRow graph g (row_of key payload)
-GoesOn key payload put.Already graph next = next ≡ graph
-GoesOn key payload put.PageFull graph next = next ≡ graph
-GoesOn key payload put.PoolFull graph next = next ≡ graph
-GoesOn key payload put.TooWide graph next = next ≡ graph
+abbrev pub GraphGoesOn : List ℕ → List ℕ → Put → Option (List (List ℕ)) → Option (List (List ℕ)) → Type 0
+GraphGoesOn key payload put.Made None next = next ≡ None
+GraphGoesOn key payload put.Made (Some graph) next = (g : List (List ℕ)) × (next ≡ Some g) × AddsRow graph g (row_of key payload)
+GraphGoesOn key payload put.Already graph next = next ≡ graph
+GraphGoesOn key payload put.PageFull graph next = next ≡ graph
+GraphGoesOn key payload put.PoolFull graph next = next ≡ graph
+GraphGoesOn key payload put.TooWide graph next = next ≡ graph
 
 -- what a publication tells of the graph, and how the graph goes on
 abbrev pub TellsPut : Meaning → Meaning → List ℕ → List ℕ → Put → Type 0
-TellsPut m n key payload put = WhereTold m.graph (PutTells m.sizes key put) × GoesOn key payload put m.graph n.graph
+TellsPut m n key payload put = WhereTold m.graph (PutTells m.sizes key put) × GraphGoesOn key payload put m.graph n.graph

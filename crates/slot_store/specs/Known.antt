@@ -56,8 +56,8 @@ abbrev pub LacksKey : List KnownPlace → List ℕ → Type 0
 LacksKey ks key = (k : KnownPlace) → In k ks → ¬ (HasKnownKey key k)
 
 -- a row stands at each place
-abbrev pub IsFilled : List KnownPlace → Type 0
-IsFilled ks = (k : KnownPlace) → In k ks → k.met ≢ 0
+abbrev pub AreTaken : List KnownPlace → Type 0
+AreTaken ks = (k : KnownPlace) → In k ks → k.met ≢ 0
 
 -- the words of a row that stands at some place are these at such indexes, as far as they are known
 pub record HoldsWords (ks : List KnownPlace) (P : ℕ → Type 0) (words : List ℕ) : Type 0 where
@@ -89,11 +89,11 @@ pub record PutsRow (z : Sizes) (ks ls : List KnownPlace) (words : List ℕ) : Ty
 abbrev pub GlanceKnows : List KnownPlace → List KnownPlace → List ℕ → List ℕ → Glance → Type 0
 GlanceKnows ks ls key payload (glance.Found count) = HoldsRow ls (row_of key payload)
 GlanceKnows ks ls key payload (glance.Initial place) = LacksKey ks key
-GlanceKnows ks ls key payload glance.PageFull = LacksKey ks key × IsFilled ks
+GlanceKnows ks ls key payload glance.PageFull = LacksKey ks key × AreTaken ks
 
 abbrev pub PutKnows : Sizes → List KnownPlace → List KnownPlace → List ℕ → List ℕ → Put → Type 0
 PutKnows z ks ls key payload put.Made = IsOfOnePage z ls × LacksKey ks key × PutsRow z ks ls (row_of key payload)
 PutKnows z ks ls key payload put.Already = IsOfOnePage z ls × AreLater ks ls × HoldsKey ls key
-PutKnows z ks ls key payload put.PageFull = IsOfOnePage z ls × AreLater ks ls × LacksKey ks key × IsFilled ks
+PutKnows z ks ls key payload put.PageFull = IsOfOnePage z ls × AreLater ks ls × LacksKey ks key × AreTaken ks
 PutKnows z ks ls key payload put.PoolFull = IsOfOnePage z ls × AreLater ks ls × ((row : ℕ) → row < z.rows → StandsKnown z ks row)
 PutKnows z ks ls key payload put.TooWide = ls ≡ ks

@@ -153,7 +153,7 @@ ClaimIs z v w added from to None = (w.own ≡ None) × ((row : ℕ) → from ≤
     × (IsSoleAt z v → (row : ℕ) → from ≤ row → row < to → StandsKnown v.sizes v.known row)
 ClaimIs z v w added from to (Some row) = (row < z.sizes.rows) × (w.own ≡ Some record { row = row; wrote = [] }) × In (claimed z.sizes row 0) added
 
-pub record Claims (z : Site) (v w : View) (from to : ℕ) (r : Option ℕ) : Type 0 where
+pub record ClaimsRow (z : Site) (v w : View) (from to : ℕ) (r : Option ℕ) : Type 0 where
   pub added : List Step
   pub moves : Moves v w added
   pub known : w.known ≡ v.known

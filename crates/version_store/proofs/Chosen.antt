@@ -11,7 +11,7 @@ use Rattle.pin_rule.specs.Rows.{on_path}
 use Rattle.pin_rule.specs.NextVersion.{IsPast}
 use Rattle.pin_rule.proofs.Lists.{at_short}
 use Rattle.version_store.specs.Rows.{Found}
-use Rattle.version_store.specs.Stages.{IsAt, key_in}
+use Rattle.version_store.specs.Stages.{IsFoundAt, key_in}
 use Rattle.version_store.specs.Choices.{count_taken, PutsAtFirst, HasChosen}
 use Rattle.version_store.proofs.Taken.{one_more, none_taken}
 use Rattle.version_store.proofs.PageRows.{at_none, at_some, at_new}
@@ -46,7 +46,7 @@ module _ (keeps next : List ℕ → Type 0) (z : Sizes) where
 
   module _ (found : List (Option Found)) (places : List ℕ) (h : HasChosen keeps next z found places) where
     -- the places stay, though one more was looked at
-    longer : (x : Option Found) → ((o : ℕ) (f : Found) → IsAt (found ++ x ∷ []) o f → keeps f.words → IsAt found o f)
+    longer : (x : Option Found) → ((o : ℕ) (f : Found) → IsFoundAt (found ++ x ∷ []) o f → keeps f.words → IsFoundAt found o f)
         → HasChosen keeps next z (found ++ x ∷ []) places
     longer x back = record {
       room = h.room;
@@ -67,7 +67,7 @@ module _ (keeps next : List ℕ → Type 0) (z : Sizes) where
 
     -- a row more is kept
     module _ (f : Found) (keep : keeps f.words) (fits : next f.words) (new : List ℕ) (puts : PutsAtFirst z (key_in f.words) (suc f.row) places new)
-        (rows_once : (o p : ℕ) (a b : Found) → IsAt (found ++ Some f ∷ []) o a → IsAt (found ++ Some f ∷ []) p b → a.row ≡ b.row → o ≡ p) where
+        (rows_once : (o p : ℕ) (a b : Found) → IsFoundAt (found ++ Some f ∷ []) o a → IsFoundAt (found ++ Some f ∷ []) p b → a.row ≡ b.row → o ≡ p) where
       abbrev at : ℕ
       at = puts.0
 
@@ -126,7 +126,7 @@ module _ (keeps next : List ℕ → Type 0) (z : Sizes) where
     -- the row that was read is kept at its place, or dropped
     pub chosen : (f : Found) (new : List ℕ) → (keeps f.words × next f.words × PutsAtFirst z (key_in f.words) (suc f.row) places new) ⊎
         ((¬ (keeps f.words)) × (new ≡ places))
-        → ((o p : ℕ) (a b : Found) → IsAt (found ++ Some f ∷ []) o a → IsAt (found ++ Some f ∷ []) p b → a.row ≡ b.row → o ≡ p)
+        → ((o p : ℕ) (a b : Found) → IsFoundAt (found ++ Some f ∷ []) o a → IsFoundAt (found ++ Some f ∷ []) p b → a.row ≡ b.row → o ≡ p)
         → HasChosen keeps next z (found ++ Some f ∷ []) new
     chosen f new c rows_once = elim c [
       | inl k ↦ kept f k.0 k.1 new k.2 rows_once

@@ -6,7 +6,7 @@ use Rattle.pin_rule.specs.declared.view.KnownPlace.{KnownPlace}
 use Rattle.pin_rule.specs.Lists.{In}
 use Rattle.pin_rule.specs.Told.{IsOfOnePage, StandsKnown}
 use Rattle.pin_rule.proofs.Frames.{content_same}
-use Rattle.slot_store.specs.Known.{IsFilled}
+use Rattle.slot_store.specs.Known.{AreTaken}
 use Rattle.slot_store.specs.GraphAnswers.{AllDiffer, HasRows}
 use Rattle.version_store.specs.Graphs.{word_in, row_known, rows_known, IsReadWhole, IsWholeKnown}
 use Rattle.version_store.proofs.GraphRows.{row_from, row_to}
@@ -66,7 +66,8 @@ module _ (z : Sizes) (ks : List KnownPlace) (known : IsWholeKnown z ks) (one : I
     differ zero le = tt
     differ (suc m) le = (
       (λ i. let x = of_rows m (row_known (at m)) i in let lt = x.1 in let first : m < n = omega arith in let second : x.0 < n = omega arith in
-          let e = apart m x.0 first second (one_place (at m) (at x.0) (there m first) (there x.0 second) (taken m first) (taken x.0 second) x.2) in omega arith),
+          let e = apart m x.0 first second (one_place (at m) (at x.0) (there m first) (there x.0 second) (taken m first)
+          (taken x.0 second) x.2) in omega arith),
       differ m (omega arith),
     )
 
@@ -82,7 +83,7 @@ module _ (z : Sizes) (ks : List KnownPlace) (known : IsWholeKnown z ks) (one : I
   nowhere : KnownPlace
   nowhere = record { place = 0; met = 0; words = [] }
 
-  module _ (filled : IsFilled ks) where
+  module _ (filled : AreTaken ks) where
     at_place : (i : ℕ) → (k : KnownPlace) × (i < z.places → In k ks × (k.place ≡ i))
     at_place i = elim (cases_lt i z.places) [
       | inl lt ↦ let k = known.every i lt in (k.0, λ _. (k.1, k.2))

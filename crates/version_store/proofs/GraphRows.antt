@@ -21,7 +21,7 @@ use Rattle.version_store.specs.Rows.{Found, IsWholeRow, rows_found}
 use Rattle.version_store.specs.Graphs.{word_in, row_known, rows_known, IsReadWhole, IsWholeKnown}
 use Rattle.version_store.specs.Learning.{Learns}
 use Rattle.version_store.specs.Choices.{HasChosen, KeepsRows}
-use Rattle.version_store.specs.Stages.{IsAt}
+use Rattle.version_store.specs.Stages.{IsFoundAt}
 use Rattle.version_store.proofs.WholeRows.{content_is}
 use Rattle.version_store.proofs.KnownPlaces.{mapped_back}
 
@@ -77,14 +77,14 @@ row_to (l ∷ ks) k i ne = elim i [
   | inr t ↦ rows_rest (eqb l.met 0) l ks (row_known k) (row_to ks k t ne)
 ]
 
-pub found_to : (fs : List (Option Found)) (o : ℕ) (f : Found) → IsAt fs o f → In f.words (rows_found fs)
+pub found_to : (fs : List (Option Found)) (o : ℕ) (f : Found) → IsFoundAt fs o f → In f.words (rows_found fs)
 found_to [] o f e = absurd (maybe.some-ne-none (Some f) (sym e))
 found_to (None ∷ fs) zero f e = absurd (none_some f (maybe.some-injective None (Some f) e))
 found_to (None ∷ fs) (suc o) f e = found_to fs o f e
 found_to (Some g ∷ fs) zero f e = inl (ap (λ (x : Found). x.words) (sym (same_some g f (maybe.some-injective (Some g) (Some f) e))))
 found_to (Some g ∷ fs) (suc o) f e = inr (found_to fs o f e)
 
-pub found_from : (fs : List (Option Found)) (r : List ℕ) → In r (rows_found fs) → (o : ℕ) × (f : Found) × IsAt fs o f × (r ≡ f.words)
+pub found_from : (fs : List (Option Found)) (r : List ℕ) → In r (rows_found fs) → (o : ℕ) × (f : Found) × IsFoundAt fs o f × (r ≡ f.words)
 found_from [] r i = absurd i
 found_from (None ∷ fs) r i = let x = found_from fs r i in (suc x.0, x.1, x.2, x.3)
 found_from (Some g ∷ fs) r i = elim i [ inl e ↦ (0, g, refl, e) | inr t ↦ let x = found_from fs r t in (suc x.0, x.1, x.2, x.3) ]
@@ -97,27 +97,27 @@ at_each (x ∷ xs) (suc i) lt = at_each xs i (omega arith)
 -- What was found at each place is known there
 
 module _ (z : Sizes) (ks ls : List KnownPlace) (found : List (Option Found)) (many : length found ≡ z.places) (learns : Learns ks ls found)
-    (wholes : (o : ℕ) (f : Found) → IsAt found o f → IsWholeRow f.words)
-    (alike : (o : ℕ) (f : Found) (l : KnownPlace) (index word : ℕ) → IsAt found o f → In l ls → l.met ≡ suc f.row → In (index, word) l.words
+    (wholes : (o : ℕ) (f : Found) → IsFoundAt found o f → IsWholeRow f.words)
+    (alike : (o : ℕ) (f : Found) (l : KnownPlace) (index word : ℕ) → IsFoundAt found o f → In l ls → l.met ≡ suc f.row → In (index, word) l.words
     → index < length f.words → word ≡ slice_index f.words index) where
-  same_words : (o : ℕ) (f : Found) (l : KnownPlace) → IsAt found o f → In l ls → l.place ≡ o → (index : ℕ) → index < length f.words
+  same_words : (o : ℕ) (f : Found) (l : KnownPlace) → IsFoundAt found o f → In l ls → l.place ≡ o → (index : ℕ) → index < length f.words
       → word_in l.words index ≡ slice_index f.words index
   same_words o f l e i at index lt = let r = learns.rows o f l e i at in
       alike o f l index (word_in l.words index) e i r.0 (word_in_is l.words index (slice_index f.words index) (r.1 index lt)) lt
 
-  row_at : (o : ℕ) (f : Found) (l : KnownPlace) → IsAt found o f → In l ls → l.place ≡ o → row_known l ≡ f.words
+  row_at : (o : ℕ) (f : Found) (l : KnownPlace) → IsFoundAt found o f → In l ls → l.place ≡ o → row_known l ≡ f.words
   row_at o f l e i at = row_is l f.words (wholes o f e) (same_words o f l e i at)
 
-  whole_at : (o : ℕ) (f : Found) (l : KnownPlace) → IsAt found o f → In l ls → l.place ≡ o → IsReadWhole l.words
+  whole_at : (o : ℕ) (f : Found) (l : KnownPlace) → IsFoundAt found o f → In l ls → l.place ≡ o → IsReadWhole l.words
   whole_at o f l e i at = read_whole l f.words (wholes o f e) (same_words o f l e i at) (learns.rows o f l e i at).1
 
   option_cases : (x : Option Found) (p : ℕ) → get_elem? found p ≡ maybe.some x → (l : KnownPlace) → In l ls → l.place ≡ p → l.met ≢ 0
-      → (f : Found) × IsAt found p f
+      → (f : Found) × IsFoundAt found p f
   option_cases None p e l i at ne = absurd (ne (learns.empty p l e i at))
   option_cases (Some f) p e l i at ne = (f, e)
 
   -- of a place that is not empty
-  found_at : (l : KnownPlace) (p : ℕ) → In l ls → l.place ≡ p → p < length found → l.met ≢ 0 → (f : Found) × IsAt found p f
+  found_at : (l : KnownPlace) (p : ℕ) → In l ls → l.place ≡ p → p < length found → l.met ≢ 0 → (f : Found) × IsFoundAt found p f
   found_at l p i at lt ne = let x = at_each found p lt in option_cases x.0 p x.1 l i at ne
 
   -- whatever was known before
@@ -145,7 +145,7 @@ module _ (z : Sizes) (ks ls : List KnownPlace) (found : List (Option Found)) (ma
 
   -- all was known before
   module _ (before : IsWholeKnown z ks) where
-    old_row : (k : KnownPlace) (f : Found) → In k ks → IsAt found k.place f → (k.met ≡ suc f.row) × (row_known k ≡ f.words)
+    old_row : (k : KnownPlace) (f : Found) → In k ks → IsFoundAt found k.place f → (k.met ≡ suc f.row) × (row_known k ≡ f.words)
     old_row k f i e = let l = learns.on k i in let r = learns.rows k.place f l.0 e l.1 l.2.0 in let met : k.met ≡ suc f.row = sym l.2.1 ∙ r.0 in
         let read = before.rows k f.row i met in let whole = wholes k.place f e in
         let agree : (index : ℕ) → index < 2 + (word_in k.words 0 + word_in k.words 1) → index < length f.words
@@ -154,12 +154,12 @@ module _ (z : Sizes) (ks ls : List KnownPlace) (found : List (Option Found)) (ma
         let a = agree 0 (omega arith) (omega arith) in let b = agree 1 (omega arith) (omega arith) in
         (met, row_is k f.words whole (λ index lt. agree index (omega arith) lt))
 
-    pub was_found : (r : List ℕ) → In r (rows_known ks) → (o : ℕ) × (f : Found) × IsAt found o f × (r ≡ f.words)
+    pub was_found : (r : List ℕ) → In r (rows_known ks) → (o : ℕ) × (f : Found) × IsFoundAt found o f × (r ≡ f.words)
     was_found r i = let k = row_from ks r i in let l = learns.on k.0 k.1 in let lt = before.inside k.0 k.1 in
         let f = found_at l.0 k.0.place l.1 l.2.0 (omega arith) (λ n. k.2 (sym l.2.1 ∙ n)) in
         (k.0.place, f.0, f.1, k.3 ∙ (old_row k.0 f.0 k.1 f.1).1)
 
-    pub is_found : (o : ℕ) (f : Found) → IsAt found o f → In f.words (rows_known ks)
+    pub is_found : (o : ℕ) (f : Found) → IsFoundAt found o f → In f.words (rows_known ks)
     is_found o f e = let lt = at_short found o (Some f) e in let k = before.every o (omega arith) in
         let r = old_row k.0 f k.1 (ap (get_elem? found) k.2 ∙ e) in
         subst (λ (x : List ℕ). In x (rows_known ks)) r.1 (row_to ks k.0 k.1 (λ n. let s : 0 ≡ suc f.row = sym n ∙ r.0 in omega arith))
@@ -223,16 +223,16 @@ of_places version ws from (n ∷ ns) k i = elim i [
 
 -- the places of the new page have rows that were found and are kept
 module _ (z : Sizes) (keeps next : List ℕ → Type 0) (ks : List KnownPlace) (found : List (Option Found)) (places : List ℕ) (version : ℕ) (ws : List WordFact)
-    (chosen : HasChosen keeps next z found places) (wholes : (o : ℕ) (f : Found) → IsAt found o f → IsWholeRow f.words)
-    (known : (o : ℕ) (f : Found) (index : ℕ) → IsAt found o f → index < length f.words → In (fact version f.row index (slice_index f.words index)) ws)
-    (once : (o : ℕ) (f : Found) (index word : ℕ) → IsAt found o f → In (fact version f.row index word) ws → index < length f.words
+    (chosen : HasChosen keeps next z found places) (wholes : (o : ℕ) (f : Found) → IsFoundAt found o f → IsWholeRow f.words)
+    (known : (o : ℕ) (f : Found) (index : ℕ) → IsFoundAt found o f → index < length f.words → In (fact version f.row index (slice_index f.words index)) ws)
+    (once : (o : ℕ) (f : Found) (index word : ℕ) → IsFoundAt found o f → In (fact version f.row index word) ws → index < length f.words
     → word ≡ slice_index f.words index)
-    (was_found : (r : List ℕ) → In r (rows_known ks) → (o : ℕ) × (f : Found) × IsAt found o f × (r ≡ f.words))
-    (is_found : (o : ℕ) (f : Found) → IsAt found o f → In f.words (rows_known ks)) where
+    (was_found : (r : List ℕ) → In r (rows_known ks) → (o : ℕ) × (f : Found) × IsFoundAt found o f × (r ≡ f.words))
+    (is_found : (o : ℕ) (f : Found) → IsFoundAt found o f → In f.words (rows_known ks)) where
   abbrev new : List KnownPlace
   new = places_known version ws 0 places
 
-  at_row : (p : ℕ) (o : ℕ) (f : Found) → IsAt found o f → slice_index places p ≡ suc f.row
+  at_row : (p : ℕ) (o : ℕ) (f : Found) → IsFoundAt found o f → slice_index places p ≡ suc f.row
       → (row_known (place_known version ws (0 + p) (slice_index places p)) ≡ f.words) × IsReadWhole (words_on version ws (slice_index places p))
   at_row p o f e is =
       let there : (index : ℕ) → index < length f.words → In (index, slice_index f.words index) (words_on version ws (slice_index places p))
@@ -247,7 +247,7 @@ module _ (z : Sizes) (keeps next : List ℕ → Type 0) (ks : List KnownPlace) (
       )
 
   of_kept : (k : KnownPlace) (row : ℕ) → In k (places_known version ws 0 places) → k.met ≡ suc row
-      → (o : ℕ) × (f : Found) × IsAt found o f × keeps f.words × (row_known k ≡ f.words) × IsReadWhole k.words
+      → (o : ℕ) × (f : Found) × IsFoundAt found o f × keeps f.words × (row_known k ≡ f.words) × IsReadWhole k.words
   of_kept k row i e = let q = of_places version ws 0 places k i in let met : slice_index places q.0 ≡ suc row = sym (ap (λ (x : KnownPlace). x.met) q.2) ∙ e in
       let c = chosen.kept q.0 row met in let r = at_row q.0 c.0 c.1 c.2 (met ∙ ap suc (sym c.3)) in
       (c.0, c.1, c.2, c.4, ap row_known q.2 ∙ r.0, subst IsReadWhole (sym (ap (λ (x : KnownPlace). x.words) q.2)) r.1)

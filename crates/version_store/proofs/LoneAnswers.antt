@@ -10,8 +10,8 @@ use Rattle.slot_store.specs.declared.page.Look.{Look}
 use Rattle.slot_store.specs.declared.page.Put.{Put}
 use Rattle.slot_store.specs.declared.page.Put.TheVariants as put
 use Rattle.slot_store.specs.Answers.{Finds}
-use Rattle.slot_store.specs.Known.{AreLater, IsFilled, PutKnows}
-use Rattle.slot_store.specs.GraphAnswers.{HasRows, HasRowWith, WhereTold, PutTells, GoesOn}
+use Rattle.slot_store.specs.Known.{AreLater, AreTaken, PutKnows}
+use Rattle.slot_store.specs.GraphAnswers.{HasRows, HasRowWith, WhereTold, PutTells, GraphGoesOn}
 use Rattle.slot_store.specs.Meaning.{Meaning, with_graph}
 use Rattle.slot_store.proofs.LaterPlaces.{later_back}
 use Rattle.version_store.specs.Graphs.{rows_known, IsWholeKnown}
@@ -32,13 +32,13 @@ module _ (z : Sizes) (ks ls : List KnownPlace) (known : IsWholeKnown z ks) (one 
   pub rows_later : rows_known ls ≡ rows_known ks
   rows_later = same_rows ks ls later known.rows once
 
-  filled_later : IsFilled ks → IsFilled ls
+  filled_later : AreTaken ks → AreTaken ls
   filled_later filled l i e = let k = later_back ks ls later l i in filled k.0 k.1 (sym k.2.1 ∙ e)
 
   stand_later : (row : ℕ) → StandsKnown z ks row → StandsKnown z ls row
   stand_later row s = (s.0, s.1, λ l i at. let k = later_back ks ls later l i in k.2.1 ∙ s.2 k.0 k.1 (sym k.2.0 ∙ at))
 
-  pub filled_count : IsFilled ks → HasRows (rows_known ks) z.places
+  pub filled_count : AreTaken ks → HasRows (rows_known ks) z.places
   filled_count filled = subst (λ (g : List (List ℕ)). HasRows g z.places) rows_later (filled_rows z ls whole_later one (filled_later filled))
 
   pub pool_count : ((row : ℕ) → row < z.rows → StandsKnown z ks row) → HasRows (rows_known ks) z.rows
@@ -54,7 +54,7 @@ module _ (z : Sizes) (ks ls : List KnownPlace) (known : IsWholeKnown z ks) (key 
   after_put put.TooWide h = subst (IsWholeKnown z) (sym h) known
 
   pub tells_put : (p : Put) → PutKnows z ks ls key payload p
-      → WhereTold (Some (rows_known ks)) (PutTells z key p) × GoesOn key payload p (Some (rows_known ks)) (Some (rows_known ls))
+      → WhereTold (Some (rows_known ks)) (PutTells z key p) × GraphGoesOn key payload p (Some (rows_known ks)) (Some (rows_known ls))
   tells_put put.Made h = (lacks_row z ks known key h.1, (rows_known ls, refl, adds z ks ls key payload known h.2 h.0))
   tells_put put.Already h = let same = rows_later z ks ls known h.0 h.1 in (
     subst (λ (g : List (List ℕ)). HasRowWith g key) same (holds_key z ls (whole_later z ks ls known h.0 h.1) key h.2),

@@ -9,7 +9,7 @@ use Rattle.pin_rule.specs.Lists.{In}
 use Rattle.pin_rule.specs.Told.{IsOfOnePage, IsTold}
 use Rattle.slot_store.specs.declared.finding.Glance.{Glance}
 use Rattle.slot_store.specs.Keys.{row_of}
-use Rattle.slot_store.specs.Known.{AreLater, KnowsPlaces, IsSoleAt, LacksKey, IsFilled, HoldsRow}
+use Rattle.slot_store.specs.Known.{AreLater, KnowsPlaces, IsSoleAt, LacksKey, AreTaken, HoldsRow}
 use Rattle.slot_store.specs.GraphAnswers.{HasRowWith, HasRows}
 use Rattle.slot_store.specs.Walks.{Glances}
 use Rattle.version_store.proofs.KeyedRows.{holds_row, lacks_row}
@@ -54,5 +54,5 @@ module _ (F G : List ℕ → Type 0) (z : Site) (v w : View) (key buffer : List 
   pub no_row : LacksKey v.known key → ¬ (HasRowWith (rows_known v.known) key)
   no_row lacks = lacks_row z.sizes v.known known key lacks
 
-  pub all_rows : IsFilled v.known → HasRows (rows_known v.known) v.sizes.places
+  pub all_rows : AreTaken v.known → HasRows (rows_known v.known) v.sizes.places
   all_rows filled = subst (λ (y : Sizes). HasRows (rows_known v.known) y.places) (sym measured) (filled_count z.sizes v.known w.known known one later filled)

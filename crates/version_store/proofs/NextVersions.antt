@@ -30,7 +30,7 @@ use Rattle.version_store.specs.declared.current.Current.{Current}
 use Rattle.version_store.specs.Roles.{role_of, role_or_first}
 use Rattle.version_store.specs.Rows.{Found, IsWholeRow}
 use Rattle.version_store.specs.Edits.{KeepsExactly, entry_stores, page_loads, page_stores}
-use Rattle.version_store.specs.Stages.{IsAt, IsEditorOf, Stays, next_of, with_making, making_entry, WritesEntry, FindsRows, WritesPage}
+use Rattle.version_store.specs.Stages.{IsFoundAt, IsEditorOf, Stays, next_log_of, with_making, making_entry, WritesEntry, FindsRows, WritesPage}
 use Rattle.version_store.specs.Graphs.{IsWholeKnown}
 use Rattle.version_store.specs.Choices.{HasChosen, KeepsRows, MakesNext}
 use Rattle.version_store.proofs.Going.{stays_on, editor_on}
@@ -54,7 +54,7 @@ module _ (c : Current) (v w : View) (entry : List ℕ) (editor : IsEditorOf c v)
   pub editor_written : IsEditorOf c w
   editor_written = editor_on c v w _ editor wrote.goes (with_making (role_of v) (making_entry c.next entry)) wrote.role refl refl
 
-  pub next_is : next_of w ≡ v.log ++ record { words = entry } ∷ []
+  pub next_is : next_log_of w ≡ v.log ++ record { words = entry } ∷ []
   next_is = (λ i. next_log (wrote.goes.log i) (making_of (role_is i))) ∙ ap (λ (ws : List ℕ). v.log ++ record { words = ws } ∷ [])
       (made_is (role_of v) c.next entry)
 
@@ -168,7 +168,7 @@ module _ (c : Current) (v v1 v2 : View) (entry : List ℕ) (found : List (Option
 
 module _ (c : Current) (F : List Entry → List ℕ → Type 0) (keeps : List ℕ → Type 0) (v v1 v2 v3 : View) (entry : List ℕ) (found : List (Option Found))
     (places : List ℕ) (editor : IsEditorOf c v) (long : length entry ≡ 32) (wrote : WritesEntry c v v1 entry) (finds : FindsRows c v1 v2 found)
-    (chosen : HasChosen keeps (F (next_of v1)) c.sizes found places) (wrote_page : WritesPage c v2 v3 places) (every : length found ≡ c.sizes.places) where
+    (chosen : HasChosen keeps (F (next_log_of v1)) c.sizes found places) (wrote_page : WritesPage c v2 v3 places) (every : length found ≡ c.sizes.places) where
   abbrev m : Making
   m = record { page = c.next; entry = entry; places = places }
 
@@ -183,7 +183,7 @@ module _ (c : Current) (F : List Entry → List ℕ → Type 0) (keeps : List �
   editor_first = editor_written c v v1 entry editor wrote long
 
   editor_second : IsEditorOf c v2
-  editor_second = editor_chosen c F keeps v1 v2 entry found places (next_of v1) editor_first finds chosen
+  editor_second = editor_chosen c F keeps v1 v2 entry found places (next_log_of v1) editor_first finds chosen
 
   editor_third : IsEditorOf c v3
   editor_third = editor_on c v2 v3 _ editor_second wrote_page.goes (with_making (role_of v) (Some m)) has (ap (λ (y : Role). y.newest) (sym role_before))
@@ -196,7 +196,8 @@ module _ (c : Current) (F : List Entry → List ℕ → Type 0) (keeps : List �
     making = refl;
     version_is = (let a = e.at in omega arith);
     page_is = refl;
-    whole = whole_page c F keeps v1 v2 entry found places (next_of v1) editor_first finds chosen v3 m wrote_page.words wrote_page.goes.log e.sizes refl long;
+    whole = whole_page c F keeps v1 v2 entry found places
+        (next_log_of v1) editor_first finds chosen v3 m wrote_page.words wrote_page.goes.log e.sizes refl long;
   }) e.share
 
   -- with the whole share
@@ -211,10 +212,11 @@ module _ (c : Current) (F : List Entry → List ℕ → Type 0) (keeps : List �
       ∙ (λ i. places_known (sym editor_third.at i) (wrote_page.words i) 0 places)
 
   rows_kept : v1.share ≡ whole → IsWholeKnown c.sizes v1.known → KeepsRows keeps c.sizes v.known (places_known c.version v2.words 0 places)
-  rows_kept all before = let wholes : (o : ℕ) (f : Found) → IsAt found o f → IsWholeRow f.words = λ o f e. (finds.known o f e).is_whole in
+  rows_kept all before = let wholes : (o : ℕ) (f : Found) → IsFoundAt found o f → IsWholeRow f.words = λ o f e. (finds.known o f e).is_whole in
       subst (λ (ks : List KnownPlace). KeepsRows keeps c.sizes ks
       (places_known c.version v2.words 0 places)) wrote.known
-      (keeps_rows c.sizes keeps (F (next_of v1)) v1.known found places c.version v2.words chosen wholes (λ o f index e lt. (finds.known o f e).words index lt)
+      (keeps_rows c.sizes keeps (F (next_log_of v1)) v1.known found places c.version v2.words chosen wholes (λ o f index e lt.
+      (finds.known o f e).words index lt)
       (λ o f index word e there lt. finds.words_once o f index word e there lt)
       (was_found c.sizes v1.known v2.known found every (finds.learns all) wholes (finds.alike all) before)
       (is_found c.sizes v1.known v2.known found every (finds.learns all) wholes (finds.alike all) before))
@@ -234,7 +236,7 @@ module _ (c : Current) (F : List Entry → List ℕ → Type 0) (keeps : List �
         every_place = every;
         whole_rows = λ f i. let a = in_at (Some f) found i in (finds.known a.0 f a.1).is_whole;
         every_new_place = chosen.room;
-        kept = keeps_exactly keeps (F (next_of v1)) c.sizes found places chosen;
+        kept = keeps_exactly keeps (F (next_log_of v1)) c.sizes found places chosen;
         version_before = said.0 ∙ editor.version_is;
         page_before = said.1 ∙ editor.page_is;
         rows_in = λ place row is. let k = chosen.kept place row is in subst (λ (i : ℕ). i < c.sizes.rows) k.3 (finds.rows_in k.0 k.1 k.2);

@@ -49,25 +49,25 @@ use Rattle.version_store.specs.Roles.{role_of, role_or_first}
 use Rattle.version_store.specs.Learning.{Grown, Learns}
 use Rattle.version_store.specs.Rows.{Found, IsWholeRow}
 use Rattle.version_store.specs.Edits.{page_loads, row_loads}
-use Rattle.version_store.specs.Stages.{IsEditorOf, Goes, next_of, IsAt, key_in, ReadsRow, IsKnownRow, FindsRows}
+use Rattle.version_store.specs.Stages.{IsEditorOf, Goes, next_log_of, IsFoundAt, key_in, ReadsRow, IsKnownRow, FindsRows}
 use Rattle.version_store.proofs.Going.{goes_nowhere, goes_on, goes_as, editor_on, loads_next}
 use Rattle.version_store.proofs.KnownPlaces.{met_is, learns_none, learns_empty, learns_row}
 use Rattle.version_store.proofs.RowWords.{told_of}
 
 -- the log that comes next is the same for a view with the same log and role
-next_stays : (v w : View) → w.log ≡ v.log → w.role ≡ v.role → next_of w ≡ next_of v
+next_stays : (v w : View) → w.log ≡ v.log → w.role ≡ v.role → next_log_of w ≡ next_log_of v
 next_stays v w log role = λ i. next_log (log i) (making_of (role_or_first (role i)))
 
 -- Places of a list that one was added to
 
-pub at_none : (found : List (Option Found)) (o : ℕ) (f : Found) → IsAt (found ++ None ∷ []) o f → IsAt found o f
+pub at_none : (found : List (Option Found)) (o : ℕ) (f : Found) → IsFoundAt (found ++ None ∷ []) o f → IsFoundAt found o f
 at_none found o f e = elim (at_end found None (Some f) o e) [ inl t ↦ t | inr t ↦ absurd (none_some f t.1) ]
 
-pub at_some : (found : List (Option Found)) (g : Found) (o : ℕ) (f : Found) → IsAt (found ++ Some g ∷ []) o f → (IsAt found o f)
+pub at_some : (found : List (Option Found)) (g : Found) (o : ℕ) (f : Found) → IsFoundAt (found ++ Some g ∷ []) o f → (IsFoundAt found o f)
     ⊎ ((o ≡ length found) × (g ≡ f))
 at_some found g o f e = elim (at_end found (Some g) (Some f) o e) [ inl t ↦ inl t | inr t ↦ inr (t.0, same_some g f t.1) ]
 
-pub at_new : (found : List (Option Found)) (g : Found) → IsAt (found ++ Some g ∷ []) (length found) g
+pub at_new : (found : List (Option Found)) (g : Found) → IsFoundAt (found ++ Some g ∷ []) (length found) g
 at_new found g = at_last found (Some g) (length found) refl
 
 -- A view that knows more
@@ -107,7 +107,7 @@ module _ (c : Current) (F : List ℕ → Type 0) (w : View) (told : IsTold F w c
 
 -- what is known of the rows that were found, and the rest by the rule
 finds : (c : Current) (v w : View) (found : List (Option Found)) (F : List ℕ → Type 0) → IsEditorOf c w → Goes v w (page_loads c.sizes c.page 0 found)
-    → w.role ≡ v.role → ((place : ℕ) (f : Found) → IsAt found place f → IsKnownRow c w place f) → (v.share ≡ whole → Learns v.known w.known found)
+    → w.role ≡ v.role → ((place : ℕ) (f : Found) → IsFoundAt found place f → IsKnownRow c w place f) → (v.share ≡ whole → Learns v.known w.known found)
     → IsTold F w c.version → FindsRows c v w found
 finds c v w found F editor goes role known learns told = record {
   goes = goes;
@@ -171,7 +171,7 @@ module _ (c : Current) (v w : View) (editor : IsEditorOf c v) (found : List (Opt
     pub editor_at : IsEditorOf c u
     editor_at = editor_on c w u _ editor_then loads (role_of w) (same_role ∙ editor_then.has) refl refl
 
-    pub next_at : next_of u ≡ next_of v
+    pub next_at : next_log_of u ≡ next_log_of v
     next_at = next_stays v u (loads.log ∙ so_far.goes.log) (same_role ∙ so_far.role)
 
     known_at : v.share ≡ whole → u.known ≡ learned_place place n w.known
@@ -220,7 +220,7 @@ module _ (c : Current) (v w : View) (editor : IsEditorOf c v) (found : List (Opt
           is_whole = whole;
         }
 
-        all_known : (p : ℕ) (g : Found) → IsAt (found ++ Some (record { row = row; words = words }) ∷ []) p g → IsKnownRow c x p g
+        all_known : (p : ℕ) (g : Found) → IsFoundAt (found ++ Some (record { row = row; words = words }) ∷ []) p g → IsKnownRow c x p g
         all_known p g a = elim (at_some found (record { row = row; words = words }) p g a) [
           | inl old ↦ known_on c w x p g (λ e i. subst (In e) (sym reads.entries) (more_entries e i)) (λ y i. reads.earlier y (more_words y i))
               (so_far.known p g old)

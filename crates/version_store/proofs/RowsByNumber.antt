@@ -9,7 +9,7 @@ use Rattle.std.specs.Prelude.{Option, Some, None}
 use Rattle.pin_rule.specs.Lists.{In}
 use Rattle.pin_rule.proofs.Seats.{none_some, same_some}
 use Rattle.version_store.specs.Rows.{Found}
-use Rattle.version_store.specs.Stages.{IsAt}
+use Rattle.version_store.specs.Stages.{IsFoundAt}
 
 -- the words of the first row of this number
 abbrev pub words_by : List (Option Found) → ℕ → ℕ → ℕ
@@ -18,8 +18,8 @@ words_by (None ∷ fs) row = words_by fs row
 words_by (Some f ∷ fs) row = cond (eqb f.row row) (slice_index f.words) (words_by fs row)
 
 -- where no row was found twice, it is the row at its place
-pub words_at : (found : List (Option Found)) → ((o p : ℕ) (f g : Found) → IsAt found o f → IsAt found p g → f.row ≡ g.row → o ≡ p)
-    → (o : ℕ) (f : Found) → IsAt found o f → words_by found f.row ≡ slice_index f.words
+pub words_at : (found : List (Option Found)) → ((o p : ℕ) (f g : Found) → IsFoundAt found o f → IsFoundAt found p g → f.row ≡ g.row → o ≡ p)
+    → (o : ℕ) (f : Found) → IsFoundAt found o f → words_by found f.row ≡ slice_index f.words
 words_at [] once o f a = absurd (maybe.some-ne-none (Some f) (sym a))
 words_at (None ∷ fs) once zero f a = absurd (none_some f (maybe.some-injective None (Some f) a))
 words_at (None ∷ fs) once (suc o) f a = words_at fs (λ i j x y p q e. let k = once (suc i) (suc j) x y p q e in omega arith) o f a

@@ -15,7 +15,7 @@ use Rattle.pin_rule.specs.PartLive.{known_release}
 use Rattle.version_store.specs.Roles.{role_of}
 use Rattle.version_store.specs.Rows.{Found, IsWholeRow}
 use Rattle.version_store.specs.Edits.{KeepsExactly, edit_steps}
-use Rattle.version_store.specs.Stages.{IsAt, key_in, ReadsRow, Stays}
+use Rattle.version_store.specs.Stages.{IsFoundAt, key_in, ReadsRow, Stays}
 
 -- how many places are not empty
 abbrev pub count_taken : List ℕ → ℕ
@@ -38,9 +38,9 @@ pub record ChoosesRow (keeps next : List ℕ → Type 0) (c : Current) (v w : Vi
 pub record HasChosen (keeps next : List ℕ → Type 0) (z : Sizes) (found : List (Option Found)) (places : List ℕ) : Type 0 where
   pub room : length places ≡ z.places
   pub few : count_taken places ≤ length found
-  pub kept : (p row : ℕ) → slice_index places p ≡ suc row → (o : ℕ) × (f : Found) × IsAt found o f × (f.row ≡ row) × keeps f.words × next f.words
+  pub kept : (p row : ℕ) → slice_index places p ≡ suc row → (o : ℕ) × (f : Found) × IsFoundAt found o f × (f.row ≡ row) × keeps f.words × next f.words
       × IsPast z places (key_in f.words) p
-  pub every : (o : ℕ) (f : Found) → IsAt found o f → keeps f.words → (p : ℕ) × (p < z.places) × (slice_index places p ≡ suc f.row)
+  pub every : (o : ℕ) (f : Found) → IsFoundAt found o f → keeps f.words → (p : ℕ) × (p < z.places) × (slice_index places p ≡ suc f.row)
   pub once : (p q row : ℕ) → slice_index places p ≡ suc row → slice_index places q ≡ suc row → p ≡ q
 
 -- The whole edit

@@ -63,8 +63,8 @@ pub record WritesEntry (c : Current) (v w : View) (entry : List ℕ) : Type 0 wh
   pub role : w.role ≡ Some (with_making (role_of v) (making_entry c.next entry))
 
 -- the log that the entry in the making leads to
-abbrev pub next_of : View → List Entry
-next_of v = next_log v.log (making_of (role_of v))
+abbrev pub next_log_of : View → List Entry
+next_log_of v = next_log v.log (making_of (role_of v))
 
 -- The rows of the page
 
@@ -78,8 +78,8 @@ pub record ReadsRow (c : Current) (v w : View) (row : ℕ) (words : List ℕ) : 
   pub grown : Grown v.known w.known
   pub shows : v.share ≡ whole → Shows w.known row words
 
-abbrev pub IsAt : List (Option Found) → ℕ → Found → Type 0
-IsAt found place f = get_elem? found place ≡ maybe.some (Some f)
+abbrev pub IsFoundAt : List (Option Found) → ℕ → Found → Type 0
+IsFoundAt found place f = get_elem? found place ≡ maybe.some (Some f)
 
 -- the key of a row by its words
 abbrev pub key_in : List ℕ → List ℕ
@@ -95,18 +95,18 @@ pub record IsKnownRow (c : Current) (w : View) (place : ℕ) (f : Found) : Type 
 pub record FindsRows (c : Current) (v w : View) (found : List (Option Found)) : Type 0 where
   pub goes : Goes v w (page_loads c.sizes c.page 0 found)
   pub role : w.role ≡ v.role
-  pub known : (place : ℕ) (f : Found) → IsAt found place f → IsKnownRow c w place f
-  pub rows_in : (place : ℕ) (f : Found) → IsAt found place f → f.row < c.sizes.rows
+  pub known : (place : ℕ) (f : Found) → IsFoundAt found place f → IsKnownRow c w place f
+  pub rows_in : (place : ℕ) (f : Found) → IsFoundAt found place f → f.row < c.sizes.rows
   -- no fact tells another word of these rows
-  pub words_once : (place : ℕ) (f : Found) (index word : ℕ) → IsAt found place f → KnowsWord w c.version f.row index word → index < length f.words
+  pub words_once : (place : ℕ) (f : Found) (index word : ℕ) → IsFoundAt found place f → KnowsWord w c.version f.row index word → index < length f.words
       → word ≡ slice_index f.words index
   -- with the whole share
   pub learns : v.share ≡ whole → Learns v.known w.known found
   pub inside : v.share ≡ whole → 0 < length found → (l : KnownPlace) → In l w.known → l.place < c.sizes.places
-  pub alike : v.share ≡ whole → (place : ℕ) (f : Found) (l : KnownPlace) (index word : ℕ) → IsAt found place f → In l w.known → l.met ≡ suc f.row
+  pub alike : v.share ≡ whole → (place : ℕ) (f : Found) (l : KnownPlace) (index word : ℕ) → IsFoundAt found place f → In l w.known → l.met ≡ suc f.row
       → In (index, word) l.words → index < length f.words → word ≡ slice_index f.words index
-  pub rows_once : (o p : ℕ) (f g : Found) → IsAt found o f → IsAt found p g → f.row ≡ g.row → o ≡ p
-  pub keys_once : (o p : ℕ) (f g : Found) → IsAt found o f → IsAt found p g → key_in f.words ≡ key_in g.words → o ≡ p
+  pub rows_once : (o p : ℕ) (f g : Found) → IsFoundAt found o f → IsFoundAt found p g → f.row ≡ g.row → o ≡ p
+  pub keys_once : (o p : ℕ) (f g : Found) → IsFoundAt found o f → IsFoundAt found p g → key_in f.words ≡ key_in g.words → o ≡ p
 
 -- The page in the making
 

@@ -6,7 +6,7 @@ ghost use Rattle.pin_rule.specs.Hands.{view_of, table_of};
 ghost use Rattle.pin_rule.specs.Steps.{version_of};
 ghost use Rattle.pin_rule.specs.Told.{Tells};
 ghost use Rattle.version_store.specs.Rows.{Found};
-ghost use Rattle.version_store.specs.Stages.{IsEditorOf, next_of, FindsRows};
+ghost use Rattle.version_store.specs.Stages.{IsEditorOf, next_log_of, FindsRows};
 ghost use Rattle.version_store.specs.Choices.{count_taken, ChoosesRow, HasChosen};
 
 use crate::current::Current;
@@ -28,13 +28,13 @@ fn choose_row<C: Content, H: Chooser<C>>(
     requires editor { IsEditorOf current (view_of hand.old) }
     requires row { row < current.sizes.rows }
     requires named { version_of (view_of hand.old).entries row ≡ Some current.version }
-    requires lawful { C.lawful (next_of (view_of hand.old)) }
-    requires leads { H.leads chooser.old (view_of hand.old).log (next_of (view_of hand.old)) }
+    requires lawful { C.lawful (next_log_of (view_of hand.old)) }
+    requires leads { H.leads chooser.old (view_of hand.old).log (next_log_of (view_of hand.old)) }
     requires buffer { length buffer.old ≡ current.sizes.width }
     requires places { length places.old ≡ current.sizes.places }
     requires few { count_taken places.old < current.sizes.places }
     ensures table { table_of hand.new ≡ table_of hand.old }
-    ensures chosen { ChoosesRow (H.keeps chooser.old) (C.fits (next_of (view_of hand.old))) current (view_of hand.old) (view_of hand.new) row places.old
+    ensures chosen { ChoosesRow (H.keeps chooser.old) (C.fits (next_log_of (view_of hand.old))) current (view_of hand.old) (view_of hand.new) row places.old
         places.new }
     ensures told { Tells C.lawful C.fits (view_of hand.new) }
     ensures buffer { length buffer.new ≡ current.sizes.width }
@@ -58,14 +58,14 @@ pub(crate) fn choose_rows<C: Content, H: Chooser<C>>(
     places: &mut [u64],
 )
     requires editor { IsEditorOf current (view_of hand.old) }
-    requires lawful { C.lawful (next_of (view_of hand.old)) }
-    requires leads { H.leads chooser.old (view_of hand.old).log (next_of (view_of hand.old)) }
+    requires lawful { C.lawful (next_log_of (view_of hand.old)) }
+    requires leads { H.leads chooser.old (view_of hand.old).log (next_log_of (view_of hand.old)) }
     requires buffer { length buffer.old ≡ current.sizes.width }
     requires places { places.old ≡ replicate current.sizes.places 0 }
     ensures table { table_of hand.new ≡ table_of hand.old }
     ensures chosen { (found : List (Option Found)) × (length found ≡ current.sizes.places)
         × FindsRows current (view_of hand.old) (view_of hand.new) found
-        × HasChosen (H.keeps chooser.old) (C.fits (next_of (view_of hand.old))) current.sizes found places.new }
+        × HasChosen (H.keeps chooser.old) (C.fits (next_log_of (view_of hand.old))) current.sizes found places.new }
     ensures buffer { length buffer.new ≡ current.sizes.width }
     ensures same_leads { (first next : List Entry) → H.leads chooser.new first next ↔ H.leads chooser.old first next }
     ensures same_keeps { (words : List ℕ) → H.keeps chooser.new words ↔ H.keeps chooser.old words }

@@ -2,7 +2,7 @@
 use Rattle.std.specs.Prelude.{◌≡◌, ◌≤◌}
 use Rattle.slot_store.specs.Meaning.{Meaning, PassMeaning}
 
-pub record IsSameUser (p q : PassMeaning) : Type 0 where
+pub record IsSamePass (p q : PassMeaning) : Type 0 where
   pub table : q.table ≡ p.table
   pub share : q.share ≡ p.share
   pub pins : q.pins_left ≤ p.pins_left

@@ -1,7 +1,7 @@
 //! A table that is parted and gathered, and then edited by its bench alone.
 
 ghost use Rattle.slot_store.specs.Means.{means_of, pass_of};
-ghost use Rattle.version_store_tests.specs.Users.{IsSamePage, IsSameUser};
+ghost use Rattle.version_store_tests.specs.Users.{IsSamePage, IsSamePass};
 
 use crate::commands::entry_from;
 use crate::keep_even::KeepEven;
@@ -27,7 +27,7 @@ fn publish_all(page: &mut Pinned<AnyRow>, keys: &[u64])
 
 /// Pins, publishes, and unpins.
 fn visit(pass: Pass<AnyRow>, keys: &[u64]) -> Pass<AnyRow>
-    ensures { IsSameUser (pass_of pass) (pass_of result) }
+    ensures { IsSamePass (pass_of pass) (pass_of result) }
 {
     match pass.pin() {
         Ok(mut pinned) => {

@@ -8,7 +8,8 @@ pub returns-in_ok-push : goal.returns-in_ok-push
 returns-in_ok-push c =
     let has = has_path c.deref.result.now c.args.path c.contains.result c.contains.ensures.value in
     let none : Contains c.args.found.now.items c.args.path → ⊥ =
-    λ there. both_ways c.contains.result c.if-not-contains.true (has.1 (subst (λ (ps : List Path). Contains ps c.args.path) (sym c.deref.ensures.value) there)) in
+    λ there. both_ways c.contains.result c.if-not-contains.true (has.1 (subst (λ (ps : List Path). Contains ps c.args.path)
+    (sym c.deref.ensures.value) there)) in
     inr (none, c.in_ok-push.ensures.items)
 
 pub returns-else-not-contains : goal.returns-else-not-contains

@@ -1,6 +1,6 @@
 -- Down by the oldest links.
 use Rattle.std.proofs.Common.{List, ℕ, ◌↔◌, IsTrue, sym, subst, arith}
-use Rattle.gss.specs.Trails.{LeadsDown, Passes}
+use Rattle.gss.specs.Trails.{LeadsDown, PassesLink}
 use Rattle.gss.proofs.TrailSteps.{IsGoing, going_none, going_more, going_stuck, going_whole}
 use Rattle.gss.proofs.trails.go_down.Goals as goal
 
@@ -25,4 +25,4 @@ down-preserved c =
 pub returns : goal.returns
 returns c = going_whole c.args.graph.now.links c.args.walk c.args.links.now.items c.down.links.items c.down.invariant c.passes.result
     (omega (arith, c.down-test.false, c.len.ensures))
-    (subst (λ (ls : List ℕ). IsTrue c.passes.result ↔ Passes c.args.walk.through ls) c.deref-2.ensures.value c.passes.ensures)
+    (subst (λ (ls : List ℕ). IsTrue c.passes.result ↔ PassesLink c.args.walk.through ls) c.deref-2.ensures.value c.passes.ensures)

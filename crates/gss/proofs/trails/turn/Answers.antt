@@ -1,21 +1,21 @@
 -- Up to a link that has a newer one beside it.
 use Rattle.std.proofs.Common.{List, ℕ, true, sym, subst}
-use Rattle.gss.specs.Trails.{IsPart}
-use Rattle.gss.specs.Descents.{Turns}
+use Rattle.gss.specs.Trails.{IsPartOfTrail}
+use Rattle.gss.specs.Descents.{TurnsTo}
 use Rattle.gss.proofs.TrailSteps.{IsRising, rising_more, turned_part, turned}
 use Rattle.gss.proofs.trails.turn.Goals as goal
 
 pub returns-in-Some-next_until-clause-part : goal.returns-in-Some-next_until-clause-part
 returns-in-Some-next_until-clause-part c =
     let rising = subst (λ (ls : List ℕ). IsRising c.args.graph.now.links c.args.walk c.args.links.now.items ls) c.in-Some.ensures.items c.up.invariant in
-    subst (λ (ls : List ℕ). IsPart c.args.graph.now.links c.args.walk ls) (sym c.in_ok-push.ensures.items)
+    subst (λ (ls : List ℕ). IsPartOfTrail c.args.graph.now.links c.args.walk ls) (sym c.in_ok-push.ensures.items)
     (turned_part c.args.graph.now.links c.args.walk c.args.links.now.items c.pop.new.self.items c.in-Some.link rising c.in-Some-next_until.next
     c.in-Some-next_until.ensures.next.0 c.in-Some-next_until.ensures.next.1)
 
 pub returns-in-Some-next_until-clause-turns : goal.returns-in-Some-next_until-clause-turns
 returns-in-Some-next_until-clause-turns c =
     let rising = subst (λ (ls : List ℕ). IsRising c.args.graph.now.links c.args.walk c.args.links.now.items ls) c.in-Some.ensures.items c.up.invariant in
-    subst (λ (ls : List ℕ). Turns c.args.graph.now.links c.args.walk c.args.links.now.items ls true) (sym c.in_ok-push.ensures.items)
+    subst (λ (ls : List ℕ). TurnsTo c.args.graph.now.links c.args.walk c.args.links.now.items ls true) (sym c.in_ok-push.ensures.items)
     (turned c.args.graph.now.links c.args.walk c.args.links.now.items c.pop.new.self.items c.in-Some.link rising c.in-Some-next_until.next
     c.in-Some-next_until.ensures.next.0 c.in-Some-next_until.ensures.next.1)
 

@@ -6,7 +6,7 @@ use Rattle.pin_rule.specs.Hands.{view_of}
 use Rattle.pin_rule.proofs.KindLoads.{keeps_load_place}
 use Rattle.slot_store.proofs.Passing.{row_met}
 use Rattle.version_store.specs.Rows.{Found}
-use Rattle.version_store.specs.Stages.{next_of}
+use Rattle.version_store.specs.Stages.{next_log_of}
 use Rattle.version_store.proofs.PageRows as finds
 use Rattle.version_store.proofs.Chosen as chosen
 use Rattle.version_store.proofs.choosing.choose_rows.Goals as goal
@@ -19,7 +19,7 @@ loop-place-init g c = record {
     [],
     refl,
     finds.begins c.args.current (view_of c.args.hand.now),
-    chosen.begins (g.H.Chooser.keeps c.args.chooser.now) (g.C.Content.fits (next_of (view_of c.args.hand.now))) c.args.current.sizes c.args.places.now
+    chosen.begins (g.H.Chooser.keeps c.args.chooser.now) (g.C.Content.fits (next_log_of (view_of c.args.hand.now))) c.args.current.sizes c.args.places.now
         c.requires.places,
   );
   same_leads = λ _ _. ((λ h. h), (λ h. h));
@@ -43,7 +43,7 @@ loop-place-preserved-then-met-eq0 g c =
         (let n = length-append ch.0 (None ∷ []) in let m = ch.1 in omega arith),
         finds.empty k v w c.requires.editor ch.0 ch.2 c.loop-place.place met (sym ch.1) u c.load_place_at-met.ensures.view g.C.Content.lawful g.C.Content.fits
             c.load_place_at-met.ensures.told c.load_place_at-met.ensures.met.0 c.if-met-eq0.true,
-        chosen.empty (g.H.Chooser.keeps c.args.chooser.now) (g.C.Content.fits (next_of v)) k.sizes ch.0 c.loop-place.places ch.3,
+        chosen.empty (g.H.Chooser.keeps c.args.chooser.now) (g.C.Content.fits (next_log_of v)) k.sizes ch.0 c.loop-place.places ch.3,
       );
       same_leads = i.same_leads;
       same_keeps = i.same_keeps;
@@ -81,8 +81,8 @@ loop-place-preserved g c =
         ch.0 ++ Some f ∷ [],
         (let n = length-append ch.0 (Some f ∷ []) in let m = ch.1 in omega arith),
         more,
-        chosen.chosen keeps (F (next_of v)) k.sizes ch.0 old ch.3 f new
-            (chosen.choice_as keeps keeps' (F (next_of v)) (F (next_of u)) r.words _ _ i.same_keeps
+        chosen.chosen keeps (F (next_log_of v)) k.sizes ch.0 old ch.3 f new
+            (chosen.choice_as keeps keeps' (F (next_log_of v)) (F (next_log_of u)) r.words _ _ i.same_keeps
             (λ words h. subst (λ (log : List Entry). F log words) same h) r.chosen)
             more.rows_once,
       );

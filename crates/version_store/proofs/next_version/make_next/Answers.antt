@@ -2,7 +2,7 @@ use Rattle.std.proofs.Common.{◌≡◌, ◌++◌, ◌∷◌, [], List, length, 
 use Rattle.pin_rule.specs.declared.content.Entry.{Entry}
 use Rattle.pin_rule.specs.declared.view.Making.{Making}
 use Rattle.pin_rule.specs.Hands.{view_of}
-use Rattle.version_store.specs.Stages.{next_of}
+use Rattle.version_store.specs.Stages.{next_log_of}
 use Rattle.version_store.proofs.NextVersions as next
 use Rattle.version_store.proofs.next_version.make_next.Goals as goal
 
@@ -18,7 +18,7 @@ write_page-requires-clause-making g c =
       long,
       refl,
       refl,
-      next.keepable k g.C.Content.fits (g.H.Chooser.keeps c.args.chooser.now) v1 v2 entry ch.0 c.choose_rows.new.places (next_of v1) first ch.2 ch.3 m
+      next.keepable k g.C.Content.fits (g.H.Chooser.keeps c.args.chooser.now) v1 v2 entry ch.0 c.choose_rows.new.places (next_log_of v1) first ch.2 ch.3 m
           (ap (λ (l : List Entry). l ++ record { words = entry } ∷ []) (ch.2.goes.log ∙ wrote.goes.log) ∙ sym is),
     )
 

@@ -5,7 +5,7 @@ use Rattle.pin_rule.specs.declared.sizes.Sizes.{Sizes}
 use Rattle.pin_rule.specs.declared.view.KnownPlace.{KnownPlace}
 use Rattle.pin_rule.specs.Lists.{In}
 use Rattle.version_store.specs.Rows.{Found, IsWholeRow}
-use Rattle.version_store.specs.Stages.{IsAt}
+use Rattle.version_store.specs.Stages.{IsFoundAt}
 use Rattle.version_store.proofs.GraphRows.{whole_known, known_found, found_known}
 use Rattle.pin_rule.specs.Hands.{view_of, table_of}
 use Rattle.pin_rule.proofs.Lists.{in_at}
@@ -22,7 +22,7 @@ invariant_of-current g c = let e = c.args.self.now in
 
 pub returns : goal.returns
 returns g c = let e = c.args.self.now in let f = c.read_page.ensures.found in let v = view_of e.hand in let w = view_of c.read_page.new.hand in
-    let wholes : (o : ℕ) (x : Found) → IsAt f.0 o x → IsWholeRow x.words = λ o x a. (f.2.known o x a).is_whole in (
+    let wholes : (o : ℕ) (x : Found) → IsFoundAt f.0 o x → IsWholeRow x.words = λ o x a. (f.2.known o x a).is_whole in (
       f.0,
       subst (λ (t : TableId × ℕ). ReadsPage (editor_meaning v (table_of e.hand)) (editor_meaning w t) f.0) (sym c.read_page.ensures.table)
           (reads v w (table_of e.hand) e.sizes e.lives.newest.page f.0 e.measured (ap (λ (y : LiveVersion). y.page) e.noted.newest_is) f.1

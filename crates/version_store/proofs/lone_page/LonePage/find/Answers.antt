@@ -53,7 +53,8 @@ returns-in-PageFull g c = let p = c.args.self.now in let h = p.hand in let q = c
       (
         refl,
         (λ _. tt),
-        finds_graph F (meaning_in h) (meaning_in q) key look.PageFull (Some (rows_known v.known)) (Some (rows_known w.known)) (ap (λ (x : List (List ℕ)). Some x) graph) all,
+        finds_graph F (meaning_in h) (meaning_in q) key look.PageFull (Some (rows_known v.known)) (Some (rows_known w.known)) (ap (λ (x : List
+            (List ℕ)). Some x) graph) all,
       ),
       record {
         lent = tt;
@@ -72,12 +73,14 @@ returns-in-Initial g c = let p = c.args.self.now in let h = p.hand in let q = c.
     let e = c.in-Initial.ensures in let k = e.look in let same = e.same in let F = g.C.Content.fits in let key = c.args.key.now in
     let told = subst (λ (y : Site). IsTold (F w.log) w y.version) same.1 e.told in
     let graph = same_graph _ _ z v w key _ (glance.Initial c.in-Initial.place) k told h.measured alone known in
-    let all = subst (λ (y : Site). Finds F (meaning_of v z.page (place_in h)) (meaning_of w y.page (place_in q)) key (look.Initial c.in-Initial.place)) (sym same.1)
+    let all = subst (λ (y : Site). Finds F (meaning_of v z.page (place_in h)) (meaning_of w y.page (place_in q)) key (look.Initial c.in-Initial.place))
+    (sym same.1)
     (finds z v w (place_in h) (place_in q) k.added k.moves k.own same.0 F key (look.Initial c.in-Initial.place) h.measured k.is) in (
       (
         refl,
         (λ _. tt),
-        finds_graph F (meaning_in h) (meaning_in q) key (look.Initial c.in-Initial.place) (Some (rows_known v.known)) (Some (rows_known w.known)) (ap (λ (x : List (List ℕ)). Some x) graph) all,
+        finds_graph F (meaning_in h) (meaning_in q) key (look.Initial c.in-Initial.place) (Some (rows_known v.known)) (Some (rows_known w.known)) (ap (λ
+            (x : List (List ℕ)). Some x) graph) all,
       ),
       record { lent = tt; graph = no_row _ _ z v w key _ (glance.Initial c.in-Initial.place) k told h.measured alone known (k.knows alone); found = tt },
     )
@@ -95,7 +98,8 @@ returns-in-Found g c = let p = c.args.self.now in let h = p.hand in let q = c.lo
       (
         refl,
         (λ _. tt),
-        finds_graph F (meaning_in h) (meaning_in q) key (look.Found c.payload.result) (Some (rows_known v.known)) (Some (rows_known w.known)) (ap (λ (x : List (List ℕ)). Some x) graph) all,
+        finds_graph F (meaning_in h) (meaning_in q) key (look.Found c.payload.result) (Some (rows_known v.known)) (Some (rows_known w.known)) (ap (λ
+            (x : List (List ℕ)). Some x) graph) all,
       ),
       record {
         lent = found.fitting;

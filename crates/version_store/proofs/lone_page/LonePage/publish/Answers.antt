@@ -15,7 +15,8 @@ use Rattle.version_store.proofs.LoneHands.{sole}
 use Rattle.version_store.proofs.lone_page.LonePage.publish.Goals as goal
 
 pub invariant_of-self : goal.invariant_of-self
-invariant_of-self g c = let p = c.args.self.now in let h = p.hand in let q = c.publish.new.self in let z = site_in h in let v = view_in h in let w = view_in q in
+invariant_of-self g c = let p = c.args.self.now in let h = p.hand in let q = c.publish.new.self in let z = site_in h in let v = view_in h in let w = view_in
+    q in
     let known = known_again z.sizes v.known p.all_known in
     let alone = sole z v h.measured p.has_all p.editor p.one_version p.at_version p.at_page known in
     let e = c.publish.ensures in let same = e.same in let role = e.role in let sizes = sym (ap (λ (y : Site). y.sizes) same.1) in
@@ -36,7 +37,8 @@ invariant_of-self g c = let p = c.args.self.now in let h = p.hand in let q = c.p
     }
 
 pub returns-clause-graph : goal.returns-clause-graph
-returns-clause-graph g c = let p = c.args.self.now in let h = p.hand in let q = c.publish.new.self in let z = site_in h in let v = view_in h in let w = view_in q in
+returns-clause-graph g c = let p = c.args.self.now in let h = p.hand in let q = c.publish.new.self in let z = site_in h in let v = view_in h in let w =
+    view_in q in
     let known = known_again z.sizes v.known p.all_known in
     let alone = sole z v h.measured p.has_all p.editor p.one_version p.at_version p.at_page known in
     let e = c.publish.ensures in
