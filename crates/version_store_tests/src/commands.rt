@@ -18,9 +18,9 @@ fn tell_words(alloc: Global, told: &mut String, words: &[u64]) -> Result<(), All
 }
 
 /// Looks for the key.
-pub(crate) fn told_find(
+pub(crate) fn told_find<P: Page<AnyRow>>(
     alloc: Global,
-    page: &mut Pinned<AnyRow>,
+    page: &mut P,
     key: u64,
 ) -> Result<String, AllocError> {
     match page.find(&[key]) {
@@ -35,7 +35,11 @@ pub(crate) fn told_find(
 }
 
 /// Publishes a row.
-pub(crate) fn told_publish(page: &mut Pinned<AnyRow>, key: u64, payload: &[u64]) -> &'static str {
+pub(crate) fn told_publish<P: Page<AnyRow>>(
+    page: &mut P,
+    key: u64,
+    payload: &[u64],
+) -> &'static str {
     match page.publish(&[key], payload) {
         Put::Made => "made",
         Put::Already => "already",

@@ -4,12 +4,14 @@
 //! A line has the sizes of the table that are not the largest, how many passes there are, and commands, with a
 //! semicolon between two. A line of `threads` or of `soak` has passes and an editor work at the same time, one of
 //! `alone` has a bench that was gathered make some versions, and one of `counts` has a new bench with a log of this
-//! size make so many. The output that is wanted was worked out from the definitions.
+//! size make so many. A line of `lone` has a new bench with so many rows pin its version, and look for and publish so
+//! many keys. The output that is wanted was worked out from the definitions.
 #![tactic(auto)]
 
 mod alone;
 mod commands;
 mod keep_even;
+mod lone;
 mod sizes;
 mod story;
 mod working;
@@ -29,6 +31,10 @@ fn told_line<R: Threads + Sync>(rt: &HostRuntime, threads: &R, line: &str) -> io
     if let Some(counts) = line.strip_prefix("counts ") {
         let (log, edits) = counts.split_once(' ').unwrap_or((counts, "1"));
         return Ok(alone::told_counts(rt.alloc(), number(log), number(edits))?);
+    }
+    if let Some(counts) = line.strip_prefix("lone ") {
+        let (rows, keys) = counts.split_once(' ').unwrap_or((counts, "1"));
+        return Ok(lone::told_lone(rt.alloc(), number(rows), number(keys))?);
     }
     if let Some(edits) = line.strip_prefix("alone ") {
         return Ok(alone::told_alone(rt.alloc(), number(edits))?);
