@@ -1,7 +1,7 @@
 //! Loans over two threads, and one that is dropped.
 
 ghost use Rattle.std.specs.Prelude.{◌≡◌};
-ghost use Rattle.lend.specs.Loans.{value_of, age_of, parts_of};
+ghost use Rattle.lend.specs.Loans.{value_of, age_of, parts_of, HasLender};
 
 use crate::loan::Loan;
 use std::test::Fail;
@@ -14,8 +14,8 @@ fn two_threads_read_one_value(rt: HostRuntime) -> Result<(), Fail> {
     let ((mut mine, left), (theirs, right)) = thread::join(
         &rt,
         move || -> (Loan<u64>, u64)
-            requires { (parts_of mine ≡ 2147483648) × (value_of mine ≡ 41) }
-            ensures { (parts_of result.0 ≡ parts_of mine) × (age_of result.0 ≡ age_of mine) × (result.1 ≡ 41) }
+            requires { (parts_of mine ≡ 2147483648) × (value_of mine ≡ 41) × HasLender mine }
+            ensures { (parts_of result.0 ≡ parts_of mine) × (age_of result.0 ≡ age_of mine) × (result.1 ≡ 41) × HasLender result.0 }
         {
             let read = *mine.value();
             (mine, read)
