@@ -1,0 +1,4 @@
+pub mod OneReply
+pub mod ReplySteps
+pub mod TokenKinds
+pub mod EditedLogs
