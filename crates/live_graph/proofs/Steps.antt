@@ -33,7 +33,7 @@ use Rattle.graph_content.specs.Rows.{IsPayloadOf}
 use Rattle.live_graph.specs.declared.origin.Origin.{Origin}
 use Rattle.live_graph.specs.declared.origin.Origin.TheVariants.{Found, Made, Raced, Alone}
 use Rattle.live_graph.specs.Showing.{StandsAmong, Comes, HasStepped, IsNarrow, IsWide, HasNoRow, HasNoPlace, WasFound, WasMade, WasThere, ShowsKey, Came}
-use Rattle.live_graph.specs.Showing.Shows.{found, made, met, no_row, no_place}
+use Rattle.live_graph.specs.Showing.ShowsKey.{found, made, met, no_row, no_place}
 
 -- ---- parts
 
