@@ -1,5 +1,5 @@
-use Rattle.std.proofs.Common.{◌≡◌, sym, ◌∙◌, subst, Some, None}
-use Rattle.row_coding.specs.Rows.{scan, key_words}
+use Rattle.std.proofs.Common.{◌≡◌, sym, ◌∙◌, subst, None}
+use Rattle.row_coding.specs.Rows.{scan}
 use Rattle.slot_store.specs.Keys.{row_of}
 use Rattle.graph_content.specs.Contents.{FitsLog}
 use Rattle.live_graph.specs.Answers.{CodesScan, HasLooked}
@@ -48,6 +48,6 @@ returns-clause-came g c =
     c.in_ok-expansion.ensures.looks) in
     offered_came CodesScan c.args.grammar.now.grammar (g.P.Page.means c.args.page.now) (g.P.Page.means c.find_scan.new.page)
     (g.P.Page.means c.offer-origin.new.page) (scan c.args.state.now) c.deref-2.result.now c.in_ok-payload.payload.items c.deref-3.result.now
-    (c.deref-2.ensures.value ∙ c.in_ok-key.ensures.words) c.offer-origin.result
+    (c.deref-2.ensures.value ∙ c.in_ok-key.ensures.words) c.offer-origin.result c.is_state.ensures
     (c.in_ok-expansion-2.expansion, c.in_ok-expansion-2.ensures.expansion, c.in_ok-payload.ensures.words) c.deref-3.ensures.value looked
     c.offer-origin.ensures
