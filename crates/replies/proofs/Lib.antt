@@ -1,4 +1,1 @@
-pub mod OneReply
-pub mod TokenKinds
 pub mod KnownReplies
-pub mod ReplySteps

@@ -1,4 +1,3 @@
 pub mod Lines
-pub mod Replies
 pub mod Known
-pub mod Blocks
+pub mod Replies

@@ -1,0 +1,4 @@
+pub mod Commands
+pub mod Replies
+pub mod Editing
+pub mod Alone

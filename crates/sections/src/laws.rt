@@ -1,0 +1,12 @@
+//! What the definition of a reply says.
+
+ghost use Rattle.std.specs.Prelude.{◌≡◌};
+ghost use Rattle.script_text.specs.declared.command.Command.{Command};
+ghost use Rattle.edit_log.specs.History.{Grammar};
+ghost use Rattle.sections.specs.declared.reply.Reply.{Reply};
+ghost use Rattle.sections.specs.Replies.{IsReply};
+
+/// A command has at most one reply under a grammar.
+pub fn one_reply()
+    ensures { (grammar : Grammar) (command : Command) (a b : Reply) → IsReply grammar command a → IsReply grammar command b → a ≡ b }
+{}
