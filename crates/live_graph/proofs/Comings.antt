@@ -12,7 +12,7 @@ use Rattle.live_graph.specs.declared.origin.Origin.{Origin}
 use Rattle.live_graph.specs.declared.origin.Origin.TheVariants.{Found, Made, Raced, Alone}
 use Rattle.live_graph.specs.Showing.{StandsAmong, Comes, Came}
 use Rattle.live_graph.specs.Answers.{IsMissing, Looks, HasLooked, WasOffered, HasOffered, HasCome}
-use Rattle.live_graph.proofs.Steps.{whole_part, comes_join}
+use Rattle.live_graph.proofs.Steps.{whole_part, comes_join, passes_comes}
 use Rattle.live_graph.proofs.RowsOfKeys.{codes}
 
 module _ {E : Type 0} (Codes : List ℕ → E → Type 0) (grammar : Grammar) (m n : PageMeaning) (key : Key) (words : List ℕ) (words_are : words ≡ key_words key)
@@ -34,14 +34,12 @@ module _ {E : Type 0} (Codes : List ℕ → E → Type 0) (grammar : Grammar) (m
         → HasCome grammar m n key Found
     found_came expansion is names looked_at =
         let looked : HasLooked Codes m n (key_words key) (Some expansion) = subst (λ k. HasLooked Codes m n k (Some expansion)) words_are looked_at in
-        let payload = looked.looks.0 in record {
+        let payload = looked.looks.0 in
+        let coded : IsPayloadOf grammar key payload = codes m.log grammar is key payload names looked.looks.2.fitting in
+        record {
           added = looked.added;
-          comes = looked.comes;
-          came = (
-            payload,
-            codes m.log grammar is key payload names looked.looks.2.fitting,
-            record { look = looked.added; part = whole_part looked.added; found = looked.looks.2 },
-          );
+          comes = passes_comes m n looked.added looked.passes;
+          came = (payload, coded, record { look = looked.added; part = whole_part looked.added; found = looked.looks.2 });
         }
 
 -- a part that ends the steps
@@ -75,20 +73,22 @@ module _ (grammar : Grammar) (m : PageMeaning) (key : Key) (payload : List ℕ) 
 
 module _ {E : Type 0} (Codes : List ℕ → E → Type 0) (grammar : Grammar) (m middle n : PageMeaning) (key : Key) (words payload_words payload : List ℕ)
     (words_are : words ≡ key_words key) where
-  pub offered_came : (origin : Origin) → IsPayloadOf grammar key payload_words → payload ≡ payload_words → HasLooked Codes m middle words None
-      → HasOffered middle n words payload origin → HasCome grammar m n key origin
-  offered_came origin pays payload_is looked_at offered_at =
+  pub offered_came : (origin : Origin) → IsKey grammar key → IsPayloadOf grammar key payload_words → payload ≡ payload_words
+      → HasLooked Codes m middle words None → HasOffered middle n words payload origin → HasCome grammar m n key origin
+  offered_came origin names pays payload_is looked_at offered_at =
       let looked : HasLooked Codes m middle (key_words key) None = subst (λ k. HasLooked Codes m middle k None) words_are looked_at in
       let same_words : HasOffered middle n (key_words key) payload_words origin =
       subst (λ k. HasOffered middle n k payload_words origin) words_are (subst (λ p. HasOffered middle n words p origin) payload_is offered_at) in
       let offered : HasOffered (extended m looked.added) n (key_words key) payload_words origin =
-      subst (λ k. HasOffered k n (key_words key) payload_words origin) looked.comes.is same_words in
+      subst (λ k. HasOffered k n (key_words key) payload_words origin) looked.passes.is same_words in
       record {
         added = looked.added ++ offered.added;
-        comes = comes_join looked.comes (subst (λ k. Comes k n offered.added) (sym looked.comes.is) offered.comes);
+        comes =
+            comes_join (passes_comes m middle looked.added looked.passes)
+            (subst (λ k. Comes k n offered.added) (sym looked.passes.is) offered.comes);
         came = came_offered grammar m key payload_words pays looked.added looked.looks offered.added origin offered.offers;
       }
 
 pub log_after_look : {E : Type 0} (Codes : List ℕ → E → Type 0) (m n : PageMeaning) (words : List ℕ) (found : Option E) → HasLooked Codes m n words found
     → n.log ≡ m.log
-log_after_look Codes m n words found looked = ap (λ (k : PageMeaning). k.log) looked.comes.is
+log_after_look Codes m n words found looked = ap (λ (k : PageMeaning). k.log) looked.passes.is

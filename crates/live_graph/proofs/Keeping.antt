@@ -1,5 +1,5 @@
 -- What a graph over a page keeps stays true of it, whichever key is asked for.
-use Rattle.std.proofs.Common.{◌≡◌, ◌⊎◌, inl, inr, ℕ, ◌<◌, List, [], ◌∷◌, ◌++◌, Result, Ok, Err, OnOk, OnErr, length, Contains, refl, sym, ap, ◌∙◌, subst, arith}
+use Rattle.std.proofs.Common.{◌≡◌, ◌⊎◌, inl, inr, ℕ, ◌<◌, List, [], Option, ◌∷◌, ◌++◌, Result, Ok, Err, OnOk, OnErr, length, Contains, refl, sym, ap, ◌∙◌, subst, arith}
 use Rattle.std.proofs.lemmas.List.Elements.{Contains-push_cases}
 use Rattle.forest.specs.Distinct.{IsDistinct}
 use Rattle.edit_log.specs.History.{Grammar}
@@ -10,28 +10,32 @@ use Rattle.isg_states.specs.declared.scan_key.ScanKey.{ScanKey}
 use Rattle.isg_states.specs.declared.ranges.ScanExpansion.{ScanExpansion}
 use Rattle.pin_rule.specs.declared.view.Step.{Step}
 use Rattle.row_coding.specs.Rows.{Key}
-use Rattle.slot_store.specs.Meaning.{Meaning as PageMeaning, extended}
+use Rattle.slot_store.specs.Meaning.{Meaning as PageMeaning, with_graph, extended}
 use Rattle.graph_content.specs.Contents.{IsLogOfGrammar}
 use Rattle.live_graph.specs.declared.origin.Origin.{Origin}
 use Rattle.live_graph.specs.declared.origin.Origin.TheVariants.{Found, Made, Raced, Alone}
 use Rattle.live_graph.specs.declared.answer.Answer.{Answer}
 use Rattle.live_graph.specs.Sharing.{keys_in}
 use Rattle.live_graph.specs.Ending.{EndsShown}
-use Rattle.live_graph.specs.Showing.{Comes, HasStepped, HasNoRow, HasNoPlace, WasFound, WasMade, WasThere, Came}
+use Rattle.live_graph.specs.Showing.{Comes, HasNoRow, HasNoPlace, WasFound, WasMade, WasThere, Came}
 use Rattle.live_graph.specs.Answers.{HasCome, AddsKey, origins, HoldsAnswers, HoldsOrigins, ExpandsKernel, ExpandsScan, kernel_key, scan_key, IsKept}
 use Rattle.live_graph.proofs.Steps.{came_before, came_behind, shown, comes_join, comes_none}
 use Rattle.live_graph.proofs.KeptAnswers.{origins_push, keys_push}
+use Rattle.live_graph.proofs.KeptGrowth.{HasGrown}
 
 -- ---- a page with more steps is the same page
 
-module _ (m : PageMeaning) (more steps : List Step) where
-  no_row_of : {key : List ℕ} → HasNoRow (extended m more) steps key → HasNoRow m steps key
+module _ (m : PageMeaning) (told : Option (List (List ℕ))) (more steps : List Step) where
+  abbrev later : PageMeaning
+  later = extended (with_graph m told) more
+
+  no_row_of : {key : List ℕ} → HasNoRow later steps key → HasNoRow m steps key
   no_row_of h = record { look = h.look; claims = h.claims; part = h.part; place = h.place; initial = h.initial; full = h.full }
 
-  no_place_of : {key : List ℕ} → HasNoPlace (extended m more) steps key → HasNoPlace m steps key
+  no_place_of : {key : List ℕ} → HasNoPlace later steps key → HasNoPlace m steps key
   no_place_of h = record { walk = h.walk; part = h.part; full = h.full }
 
-  came_of : (grammar : Grammar) (key : Key) (origin : Origin) → Came (extended m more) steps grammar key origin → Came m steps grammar key origin
+  came_of : (grammar : Grammar) (key : Key) (origin : Origin) → Came later steps grammar key origin → Came m steps grammar key origin
   came_of grammar key Found (payload, codes, was) = (payload, codes, record { look = was.look; part = was.part; found = was.found })
   came_of grammar key Made (payload, codes, was) = (payload, codes, record { call = was.call; part = was.part; made = was.made })
   came_of grammar key Raced was = record { call = was.call; part = was.part; already = was.already }
@@ -39,33 +43,13 @@ module _ (m : PageMeaning) (more steps : List Step) where
   came_of grammar key Alone (inr (inl none)) = inr (inl (no_row_of none))
   came_of grammar key Alone (inr (inr none)) = inr (inr (no_place_of none))
 
-came_on : (basis page : PageMeaning) (added steps : List Step) (grammar : Grammar) (key : Key) (origin : Origin) → page ≡ extended basis added
-    → Came page steps grammar key origin → Came basis (added ++ steps) grammar key origin
+came_on : (basis page : PageMeaning) (added steps : List Step) (grammar : Grammar) (key : Key) (origin : Origin)
+    → page ≡ extended (with_graph basis page.graph) added → Came page steps grammar key origin → Came basis (added ++ steps) grammar key origin
 came_on basis page added steps grammar key origin is came =
     came_behind basis added steps grammar key origin
-    (came_of basis added steps grammar key origin (subst (λ m. Came m steps grammar key origin) is came))
+    (came_of basis page.graph added steps grammar key origin (subst (λ m. Came m steps grammar key origin) is came))
 
 -- ---- one key more of one kind
-
--- steps came, and nothing was kept, or one key more
-pub record HasGrown {K E : Type 0} (grammar : Grammar) (as_key : K → Key) (page next : PageMeaning) (old new : List (K × Answer E)) : Type 0 where
-  pub more : List Step
-  pub comes : Comes page next more
-  pub kept : (new ≡ old) ⊎ ((key : K) × (answer : Answer E) × (Contains (keys_in (origins old)) key → ⊥) × (new ≡ old ++ (key, answer) ∷ [])
-      × Came page more grammar (as_key key) answer.origin)
-
-pub grown : {K E : Type 0} (grammar : Grammar) (as_key : K → Key) (page next : PageMeaning) (key : K) (old new : List (K × Answer E))
-    → AddsKey grammar as_key page next key old new → HasGrown grammar as_key page next old new
-grown grammar as_key page next key old new (inl (same, kept)) = record {
-  more = [];
-  comes = subst (λ m. Comes page m []) (sym same) (comes_none page);
-  kept = inl kept;
-}
-grown grammar as_key page next key old new (inr (answer, new_key, kept, come)) = record {
-  more = come.added;
-  comes = come.comes;
-  kept = inr (key, answer, new_key, kept, come.came);
-}
 
 module _ {K : Type 0} (as_key : K → Key) (basis : PageMeaning) (added more : List Step) (grammar : Grammar) where
   pub origins_stay : (kept : List (K × Origin)) → HoldsOrigins as_key basis added grammar kept → HoldsOrigins as_key basis (added ++ more) grammar kept
@@ -82,24 +66,25 @@ module _ {K : Type 0} (as_key : K → Key) (basis : PageMeaning) (added more : L
       ]
 
 origins_grown : {K E : Type 0} (grammar : Grammar) (as_key : K → Key) (basis page next : PageMeaning) (added : List Step) (old new : List (K × Answer E))
-    → page ≡ extended basis added → (grown : HasGrown grammar as_key page next old new) → HoldsOrigins as_key basis added grammar (origins old)
+    → page ≡ extended (with_graph basis page.graph) added → (grown : HasGrown grammar as_key page next old new) → HoldsOrigins as_key basis added grammar (origins old)
     → HoldsOrigins as_key basis (added ++ grown.more) grammar (origins new)
 origins_grown grammar as_key basis page next added old new is grown holds = elim grown.kept [
   | inl same ↦
       subst (λ kept. HoldsOrigins as_key basis (added ++ grown.more) grammar (origins kept)) (sym same)
       (origins_stay as_key basis added grown.more grammar (origins old) holds)
-  | inr (key, answer, new_key, longer, came) ↦
-      origins_grow as_key basis added grown.more grammar old new key answer longer holds
-      (came_on basis page added grown.more grammar (as_key key) answer.origin is came)
+  | inr gained ↦
+      origins_grow as_key basis added grown.more grammar old new gained.key gained.answer gained.longer holds
+      (came_on basis page added grown.more grammar (as_key gained.key) gained.answer.origin is gained.came)
 ]
 
 once_grown : {K E : Type 0} (grammar : Grammar) (as_key : K → Key) (page next : PageMeaning) (old new : List (K × Answer E))
     → HasGrown grammar as_key page next old new → IsDistinct (keys_in (origins old)) → IsDistinct (keys_in (origins new))
 once_grown grammar as_key page next old new grown once = elim grown.kept [
   | inl same ↦ subst (λ kept. IsDistinct (keys_in (origins kept))) (sym same) once
-  | inr (key, answer, new_key, longer, came) ↦
-      subst (λ kept. IsDistinct (keys_in kept)) (sym (ap origins longer ∙ origins_push old key answer))
-      (subst IsDistinct (sym (keys_push (origins old) key answer.origin)) (distinct_push (keys_in (origins old)) key once new_key))
+  | inr gained ↦
+      subst (λ kept. IsDistinct (keys_in kept)) (sym (ap origins gained.longer ∙ origins_push old gained.key gained.answer))
+      (subst IsDistinct (sym (keys_push (origins old) gained.key gained.answer.origin))
+      (distinct_push (keys_in (origins old)) gained.key once gained.new_key))
 ]
 
 -- ---- what is kept of both kinds
@@ -137,13 +122,6 @@ module _ (grammar : Grammar) (basis page next : PageMeaning) (scans : List (Scan
     few_scans = few;
     few_kernels = kept.few_kernels;
   }
-
--- whether the call was refused or not
-pub grown_or_later : {K E V F : Type 0} (result : Result V F) (grammar : Grammar) (as_key : K → Key) (page next : PageMeaning) (key : K)
-    (old new : List (K × Answer E)) → OnOk result (AddsKey grammar as_key page next key old new) → OnErr result (new ≡ old)
-    → OnErr result (HasStepped page next) → HasGrown grammar as_key page next old new
-grown_or_later (Ok value) grammar as_key page next key old new grows same later = grown grammar as_key page next key old new grows
-grown_or_later (Err cause) grammar as_key page next key old new grows same (more, comes) = record { more = more; comes = comes; kept = inl same }
 
 -- ---- at first and at the end
 

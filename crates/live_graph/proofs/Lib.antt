@@ -8,4 +8,5 @@ pub mod NextEdits
 pub mod TallyCounts
 pub mod Comings
 pub mod KeptAnswers
+pub mod KeptGrowth
 pub mod Keeping

@@ -27,13 +27,14 @@ use Rattle.edit_log.specs.History.{Grammar}
 use Rattle.pin_rule.specs.declared.view.Step.{Step}
 use Rattle.pin_rule.proofs.Lists.{each_append}
 use Rattle.row_coding.specs.Rows.{Key, key_words}
-use Rattle.slot_store.specs.Meaning.{Meaning as PageMeaning, extended}
+use Rattle.slot_store.specs.Meaning.{Meaning as PageMeaning, with_graph, extended}
 use Rattle.slot_store.specs.Quiet.{IsQuiet}
 use Rattle.graph_content.specs.Rows.{IsPayloadOf}
 use Rattle.live_graph.specs.declared.origin.Origin.{Origin}
 use Rattle.live_graph.specs.declared.origin.Origin.TheVariants.{Found, Made, Raced, Alone}
 use Rattle.live_graph.specs.Showing.{StandsAmong, Comes, HasStepped, IsNarrow, IsWide, HasNoRow, HasNoPlace, WasFound, WasMade, WasThere, ShowsKey, Came}
-use Rattle.live_graph.specs.Showing.Shows.{found, made, met, no_row, no_place}
+use Rattle.live_graph.specs.Showing.ShowsKey.{found, made, met, no_row, no_place}
+use Rattle.live_graph.specs.Answers.{Passes, HasPassed}
 
 -- ---- parts
 
@@ -110,15 +111,26 @@ steps_of m one other = ap (λ all. record m { steps = all }) (append_assoc m.ste
 
 pub comes_join : {old middle new : PageMeaning} {one other : List Step} → Comes old middle one → Comes middle new other → Comes old new (one ++ other)
 comes_join {old} {middle} {new} {one} {other} first second = record {
-  is = second.is ∙ ap (λ m. extended m other) first.is ∙ steps_of old one other;
+  is = second.is ∙ ap (λ m. extended (with_graph m new.graph) other) first.is ∙ steps_of (with_graph old new.graph) one other;
   quiet = each_append IsQuiet one other first.quiet second.quiet;
 }
 
 pub comes_none : (m : PageMeaning) → Comes m m []
 comes_none m = record { is = ap (λ all. record m { steps = all }) (sym (append-nil m.steps)); quiet = tt }
 
-pub later_join : (old middle new : PageMeaning) → HasStepped old middle → HasStepped middle new → HasStepped old new
-later_join old middle new (one, first) (other, second) = (one ++ other, comes_join first second)
+-- ---- and the graph stayed
 
-pub later_none : (m : PageMeaning) → HasStepped m m
-later_none m = ([], comes_none m)
+pub passes_none : (m : PageMeaning) → Passes m m []
+passes_none m = record { is = ap (λ all. record m { steps = all }) (sym (append-nil m.steps)); quiet = tt }
+
+pub same_graph : (old new : PageMeaning) (added : List Step) → Passes old new added → new.graph ≡ old.graph
+same_graph old new added passes = ap (λ (m : PageMeaning). m.graph) passes.is
+
+pub passes_comes : (old new : PageMeaning) (added : List Step) → Passes old new added → Comes old new added
+passes_comes old new added passes = record {
+  is = passes.is ∙ ap (λ graph. extended (with_graph old graph) added) (sym (same_graph old new added passes));
+  quiet = passes.quiet;
+}
+
+pub passed_none : (m : PageMeaning) → HasPassed m m
+passed_none m = ([], passes_none m)

@@ -10,7 +10,9 @@ use Rattle.isg_states.specs.declared.ranges.ScanExpansion.{ScanExpansion}
 use Rattle.isg_states.specs.Expansion.{IsScanExpansionOf}
 use Rattle.pin_rule.specs.declared.sizes.Sizes.{Sizes}
 use Rattle.pin_rule.specs.declared.view.Step.{Step}
-use Rattle.slot_store.specs.Meaning.{Meaning as PageMeaning}
+use Rattle.pin_rule.specs.Lists.{Each}
+use Rattle.slot_store.specs.Meaning.{Meaning as PageMeaning, extended}
+use Rattle.slot_store.specs.Quiet.{IsQuiet}
 use Rattle.slot_store.specs.Answers.{IsFound, IsMade, IsAlready, IsPageFull, IsPoolFull, IsInitial}
 use Rattle.row_coding.specs.Words.{item_payload_words, scan_payload_words}
 use Rattle.row_coding.specs.Conditions.{FitsCoding, IsTyped, FitsScanCoding, IsTypedScan}
@@ -40,16 +42,25 @@ CanReadScan payload = (coded : ScanExpansion) × FitsScanCoding coded × IsTyped
 abbrev pub IsMissing : Sizes → ℕ → List Step → List ℕ → Type 0
 IsMissing z page added key = ((place : ℕ) × IsInitial z page added key place) ⊎ IsPageFull z page added key
 
--- by these steps a row was found whose payload codes the expansion, or none
-abbrev pub Looks : {E : Type 0} → (List ℕ → E → Type 0) → (List ℕ → Type 0) → Sizes → ℕ → List Step → List ℕ → Option E → Type 0
-Looks Codes fits z page added key None = IsMissing z page added key
-Looks Codes fits z page added key (Some expansion) = (payload : List ℕ) × Codes payload expansion × IsFound z page added fits key payload
+-- by the steps that were added to those of the page a row was found whose payload codes the expansion, or none
+abbrev pub Looks : {E : Type 0} → (List ℕ → E → Type 0) → PageMeaning → List Step → List ℕ → Option E → Type 0
+Looks Codes m added key None = IsMissing m.sizes m.page added key
+Looks Codes m added key (Some expansion) = (payload : List ℕ) × Codes payload expansion × IsFound m.sizes m.page added (FitsLog m.log) key payload
+
+-- only these steps came, none of which pins or changes a version, and the graph is as it was
+pub record Passes (old new : PageMeaning) (added : List Step) : Type 0 where
+  pub is : new ≡ extended old added
+  pub quiet : Each IsQuiet added
+
+-- some such steps came
+abbrev pub HasPassed : PageMeaning → PageMeaning → Type 0
+HasPassed old new = (added : List Step) × Passes old new added
 
 -- the look added only its steps
 pub record HasLooked {E : Type 0} (Codes : List ℕ → E → Type 0) (old new : PageMeaning) (key : List ℕ) (found : Option E) : Type 0 where
   pub added : List Step
-  pub comes : Comes old new added
-  pub looks : Looks Codes (FitsLog old.log) old.sizes old.page added key found
+  pub passes : Passes old new added
+  pub looks : Looks Codes old added key found
 
 -- why a row that was to be published was or was not
 abbrev pub WasOffered : Sizes → ℕ → List Step → (key payload : List ℕ) → Origin → Type 0

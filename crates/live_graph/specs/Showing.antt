@@ -5,7 +5,7 @@ use Rattle.pin_rule.specs.declared.sizes.Sizes.{Sizes}
 use Rattle.pin_rule.specs.declared.view.Step.{Step}
 use Rattle.pin_rule.specs.Lists.{Each}
 use Rattle.row_coding.specs.Rows.{Key, key_words}
-use Rattle.slot_store.specs.Meaning.{Meaning as PageMeaning, extended}
+use Rattle.slot_store.specs.Meaning.{Meaning as PageMeaning, with_graph, extended}
 use Rattle.slot_store.specs.Quiet.{IsQuiet}
 use Rattle.slot_store.specs.Answers.{IsFound, IsMade, IsAlready, IsPageFull, IsPoolFull, IsInitial}
 use Rattle.graph_content.specs.Rows.{IsPayloadOf}
@@ -19,9 +19,9 @@ pub record StandsAmong (part steps : List Step) : Type 0 where
   pub after : List Step
   pub is : steps ≡ before ++ (part ++ after)
 
--- only these steps came, none of which pins or changes a version
+-- only these steps came, none of which pins or changes a version; and the graph, where the page tells it, may be another
 pub record Comes (old new : PageMeaning) (added : List Step) : Type 0 where
-  pub is : new ≡ extended old added
+  pub is : new ≡ extended (with_graph old new.graph) added
   pub quiet : Each IsQuiet added
 
 -- some such steps came

@@ -5,8 +5,7 @@ ghost use Rattle.item_sets.specs.declared.expansion.Expansion.{Expansion as AnEx
 ghost use Rattle.isg_states.specs.declared.ranges.ScanExpansion.{ScanExpansion as AScanExpansion};
 ghost use Rattle.slot_store.specs.Keys.{row_of};
 ghost use Rattle.graph_content.specs.Contents.{FitsLog};
-ghost use Rattle.live_graph.specs.Showing.{HasStepped};
-ghost use Rattle.live_graph.specs.Answers.{HasLooked, CodesItems, CodesScan, CanReadItems, CanReadScan};
+ghost use Rattle.live_graph.specs.Answers.{HasPassed, HasLooked, CodesItems, CodesScan, CanReadItems, CanReadScan};
 
 use crate::NoMemory;
 use graph_content::{GraphRows, read_items, read_scan};
@@ -24,7 +23,7 @@ pub(crate) fn find_items<P: Page<GraphRows>>(
     requires key { 0 < length key.now }
     requires readable { (payload : List ℕ) → FitsLog (P.means page.old).log (row_of key.now payload) → CanReadItems payload }
     ensures looks { IfOk result (HasLooked CodesItems (P.means page.old) (P.means page.new) key.now) }
-    ensures refused { OnErr result (HasStepped (P.means page.old) (P.means page.new)) }
+    ensures refused { OnErr result (HasPassed (P.means page.old) (P.means page.new)) }
 {
     match page.find(key) {
         Look::Found(payload) => {
@@ -45,7 +44,7 @@ pub(crate) fn find_scan<P: Page<GraphRows>>(
     requires key { 0 < length key.now }
     requires readable { (payload : List ℕ) → FitsLog (P.means page.old).log (row_of key.now payload) → CanReadScan payload }
     ensures looks { IfOk result (HasLooked CodesScan (P.means page.old) (P.means page.new) key.now) }
-    ensures refused { OnErr result (HasStepped (P.means page.old) (P.means page.new)) }
+    ensures refused { OnErr result (HasPassed (P.means page.old) (P.means page.new)) }
 {
     match page.find(key) {
         Look::Found(payload) => {

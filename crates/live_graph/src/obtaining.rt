@@ -5,8 +5,7 @@ ghost use Rattle.item_sets.specs.Prefixes.{AreItems};
 ghost use Rattle.item_sets.specs.Expansions.{IsCost};
 ghost use Rattle.isg_states.specs.Expansion.{AreMarks, IsScanCost};
 ghost use Rattle.graph_content.specs.Contents.{IsLogOfGrammar};
-ghost use Rattle.live_graph.specs.Showing.{HasStepped};
-ghost use Rattle.live_graph.specs.Answers.{HasCome, Pays, ExpandsKernel, ExpandsScan, kernel_key, scan_key};
+ghost use Rattle.live_graph.specs.Answers.{HasPassed, HasCome, Pays, ExpandsKernel, ExpandsScan, kernel_key, scan_key};
 
 use crate::NoMemory;
 use crate::answer::Answer;
@@ -37,7 +36,7 @@ pub(crate) fn obtain_items<P: Page<GraphRows>, L: Ledger>(
     ensures expansion { IfOk result (λ answer. ExpandsKernel grammar.now.grammar kernel.now answer.expansion) }
     ensures came { IfOk result (λ answer. HasCome grammar.now.grammar (P.means page.old) (P.means page.new) (kernel_key kernel.now) answer.origin) }
     ensures pays { IfOk result (λ answer. Pays (IsCost grammar.now.grammar.rules) kernel.now answer.origin steps.old steps.new) }
-    ensures refused { OnErr result (HasStepped (P.means page.old) (P.means page.new)) }
+    ensures refused { OnErr result (HasPassed (P.means page.old) (P.means page.new)) }
     ensures never_back { steps.old ≤ steps.new }
 {
     is_kernel(grammar, kernel);
@@ -68,7 +67,7 @@ pub(crate) fn obtain_scan<P: Page<GraphRows>, L: Ledger>(
     ensures expansion { IfOk result (λ answer. ExpandsScan grammar.now.grammar state.now answer.expansion) }
     ensures came { IfOk result (λ answer. HasCome grammar.now.grammar (P.means page.old) (P.means page.new) (scan_key state.now) answer.origin) }
     ensures pays { IfOk result (λ answer. Pays (IsScanCost grammar.now.grammar) state.now answer.origin steps.old steps.new) }
-    ensures refused { OnErr result (HasStepped (P.means page.old) (P.means page.new)) }
+    ensures refused { OnErr result (HasPassed (P.means page.old) (P.means page.new)) }
     ensures never_back { steps.old ≤ steps.new }
 {
     is_state(grammar, state);

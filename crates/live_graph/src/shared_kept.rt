@@ -7,8 +7,7 @@ ghost use Rattle.isg_states.specs.Expansion.{AreMarks, IsScanCost};
 ghost use Rattle.graph_content.specs.Contents.{IsLogOfGrammar};
 ghost use Rattle.live_graph.specs.Asking.{Asks};
 ghost use Rattle.live_graph.specs.Sharing.{asked_with};
-ghost use Rattle.live_graph.specs.Showing.{HasStepped};
-ghost use Rattle.live_graph.specs.Answers.{HoldsAnswers, StandsAnswer, AddsKey, origins, ExpandsKernel, ExpandsScan, kernel_key, scan_key};
+ghost use Rattle.live_graph.specs.Answers.{HasPassed, HoldsAnswers, StandsAnswer, AddsKey, origins, ExpandsKernel, ExpandsScan, kernel_key, scan_key};
 
 use crate::NoMemory;
 use crate::answer::Answer;
@@ -46,7 +45,7 @@ pub(crate) fn place_of_items<P: Page<GraphRows>, L: Ledger>(
     ensures holds { HoldsAnswers (ExpandsKernel grammar.now.grammar) kept.new.entries }
     ensures few { length kept.new.entries < 4294967296 }
     ensures refused { OnErr result (kept.new.entries ≡ kept.old.entries) }
-    ensures later { OnErr result (HasStepped (P.means page.old) (P.means page.new)) }
+    ensures later { OnErr result (HasPassed (P.means page.old) (P.means page.new)) }
     ensures never_back { steps.old ≤ steps.new }
 {
     if let Some(place) = kept.get_index_of(kernel) {
@@ -82,7 +81,7 @@ pub(crate) fn place_of_scan<P: Page<GraphRows>, L: Ledger>(
     ensures holds { HoldsAnswers (ExpandsScan grammar.now.grammar) kept.new.entries }
     ensures few { length kept.new.entries < 4294967296 }
     ensures refused { OnErr result (kept.new.entries ≡ kept.old.entries) }
-    ensures later { OnErr result (HasStepped (P.means page.old) (P.means page.new)) }
+    ensures later { OnErr result (HasPassed (P.means page.old) (P.means page.new)) }
     ensures never_back { steps.old ≤ steps.new }
 {
     if let Some(place) = kept.get_index_of(state) {

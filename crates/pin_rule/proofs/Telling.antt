@@ -1,8 +1,10 @@
 -- What the rule says of one view that has a share, and of the word that an operation met.
-use Rattle.std.proofs.Common.{◌≡◌, ◌≢◌, ℕ, suc, ◌+◌, ◌<◌, ◌≤◌, List, length, length-append, inl, inr, take, slice_index, sym, refl, ap, ◌∙◌, subst, arith}
+use Rattle.std.proofs.Common.{◌≡◌, ◌≢◌, ℕ, suc, ◌+◌, ◌<◌, ◌≤◌, List, [], ◌∷◌, map, length, length-append, inl, inr, take, slice_index, sym, refl, ap, ◌∙◌, subst, arith}
 use mathlib.Core.Option as maybe
 use lib.ListN.{get_elem?}
-use Rattle.std.specs.Prelude.{Some}
+use Rattle.std.specs.Prelude.{Some, None}
+use mathlib.Core.Logic.{dite}
+use native.Mathlib.Decide.{ℕ_discrete}
 use Rattle.pin_rule.specs.declared.sizes.Sizes.{Sizes}
 use Rattle.pin_rule.specs.declared.content.Entry.{Entry}
 use Rattle.pin_rule.specs.declared.view.View.{View}
@@ -10,38 +12,26 @@ use Rattle.pin_rule.specs.declared.view.Live.{Live}
 use Rattle.pin_rule.specs.declared.view.KnownPlace.{KnownPlace}
 use Rattle.pin_rule.specs.declared.view.Older.{Older}
 use Rattle.pin_rule.specs.declared.view.Role.{Role}
+use Rattle.pin_rule.specs.declared.view.OwnRow.{OwnRow}
 use Rattle.pin_rule.specs.declared.ops.Op.{Op}
 use Rattle.pin_rule.specs.declared.ops.Op.TheVariants as op
 use Rattle.atomic_table.proofs.Lists.{at_longer}
-use Rattle.pin_rule.specs.Layout.{release, entry, row_at, version_named, page_named}
+use Rattle.pin_rule.specs.Layout.{release, entry, claim, row_at, version_named, page_named}
 use Rattle.pin_rule.specs.Ops.{word_of, IsIn}
 use Rattle.pin_rule.specs.Lists.{In}
 use Rattle.pin_rule.specs.Rows.{key_of, content_of}
-use Rattle.pin_rule.specs.Views.{whole, now, IsLive}
-use Rattle.pin_rule.specs.Pages.{IsEntry}
+use Rattle.pin_rule.specs.Views.{whole, now, OwnsAt, IsLive}
+use Rattle.pin_rule.specs.Pages.{IsEntry, IsHeld, IsHeldLive}
 use Rattle.pin_rule.specs.PartLive.{pins_on}
 use Rattle.pin_rule.specs.PartClaims.{StandsIn}
 use Rattle.pin_rule.specs.PartFacts.{HasEntry, EntryStands, WordStands, IsKnown}
 use Rattle.pin_rule.specs.Lawful.{Lawful}
-use Rattle.pin_rule.specs.Told.{
-  KnowsPlace,
-  KnowsRow,
-  KnowsWord,
-  OfKey,
-  KnowsKey,
-  IsReached,
-  IsAlike,
-  IsTold,
-  Tells,
-  IsCurrentFor,
-  IsAsKnown,
-  IsReadAsKnown,
-  IsOfGivenUp,
-}
+use Rattle.pin_rule.specs.Told.{KnowsPlace, KnowsRow, KnowsWord, KnowsKey, HasKeyWords, IsReached, IsAlike, IsOfOnePage, IsTold, Tells, IsCurrentFor, NamesNewest, IsAsKnown, IsReadAsKnown, IsUsedAsKnown, IsOfGivenUp}
 use Rattle.pin_rule.specs.Told.{IsReleaseOf, Meets}
 use Rattle.pin_rule.proofs.Frames.{Same, key_alike, content_same}
 use Rattle.pin_rule.proofs.Lists.{each_in, total_zero}
-use Rattle.pin_rule.proofs.Alone.{alone_unpinned}
+use Rattle.pin_rule.proofs.Alone.{alone_nothing, alone_unpinned}
+use Rattle.pin_rule.proofs.Seats.{none_some}
 use Rattle.pin_rule.proofs.Versions.{newest_live, taken_live, older_below, is_role, my_log, caught_up}
 use Rattle.pin_rule.proofs.Numbers.{version_is, page_is}
 use Rattle.pin_rule.proofs.Counts.{few_taken}
@@ -57,11 +47,26 @@ module _ (L : List Entry → Type 0) (F : List Entry → List ℕ → Type 0) (z
     past k row i is = let s = stands k i in let p = ((h.pages h.role.newest (newest_live h.role)).entries k.place row s.0 (s.1 ∙ is)).path in
         (p.0, p.1, p.2, λ before j lt i_j here empty. p.3 before lt (ap (entry z words h.role.newest.page) (sym here) ∙ (stands j i_j).1 ∙ empty))
 
-    reaches : (k : KnownPlace) (row : ℕ) (g : ℕ → ℕ) → In k v.known → k.met ≡ suc row → ((index : ℕ) → OfKey g index → In (index, g index) k.words)
-        → IsReached z v.known (key_of g) k.place
-    reaches k row g i is key = subst (λ (key : List ℕ). IsReached z v.known key k.place)
-        (key_alike (row_at z words row) g (λ index of. (each_in (StandsIn z words row) (index, g index) k.words ((stands k i).2 row is) (key index of)).1))
-        (past k row i is)
+    known_key : (k : KnownPlace) (row : ℕ) (g : ℕ → ℕ) → In k v.known → k.met ≡ suc row → HasKeyWords k.words g → key_of (row_at z words row) ≡ key_of g
+    known_key k row g i is key =
+        key_alike (row_at z words row) g (λ index of. (each_in (StandsIn z words row) (index, g index) k.words ((stands k i).2 row is) (key index of)).1)
+
+    reaches : (k : KnownPlace) (row : ℕ) (g : ℕ → ℕ) → In k v.known → k.met ≡ suc row → HasKeyWords k.words g → IsReached z v.known (key_of g) k.place
+    reaches k row g i is key = subst (λ (key : List ℕ). IsReached z v.known key k.place) (known_key k row g i is key) (past k row i is)
+
+    on_page : (k : KnownPlace) (row : ℕ) (i : In k v.known) → k.met ≡ suc row → IsEntry z words (F (take h.role.newest.version h.log)) h.role.newest.page k.place row
+    on_page k row i is = let s = stands k i in (h.pages h.role.newest (newest_live h.role)).entries k.place row s.0 (s.1 ∙ is)
+
+    of_one_page : v.sizes ≡ z → IsOfOnePage v.sizes v.known
+    of_one_page sizes = record {
+      places = λ k l i j e. sym (stands k i).1 ∙ ap (entry z words h.role.newest.page) e ∙ (stands l j).1;
+      rows = λ k row i is. subst (λ (y : Sizes). row < y.rows) (sym sizes) (on_page k row i is).in_range;
+      words = λ k l row index a b i j is met x y. sym (each_in (StandsIn z words row) (index, a) k.words ((stands k i).2 row is) x).1
+          ∙ (each_in (StandsIn z words row) (index, b) l.words ((stands l j).2 row met) y).1;
+      keys_once = λ k l a b g i j is met x y. let s = stands k i in let t = stands l j in
+          (h.pages h.role.newest (newest_live h.role)).keys_once k.place l.place a b s.0 t.0 (s.1 ∙ is) (t.1 ∙ met)
+          (known_key k a g i is x ∙ sym (known_key l b g j met y));
+    }
 
   -- a fact of the newest version stands in its page
   newest_placed : (place row : ℕ) → h.role.newest.version ≡ now v → KnowsPlace v (now v) place row
@@ -117,6 +122,7 @@ module _ (L : List Entry → Type 0) (F : List Entry → List ℕ → Type 0) (z
       words_once = words_alike;
       alike = λ all r is newest. is_alike same all r is newest;
       reached = λ all k row g i is key. subst (λ (y : Sizes). IsReached y v.known (key_of g) k.place) (sym same) (reaches all k row g i is key);
+      one_page = λ all. of_one_page all same;
     }
 
   pub tells : v.share ≢ 0 → Tells L F v
@@ -180,20 +186,50 @@ module _ (L : List Entry → Type 0) (F : List Entry → List ℕ → Type 0) (v
       (subst (λ (x : Role). IsReleaseOf v x o (release v.sizes words o.live.page)) (sym same)
       (release_of o (subst (λ (x : Role). In o x.older) same i)))
 
+  newest : NamesNewest v (slice_index words 0)
+  newest r is = let n = names_newest L F v.sizes words views h in
+      subst (λ (x : Role). (version_named (slice_index words 0) ≡ x.newest.version) × (page_named (slice_index words 0) ≡ x.newest.page))
+      (sym (is_role L F v.sizes words views id v at h r is)) n
+
+  module _ (row : ℕ) (all : v.share ≡ whole) (free : v.own ≡ None) where
+    unowned : (seat : ℕ) (o : OwnRow) → ¬ (OwnsAt views seat o)
+    unowned seat o x = dite (ℕ_discrete seat id)
+        (λ same. none_some o (sym free ∙ ap (λ (u : View). u.own) (maybe.some-injective v x.0 (sym at ∙ ap (get_elem? views) (sym same) ∙ x.1)) ∙ x.2))
+        (λ n. none_some o (sym (alone_nothing L F v.sizes words views id v at h all seat x.0 n x.1).1 ∙ x.2))
+
+    only_newest : (older : List Older) → h.role.older ≡ older → older ≡ [] → IsHeldLive v.sizes words h.role row → IsHeld v.sizes words h.role.newest.page row
+    only_newest [] is none x = elim (subst (λ (os : List Older). In x.0 (h.role.newest ∷ map (λ (o : Older). o.live) os)) is x.1) [
+      | inl e ↦ subst (λ (l : Live). IsHeld v.sizes words l.page row) e x.2
+      | inr t ↦ absurd t
+    ]
+    only_newest (o ∷ os) is none x = let e = ap length none in absurd (omega arith)
+
+    held_as_known : IsHeld v.sizes words h.role.newest.page row
+        → (place : ℕ) × (place < v.sizes.places) × ((k : KnownPlace) → In k v.known → k.place ≡ place → k.met ≡ suc row)
+    held_as_known x = (x.0, x.1, λ k i e. sym (stands L F v.sizes words views id v at h all k i).1 ∙ ap (entry v.sizes words h.role.newest.page) e ∙ x.2)
+
+  used_as_known : (row n : ℕ) → row < v.sizes.rows → claim v.sizes words row ≡ n → IsUsedAsKnown v row n
+  used_as_known row n inside read one all free r has alone kept = let same = is_role L F v.sizes words views id v at h r has in
+      elim (h.claims.in_use row inside (read ∙ one)) [
+        | inl x ↦ absurd (unowned row all free x.0 x.1 x.2)
+        | inr y ↦ elim y [
+          | inl live ↦ held_as_known row all free (only_newest row all free h.role.older refl (ap (λ (q : Role). q.older) (sym same) ∙ alone) live)
+          | inr t ↦ absurd (none_some t.0 (sym kept ∙ ap (λ (q : Role). q.giving_up) same ∙ t.1))
+        ]
+      ]
+
   pub meets : (o : Op) → IsIn v.sizes o → Meets v o (slice_index words (word_of v.sizes o))
   meets (op.LoadPlace page place) i = (as_known page place _ refl, of_given_up page place _ i.1 refl)
   meets (op.LoadRow row index) i = read_as_known row index _ refl
-  meets (op.Claim row) i = h.claims.bit row i
+  meets (op.Claim row) i = (h.claims.bit row i, used_as_known row _ i refl)
   meets (op.WriteRow row index word) i = tt
   meets (op.Publish page place row) i = as_known page place _ refl
   meets (op.GiveBack row) i = tt
-  meets op.Pin i = current
+  meets op.Pin i = (current, newest)
   meets (op.Unpin page) i = tt
   meets (op.LoadLog entry index) i = λ e is. (h.current.log_is entry index e (in_log entry e is) i.1, h.current.log_wide entry e (in_log entry e is))
   meets (op.WriteLog entry index word) i = tt
   meets (op.WritePlace page place word) i = tt
-  meets (op.SwapCurrent version page) i = λ r is. let n = names_newest L F v.sizes words views h in
-      subst (λ (x : Role). (version_named (slice_index words 0) ≡ x.newest.version) × (page_named (slice_index words 0) ≡ x.newest.page))
-      (sym (is_role L F v.sizes words views id v at h r is)) n
+  meets (op.SwapCurrent version page) i = newest
   meets (op.LoadRelease page) i = release_met page _ refl
   meets (op.FreeRow row) i = tt

@@ -1,5 +1,5 @@
 -- What the rule says of one view that has a share, whatever else stands in the table.
-use Rattle.std.specs.Prelude.{◌≡◌, ◌≢◌, ℕ, suc, ◌+◌, ◌<◌, ◌≤◌, List, length, slice_index, Some, None}
+use Rattle.std.specs.Prelude.{◌≡◌, ◌≢◌, ℕ, suc, ◌+◌, ◌<◌, ◌≤◌, List, [], length, slice_index, Some, None}
 use mathlib.Core.Option as maybe
 use lib.ListN.{get_elem?}
 use Rattle.pin_rule.specs.declared.content.Entry.{Entry}
@@ -55,6 +55,10 @@ KnowsKey v version row g = (index : ℕ) → OfKey g index → KnowsWord v versi
 abbrev pub KnowsContent : View → ℕ → ℕ → (ℕ → ℕ) → Type 0
 KnowsContent v version row g = (index : ℕ) → index < 2 + (g 0 + g 1) → KnowsWord v version row index (g index)
 
+-- the pairs of an index and a word have the words that tell the key of g
+abbrev pub HasKeyWords : List (ℕ × ℕ) → (ℕ → ℕ) → Type 0
+HasKeyWords ws g = (index : ℕ) → OfKey g index → In (index, g index) ws
+
 -- the place is on the path of the key, and of the places before it there none is known to be empty
 abbrev pub IsReached : Sizes → List KnownPlace → List ℕ → ℕ → Type 0
 IsReached z known key place = (step : ℕ) × (step < z.places) × (on_path z key step ≡ place) ×
@@ -66,6 +70,15 @@ pub record IsAlike (v : View) (version : ℕ) : Type 0 where
   pub places : (k : KnownPlace) (place row : ℕ) → In k v.known → k.place ≡ place → KnowsPlace v version place row → k.met ≡ suc row
   pub words : (k : KnownPlace) (row index a b : ℕ) → In k v.known → k.met ≡ suc row → In (index, a) k.words → KnowsWord v version row index b → a ≡ b
   pub once : (k : KnownPlace) (row index a b : ℕ) → In k v.known → k.met ≡ suc row → In (index, a) k.words → In (index, b) k.words → a ≡ b
+
+-- places are known of one page: a place has one word, a row is one of the table and has one word at an index, and no key stands twice
+pub record IsOfOnePage (z : Sizes) (ks : List KnownPlace) : Type 0 where
+  pub places : (k l : KnownPlace) → In k ks → In l ks → k.place ≡ l.place → k.met ≡ l.met
+  pub rows : (k : KnownPlace) (row : ℕ) → In k ks → k.met ≡ suc row → row < z.rows
+  pub words : (k l : KnownPlace) (row index a b : ℕ) → In k ks → In l ks → k.met ≡ suc row → l.met ≡ suc row → In (index, a) k.words
+      → In (index, b) l.words → a ≡ b
+  pub keys_once : (k l : KnownPlace) (a b : ℕ) (g : ℕ → ℕ) → In k ks → In l ks → k.met ≡ suc a → l.met ≡ suc b → HasKeyWords k.words g
+      → HasKeyWords l.words g → k.place ≡ l.place
 
 -- of the rows of a version
 pub record IsTold (fits : List ℕ → Type 0) (v : View) (version : ℕ) : Type 0 where
@@ -83,7 +96,8 @@ pub record IsTold (fits : List ℕ → Type 0) (v : View) (version : ℕ) : Type
   pub alike : v.share ≡ whole → (r : Role) → v.role ≡ Some r → r.newest.version ≡ version → IsAlike v version
   -- what is known with the whole share: a row stands on the path of its key, past places that are not empty
   pub reached : v.share ≡ whole → (k : KnownPlace) (row : ℕ) (g : ℕ → ℕ) → In k v.known → k.met ≡ suc row
-      → ((index : ℕ) → OfKey g index → In (index, g index) k.words) → IsReached v.sizes v.known (key_of g) k.place
+      → HasKeyWords k.words g → IsReached v.sizes v.known (key_of g) k.place
+  pub one_page : v.share ≡ whole → IsOfOnePage v.sizes v.known
 
 -- a view that has caught up has a lawful log, and is told of the rows of the version that this log leads to
 abbrev pub Tells : (List Entry → Type 0) → (List Entry → List ℕ → Type 0) → View → Type 0
@@ -93,6 +107,10 @@ Tells lawful fits v = IsCaughtUp v → lawful v.log × IsTold (fits v.log) v (no
 abbrev pub IsCurrentFor : View → ℕ → Type 0
 IsCurrentFor v n = (now v ≤ version_named n) × (version_named n ≤ v.sizes.log) × (page_named n < v.sizes.versions)
 
+-- the editor's CUR names the newest version and its page
+abbrev pub NamesNewest : View → ℕ → Type 0
+NamesNewest v n = (r : Role) → v.role ≡ Some r → (version_named n ≡ r.newest.version) × (page_named n ≡ r.newest.page)
+
 -- with the whole share, a place of the newest page that is known has the word that is known
 abbrev pub IsAsKnown : View → ℕ → ℕ → ℕ → Type 0
 IsAsKnown v page place n = v.share ≡ whole → (r : Role) (k : KnownPlace) → v.role ≡ Some r → r.newest.page ≡ page → In k v.known → k.place ≡ place → n ≡ k.met
@@ -100,6 +118,15 @@ IsAsKnown v page place n = v.share ≡ whole → (r : Role) (k : KnownPlace) →
 -- with the whole share, a known word of a row that stands in the newest page is the word there
 abbrev pub IsReadAsKnown : View → ℕ → ℕ → ℕ → Type 0
 IsReadAsKnown v row index n = v.share ≡ whole → (k : KnownPlace) (word : ℕ) → In k v.known → k.met ≡ suc row → In (index, word) k.words → n ≡ word
+
+-- the row stands at a place, as far as that place is known
+abbrev pub StandsKnown : Sizes → List KnownPlace → ℕ → Type 0
+StandsKnown z ks row = (place : ℕ) × (place < z.places) × ((k : KnownPlace) → In k ks → k.place ≡ place → k.met ≡ suc row)
+
+-- with the whole share and one version, a row in use that is not the view's own stands at a place of the newest page
+abbrev pub IsUsedAsKnown : View → ℕ → ℕ → Type 0
+IsUsedAsKnown v row n = n ≡ 1 → v.share ≡ whole → v.own ≡ None → (r : Role) → v.role ≡ Some r → r.older ≡ [] → r.giving_up ≡ None
+    → StandsKnown v.sizes v.known row
 
 -- an entry of the version that is being given up names a row of the table
 abbrev pub IsOfGivenUp : View → ℕ → ℕ → Type 0
@@ -116,15 +143,15 @@ pub record IsReleaseOf (v : View) (r : Role) (o : Older) (n : ℕ) : Type 0 wher
 abbrev pub Meets : View → Op → ℕ → Type 0
 Meets v (LoadPlace page place) n = IsAsKnown v page place n × IsOfGivenUp v page n
 Meets v (LoadRow row index) n = IsReadAsKnown v row index n
-Meets v (Claim row) n = n ≤ 1
+Meets v (Claim row) n = (n ≤ 1) × IsUsedAsKnown v row n
 Meets v (WriteRow row index word) n = Unit {0}
 Meets v (Publish page place row) n = IsAsKnown v page place n
 Meets v (GiveBack row) n = Unit {0}
-Meets v Pin n = IsCurrentFor v n
+Meets v Pin n = IsCurrentFor v n × NamesNewest v n
 Meets v (Unpin page) n = Unit {0}
 Meets v (LoadLog entry index) n = (e : Entry) → get_elem? v.log entry ≡ maybe.some e → (n ≡ slice_index e.words index) × (length e.words ≡ 32)
 Meets v (WriteLog entry index word) n = Unit {0}
 Meets v (WritePlace page place word) n = Unit {0}
-Meets v (SwapCurrent version page) n = (r : Role) → v.role ≡ Some r → (version_named n ≡ r.newest.version) × (page_named n ≡ r.newest.page)
+Meets v (SwapCurrent version page) n = NamesNewest v n
 Meets v (LoadRelease page) n = (r : Role) (o : Older) → v.role ≡ Some r → In o r.older → o.live.page ≡ page → IsReleaseOf v r o n
 Meets v (FreeRow row) n = Unit {0}

@@ -7,7 +7,7 @@ ghost use Rattle.pin_rule.specs.declared.content.Entry.{Entry};
 ghost use Rattle.pin_rule.specs.declared.ops.Op.TheVariants as op;
 ghost use Rattle.pin_rule.specs.Steps.{after_pin, after_unpin, after_load_log};
 ghost use Rattle.pin_rule.specs.Keeps.{Keeps};
-ghost use Rattle.pin_rule.specs.Told.{Tells, Meets, IsCurrentFor};
+ghost use Rattle.pin_rule.specs.Told.{Tells, Meets, IsCurrentFor, NamesNewest};
 ghost use Rattle.pin_rule.specs.Hands.{view_of, sizes_of, table_of};
 
 use crate::content::Content;
@@ -24,6 +24,7 @@ impl<C: Content> Hand<C> {
         ensures view { view_of self.new ≡ after_pin (view_of self.old) result }
         ensures told { Tells C.lawful C.fits (view_of self.new) }
         ensures met { IsCurrentFor (view_of self.old) result }
+        ensures newest { NamesNewest (view_of self.old) result }
     {
         self.add(Op::Pin)
     }

@@ -1,6 +1,6 @@
 //! The steps of one hand on one word.
 
-ghost use Rattle.std.specs.Prelude.{◌≡◌, ◌≢◌, ◌<◌, ◌≤◌};
+ghost use Rattle.std.specs.Prelude.{◌≡◌, ◌≢◌, ◌<◌};
 ghost use Rattle.pin_rule.specs.declared.ops.Op.TheVariants as op;
 ghost use Rattle.pin_rule.specs.Steps.{after_load_place, after_load_row, after_claim, after_write_row, after_publish, after_give_back};
 ghost use Rattle.pin_rule.specs.Keeps.{Keeps};
@@ -47,7 +47,8 @@ impl<C: Content> Hand<C> {
         requires keeps { Keeps C.lawful C.fits (view_of self.old) (op.Claim row) }
         ensures table { table_of self.new ≡ table_of self.old }
         ensures view { view_of self.new ≡ after_claim (view_of self.old) row result }
-        ensures met { result ≤ 1 }
+        ensures told { Tells C.lawful C.fits (view_of self.new) }
+        ensures met { Meets (view_of self.old) (op.Claim row) result }
     {
         self.exchange(Op::Claim { row }, 1)
     }

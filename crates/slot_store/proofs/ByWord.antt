@@ -71,5 +71,9 @@ pub key_is : (key payload : List ℕ) → key_of (slice_index (row_of key payloa
 key_is key payload = shifted (slice_index (row_of key payload)) 1 (length key) ∙ shifted (λ i. slice_index (row_of key payload) (suc i)) 0 (length key)
     ∙ first_words key payload
 
+-- the words that tell the key alone tell it too
+pub head_key_is : (key : List ℕ) → key_of (slice_index (head_of key)) ≡ key
+head_key_is key = shifted (slice_index (head_of key)) 1 (length key) ∙ shifted (λ i. slice_index (head_of key) (suc i)) 0 (length key) ∙ all_words key
+
 pub content_is : (key payload : List ℕ) → content_of (slice_index (row_of key payload)) ≡ row_of key payload
 content_is key payload = ap (words_of (slice_index (row_of key payload)) 0) (sym (length_row key payload)) ∙ all_words (row_of key payload)

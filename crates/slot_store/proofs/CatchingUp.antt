@@ -10,7 +10,7 @@ use native.Mathlib.Decide.{ℕ_discrete}
 use lib.ListN.{get_elem?}
 use Rattle.atomic_table.specs.Seated.{TableId}
 use lib.Dec.{eqb}
-use Rattle.std.specs.Prelude.{Some, true, false, Bool}
+use Rattle.std.specs.Prelude.{Some, None, true, false, Bool}
 use Rattle.pin_rule.specs.declared.content.Entry.{Entry}
 use Rattle.pin_rule.specs.declared.view.View.{View}
 use Rattle.pin_rule.specs.declared.view.Step.{Step}
@@ -37,6 +37,7 @@ stays v = record {
   pins_left = refl;
   own = refl;
   role = refl;
+  known = refl;
   steps = sym (append-nil v.steps);
   loads = tt;
   log =
@@ -51,6 +52,7 @@ moves_on u v w a b h k = record {
   pins_left = k.pins_left ∙ h.pins_left;
   own = k.own ∙ h.own;
   role = k.role ∙ h.role;
+  known = k.known ∙ h.known;
   steps = k.steps ∙ ap (λ (l : List Step). l ++ b) h.steps ∙ append_assoc u.steps a b;
   loads = each_append IsLogLoad a b h.loads k.loads;
   log = prefix_on u.log v.log w.log h.log k.log;
@@ -96,6 +98,7 @@ module _ (z : Site) (w : View) (entry index n : ℕ) (pinned : w.pinned ≡ Some
           pins_left = refl;
           own = refl;
           role = refl;
+          known = refl;
           steps = refl;
           loads = (refl, tt);
           log =
@@ -115,6 +118,7 @@ module _ (z : Site) (w : View) (entry index n : ℕ) (pinned : w.pinned ≡ Some
       pins_left = refl;
       own = refl;
       role = refl;
+      known = refl;
       steps = refl;
       loads = (refl, tt);
       log =
@@ -191,6 +195,7 @@ knows_more v w u entry index n k below is = let below_w : entry < now w = (let e
             pins_left = refl;
             own = refl;
             role = refl;
+            known = refl;
             steps = refl;
             loads = (refl, tt);
             log = prefix_self
@@ -211,8 +216,8 @@ reads_log v w page t s k same = let m = k.moves in (
     share = m.share i;
     pins_left = m.pins_left i;
     own = m.own i;
-    steps =
-        m.steps i;
+    graph = None;
+    steps = m.steps i;
   }),
   m.loads,
 )

@@ -10,6 +10,7 @@ use Rattle.pin_rule.specs.declared.view.Step.{Step}
 use Rattle.pin_rule.specs.Lists.{Each, In}
 use Rattle.pin_rule.specs.Told.{IsTold, Tells}
 use Rattle.pin_rule.proofs.Lists.{each_map, each_append, in_left, in_right}
+use Rattle.slot_store.proofs.LaterPlaces.{learns_same, learns_on}
 use Rattle.slot_store.specs.Quiet.{IsQuiet, IsPlain}
 use Rattle.slot_store.specs.Answers.{IsWordOf, MetRow}
 use Rattle.slot_store.specs.Walks.{IsAtWork, MovesBy, Moves, Reads, ReadsKey, ReadsOther, MeetsOther, Passed, WritesRow, IsRowStep}
@@ -32,6 +33,7 @@ module _ {P : Step → Type 0} where
     steps = sym (append-nil v.steps);
     entries = λ _ i. i;
     words = λ _ i. i;
+    known = learns_same v v refl;
   }
 
   pub moves_on : (u v w : View) (a b : List Step) → MovesBy P u v a → MovesBy P v w b → MovesBy P u w (a ++ b)
@@ -47,6 +49,7 @@ module _ {P : Step → Type 0} where
     steps = k.steps ∙ ap (λ (l : List Step). l ++ b) h.steps ∙ append_assoc u.steps a b;
     entries = λ e i. k.entries e (h.entries e i);
     words = λ x i. k.words x (h.words x i);
+    known = learns_on u v w h.sizes h.share h.known k.known;
   }
 
   pub work_on : (z : Site) (v w : View) (a : List Step) → IsAtWork z v → MovesBy P v w a → IsAtWork z w
@@ -73,6 +76,7 @@ moves_as P Q f v w a k = record {
   steps = k.steps;
   entries = k.entries;
   words = k.words;
+  known = k.known;
 }
 
 -- steps that write no row are quiet
@@ -101,6 +105,7 @@ wrote_moves z v w row words k = record {
   steps = k.moves.steps;
   entries = k.moves.entries;
   words = k.moves.words;
+  known = k.moves.known;
 }
 
 -- a user at work is told of the rows of its version

@@ -1,3 +1,4 @@
+pub mod LaterPlaces
 pub mod Growing
 pub mod Single
 pub mod Reading
@@ -8,6 +9,7 @@ pub mod ByWord
 pub mod Passing
 pub mod Copying
 pub mod Glancing
+pub mod Lacking
 pub mod Offering
 pub mod Settling
 pub mod Extending

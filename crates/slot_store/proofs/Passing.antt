@@ -1,5 +1,5 @@
 -- The walk along the path of a key, past the rows with other keys.
-use Rattle.std.proofs.Common.{◌≡◌, ◌≢◌, ℕ, suc, ◌+◌, ◌-◌, ◌<◌, List, [], ◌∷◌, ◌++◌, inl, sym, refl, ap, ◌∙◌, subst, arith}
+use Rattle.std.proofs.Common.{◌≡◌, ◌≢◌, ℕ, suc, ◌+◌, ◌-◌, ◌<◌, List, [], ◌∷◌, ◌++◌, inl, sym, ap, ◌∙◌, subst, arith}
 use mathlib.Core.Logic.{dite}
 use native.Mathlib.Decide.{ℕ_discrete}
 use Rattle.std.specs.Prelude.{Some}
@@ -9,14 +9,17 @@ use Rattle.pin_rule.specs.declared.view.View.{View}
 use Rattle.pin_rule.specs.declared.view.Step.{Step}
 use Rattle.pin_rule.specs.Rows.{on_path}
 use Rattle.pin_rule.specs.Steps.{version_of, loaded_place, after_load_place}
-use Rattle.pin_rule.specs.Told.{IsTold}
+use Rattle.pin_rule.specs.Told.{IsTold, IsAsKnown}
 use Rattle.pin_rule.specs.Lists.{In}
 use Rattle.pin_rule.proofs.Lists.{in_left, in_right}
 use Rattle.pin_rule.proofs.Paths.{on_page, path_reaches}
 use Rattle.slot_store.specs.declared.finding.Seen.TheVariants as seen
 use Rattle.slot_store.specs.Quiet.{IsPlain}
 use Rattle.slot_store.specs.Answers.{MetRow, IsPageFull}
-use Rattle.slot_store.specs.Walks.{IsAtWork, MovesBy, Moves, KnowsAt, ReadsKey, Passed, Compares, Walking, Walks}
+use Rattle.slot_store.specs.Known.{IsSoleAt}
+use Rattle.slot_store.proofs.LaterPlaces.{later_back}
+use Rattle.slot_store.proofs.Lacking.{sole_on}
+use Rattle.slot_store.specs.Walks.{IsEmptyIn, IsAtWork, MovesBy, Moves, KnowsAt, ReadsKey, Passed, Compares, Walking, Walks}
 use Rattle.slot_store.proofs.Growing.{stays, work_on, moves_on, moves_as, earlier, later, key_on, other_on, met_on, passed_on}
 use Rattle.slot_store.proofs.Single.{moves_place, knows_at, names_row, knows_row}
 
@@ -40,9 +43,14 @@ pub range : (F : List ℕ → Type 0) (z : Site) (u : View) (row : ℕ) → u.si
     → row < z.sizes.rows
 range F z u row sizes version told = subst (λ (y : Sizes). row < y.rows) sizes (told.range row (knows_row z u row version))
 
-module _ (z : Site) (w u : View) (work : IsAtWork z w) (place n : ℕ) (is : u ≡ after_load_place w z.page place n) where
+module _ (z : Site) (w u : View) (work : IsAtWork z w) (place n : ℕ) (inside : place < z.sizes.places) (is : u ≡ after_load_place w z.page place n) where
   pub loads : Moves w u (loaded_place z.sizes z.page place n ∷ [])
-  loads = subst (λ (x : View). Moves w x (loaded_place z.sizes z.page place n ∷ [])) (sym is) (moves_place z w work place n)
+  loads = subst (λ (x : View). Moves w x (loaded_place z.sizes z.page place n ∷ [])) (sym is) (moves_place z w work place n inside)
+
+  -- the place that was met empty is not known to be taken
+  pub met_empty : IsSoleAt z w → IsAsKnown w z.page place n → n ≡ 0 → IsEmptyIn u.known place
+  met_empty sole as_known e k i at = let b = later_back w.known u.known (loads.known sole.share sole.every) k i in
+      b.2.1 ∙ sym (as_known sole.share sole.role b.0 sole.has sole.page b.1 (sym b.2.0 ∙ at)) ∙ e
 
   pub loaded_on : IsAtWork z u
   loaded_on = work_on z w u (loaded_place z.sizes z.page place n ∷ []) work loads
@@ -70,10 +78,11 @@ row_met n h = dite (ℕ_discrete n 0) (λ e. absurd (h e)) (λ ne. omega arith)
 
 -- a place that is empty was met
 pub empty : (z : Site) (v w : View) (key : List ℕ) (steps place : ℕ) → Walking IsPlain z v w key steps place → w.own ≡ v.own → IsAtWork z w → (u : View) (n : ℕ)
-    → u ≡ after_load_place w z.page place n → n ≡ 0 → steps < z.sizes.places
+    → u ≡ after_load_place w z.page place n → n ≡ 0 → steps < z.sizes.places → IsAsKnown w z.page place n
     → Walks z v u key (seen.Empty place)
-empty z v w key steps place walk own work u n is e lt = let b : List Step = loaded_place z.sizes z.page place n ∷ [] in
-    let m = loads z w u work place n is in record {
+empty z v w key steps place walk own work u n is e lt as_known = let b : List Step = loaded_place z.sizes z.page place n ∷ [] in
+    let inside = on_the_page IsPlain z v w key steps place walk lt in
+    let m = loads z w u work place n inside is in record {
       added = walk.added ++ b;
       moves = moves_on v w u walk.added b walk.moves m;
       own = ap (λ (x : View). x.own) is ∙ own;
@@ -86,6 +95,7 @@ empty z v w key steps place walk own work u n is e lt = let b : List Step = load
           ap (λ (k : ℕ). walk.added ++ loaded_place z.sizes z.page place k ∷ []) e,
           passed_on z w u walk.added walk.added
               (record { steps = λ _ i. i; entries = m.entries; words = m.words }) key steps walk.passed,
+          λ sole. met_empty z w u work place n inside is (sole_on z v w walk.added walk.moves sole) as_known e,
         ),
       );
     }
@@ -109,6 +119,9 @@ module _ (P : Step → Type 0) (plain : (s : Step) → IsPlain s → P s) (z : S
   pub key_all : same → ReadsKey z x (walk.added ++ (m.added ++ c.added)) row key
   key_all is = key_on z x x (m.added ++ c.added) (walk.added ++ (m.added ++ c.added)) (later x walk.added (m.added ++ c.added)) row key
       (key_on z x x c.added (m.added ++ c.added) (later x m.added c.added) row key (c.yes is))
+
+  pub at_all : KnowsAt z x place row
+  at_all = c.moves.entries _ m.at
 
   pub goes_on : ¬ same → (next : ℕ) → next ≡ on_path z.sizes key (steps + 1) → Walking P z v x key (steps + 1) next
   goes_on not next at = record {
@@ -143,6 +156,7 @@ found z v w key steps place walk u x row m same c own lt yes_it_is inside loaded
       on_the_page IsPlain z v w key steps place walk lt,
       in_right _ walk.added (m.added ++ c.added)
           (in_left _ m.added c.added loaded),
+      c.moves.entries _ m.at,
     ),
     key_all IsPlain plain z v w key steps place walk u x row m same c yes_it_is,
   );

@@ -21,6 +21,7 @@ use Rattle.pin_rule.proofs.Lists.{in_right}
 use Rattle.pin_rule.proofs.KindLoads.{names}
 use Rattle.pin_rule.proofs.Passing.{role_stays}
 use Rattle.slot_store.specs.Walks.{IsAtWork, Moves, KnowsAt, Reads}
+use Rattle.slot_store.proofs.LaterPlaces.{learns_same, learns_place, learns_row}
 
 word_grows : (o : Option ℕ) (ws : List WordFact) (row index n : ℕ) (x : WordFact) → In x ws → In x (met_word o ws row index n)
 word_grows None ws row index n x i = i
@@ -79,6 +80,7 @@ module _ (z : Site) (v : View) (work : IsAtWork z v) where
       steps = ap (λ (y : Sizes). v.steps ++ loaded_row y row index n ∷ []) work.sizes;
       entries = λ _ i. i;
       words = λ x i. word_grows (version_of v.entries row) v.words row index n x i;
+      known = learns_row v row index n;
     }
 
     pub reads_row : index < z.sizes.width → version_of v.entries row ≡ Some z.version
@@ -98,7 +100,7 @@ module _ (z : Site) (v : View) (work : IsAtWork z v) where
   first = ap (λ p. version_pinned p (version_of_role v.role z.page) z.page) work.pinned ∙ ap (λ b. cond b (Some z.version) (version_of_role v.role z.page))
       (eq-eqb z.page z.page refl)
 
-  module _ (place n : ℕ) where
+  module _ (place n : ℕ) (inside : place < z.sizes.places) where
     pub moves_place : Moves v (after_load_place v z.page place n) (loaded_place z.sizes z.page place n ∷ [])
     moves_place = record {
       sizes = refl;
@@ -112,6 +114,7 @@ module _ (z : Site) (v : View) (work : IsAtWork z v) where
       steps = ap (λ (y : Sizes). v.steps ++ loaded_place y z.page place n ∷ []) work.sizes;
       entries = λ e i. entry_grows (version_at v z.page) v.entries place n e i;
       words = λ _ i. i;
+      known = learns_place v z.page place n (subst (λ (y : Sizes). place < y.places) (sym work.sizes) inside);
     }
 
   -- the entries after a row was met at the place
@@ -136,9 +139,10 @@ published_grow None own ws n x i = i
 published_grow (Some version) own ws zero x i = in_right x (own_words version own) ws i
 published_grow (Some version) own ws (suc n) x i = i
 
-pub moves_publish : (z : Site) (v : View) (place row n : ℕ) → v.sizes ≡ z.sizes
-    → Moves v (after_publish v z.page place row n) (published z.sizes z.page place row n ∷ [])
-moves_publish z v place row n sizes = record {
+-- another row was met at the place
+pub moves_publish : (z : Site) (v : View) (place row n : ℕ) → place < z.sizes.places → v.sizes ≡ z.sizes
+    → Moves v (after_publish v z.page place row (suc n)) (published z.sizes z.page place row (suc n) ∷ [])
+moves_publish z v place row n inside sizes = record {
   sizes = refl;
   log = refl;
   share = refl;
@@ -147,9 +151,10 @@ moves_publish z v place row n sizes = record {
   quiet = ((tt, publish_apart), tt);
   pinned = refl;
   role = refl;
-  steps = ap (λ (y : Sizes). v.steps ++ published y z.page place row n ∷ []) sizes;
-  entries = λ e i. entry_grows (version_at v z.page) v.entries place (exchanged (suc row) n) e i;
-  words = λ x i. published_grow (version_at v z.page) v.own v.words n x i;
+  steps = ap (λ (y : Sizes). v.steps ++ published y z.page place row (suc n) ∷ []) sizes;
+  entries = λ e i. entry_grows (version_at v z.page) v.entries place (exchanged (suc row) (suc n)) e i;
+  words = λ x i. published_grow (version_at v z.page) v.own v.words (suc n) x i;
+  known = learns_place v z.page place (suc n) (subst (λ (y : Sizes). place < y.places) (sym sizes) inside);
 }
 
 pub moves_give_back : (z : Site) (v : View) (row : ℕ) → v.sizes ≡ z.sizes → Moves v (after_give_back v row) (gave_back z.sizes row ∷ [])
@@ -165,4 +170,5 @@ moves_give_back z v row sizes = record {
   steps = ap (λ (y : Sizes). v.steps ++ gave_back y row ∷ []) sizes;
   entries = λ _ i. i;
   words = λ _ i. i;
+  known = learns_same v (after_give_back v row) refl;
 }

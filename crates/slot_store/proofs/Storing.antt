@@ -21,6 +21,7 @@ use Rattle.slot_store.specs.Keys.{row_of}
 use Rattle.slot_store.specs.Quiet.{IsQuiet}
 use Rattle.slot_store.specs.Answers.{IsWordOf}
 use Rattle.slot_store.specs.Walks.{IsAtWork, MovesBy, OwnsRow, HasWritten, IsPartOf, Writes, WritesRow}
+use Rattle.slot_store.proofs.LaterPlaces.{learns_same}
 use Rattle.slot_store.proofs.ByWord.{by_parts, lengths_in, key_in, payload_in}
 use Rattle.slot_store.proofs.Growing.{stays, moves_on}
 
@@ -89,6 +90,7 @@ module _ (z : Site) (v w u : View) (work : IsAtWork z v) (row from : ℕ) (words
           steps = ap (λ (y : Sizes). w.steps ++ wrote_row y row (from + i) x ∷ []) sizes;
           entries = λ _ e. e;
           words = λ _ e. e;
+          known = learns_same w (after_write_row w row (from + i) x) refl;
         }));
         owns = (h.0, h.1, h.2);
         earlier = λ j y lt had. other j y (λ e. omega arith) (r.earlier j y lt had);

@@ -11,7 +11,7 @@ use Rattle.slot_store.specs.declared.page.Look.{Look}
 use Rattle.slot_store.specs.declared.page.Look.TheVariants as look
 use Rattle.slot_store.specs.declared.page.Put.{Put}
 use Rattle.slot_store.specs.declared.page.Put.TheVariants as put
-use Rattle.slot_store.specs.Meaning.{Meaning, extended}
+use Rattle.slot_store.specs.Meaning.{Meaning, with_graph, extended}
 use Rattle.slot_store.specs.Keys.{row_of, head_of, TellsKey}
 use Rattle.slot_store.specs.Logs.{IsLogLoad}
 use Rattle.slot_store.specs.Quiet.{IsQuiet}
@@ -104,8 +104,9 @@ module _ (z : Sizes) (page : ℕ) (added : List Step) where
 abbrev pub Finds : (List Entry → List ℕ → Type 0) → Meaning → Meaning → List ℕ → Look → Type 0
 Finds fits m n key look = (added : List Step) × (n ≡ extended m added) × Each IsQuiet added × LookIs m.sizes m.page added (fits m.log) key look
 
+-- the same, but for the graph
 abbrev pub Publishes : Meaning → Meaning → List ℕ → List ℕ → Put → Type 0
-Publishes m n key payload put = (added : List Step) × (n ≡ extended m added) × Each IsQuiet added × PutIs m.sizes m.page added key payload put
+Publishes m n key payload put = (added : List Step) × (n ≡ extended (with_graph m n.graph) added) × Each IsQuiet added × PutIs m.sizes m.page added key payload put
 
 -- the call added loads of log words alone
 abbrev pub ReadsLog : Meaning → Meaning → Type 0

@@ -1,9 +1,12 @@
 pub mod Meaning
 pub mod Idle
 pub mod Keys
+pub mod Known
+pub mod GraphAnswers
 pub mod Quiet
 pub mod Logs
 pub mod Answers
 pub mod Walks
 pub mod Pinning
+pub mod PinnedHands
 pub mod Means

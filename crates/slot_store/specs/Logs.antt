@@ -21,6 +21,7 @@ pub record LogMoves (v w : View) (added : List Step) : Type 0 where
   pub pins_left : w.pins_left ≡ v.pins_left
   pub own : w.own ≡ v.own
   pub role : w.role ≡ v.role
+  pub known : w.known ≡ v.known
   pub steps : w.steps ≡ v.steps ++ added
   pub loads : Each IsLogLoad added
   pub log : IsPrefix v.log w.log

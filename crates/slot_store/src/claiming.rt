@@ -1,7 +1,8 @@
 //! How a free row is claimed.
 
-ghost use Rattle.std.specs.Prelude.{◌≡◌, ◌≤◌, None};
+ghost use Rattle.std.specs.Prelude.{◌≡◌, ◌≤◌, ◌<◌, None, IfNone};
 ghost use Rattle.pin_rule.specs.Hands.{view_of, table_of};
+ghost use Rattle.pin_rule.specs.Told.{Tells};
 ghost use Rattle.slot_store.specs.Walks.{IsAtWork, Claims};
 
 use crate::site::Site;
@@ -15,6 +16,8 @@ fn claim_within<C: Content>(hand: &mut Hand<C>, site: Site, from: u32, to: u32) 
     requires rows { to ≤ site.sizes.rows }
     ensures table { table_of hand.new ≡ table_of hand.old }
     ensures claim { Claims site (view_of hand.old) (view_of hand.new) from to result }
+    ensures told { from < to → Tells C.lawful C.fits (view_of hand.new) }
+    ensures still_told { Tells C.lawful C.fits (view_of hand.old) → Tells C.lawful C.fits (view_of hand.new) }
 {
     for row in from..to {
         if hand.claim(row) == 0 {
@@ -32,6 +35,7 @@ pub(crate) fn claim_row<C: Content>(hand: &mut Hand<C>, site: Site, next: u32) -
     requires next { next ≤ site.sizes.rows }
     ensures table { table_of hand.new ≡ table_of hand.old }
     ensures claim { Claims site (view_of hand.old) (view_of hand.new) 0 site.sizes.rows result }
+    ensures told { IfNone result (Tells C.lawful C.fits (view_of hand.new)) }
 {
     match claim_within(hand, site, next, site.sizes.rows) {
         Some(row) => Some(row),

@@ -3,6 +3,7 @@
 ghost use Rattle.std.specs.Prelude.{◌≡◌, ◌<◌, Some, IsTrue};
 ghost use Rattle.pin_rule.specs.Hands.{view_of, table_of};
 ghost use Rattle.pin_rule.specs.Steps.{version_of};
+ghost use Rattle.pin_rule.specs.Told.{Tells};
 ghost use Rattle.slot_store.specs.Walks.{IsAtWork, Compares};
 
 use crate::site::Site;
@@ -16,6 +17,7 @@ pub(crate) fn has_key<C: Content>(hand: &mut Hand<C>, site: Site, row: u32, key:
     requires known { version_of (view_of hand.old).entries row ≡ Some site.version }
     ensures table { table_of hand.new ≡ table_of hand.old }
     ensures compared { Compares site (view_of hand.old) (view_of hand.new) row key.now (IsTrue result) }
+    ensures told { Tells C.lawful C.fits (view_of hand.new) }
 {
     let start = hand.row_start(row);
     if hand.load_row_at(start, row, 0) != key.len() as u64 {

@@ -4,7 +4,7 @@ ghost use Rattle.std.specs.Prelude.{◌≡◌, ◌<◌, ◌≤◌, ◌+◌, Some
 ghost use Rattle.pin_rule.specs.Hands.{view_of, table_of};
 ghost use Rattle.pin_rule.specs.Steps.{version_of};
 ghost use Rattle.slot_store.specs.Walks.{IsAtWork, Walks, Copies, Glances};
-ghost use Rattle.pin_rule.specs.Told.{KnowsWord, IsTold};
+ghost use Rattle.pin_rule.specs.Told.{KnowsWord, IsTold, Tells};
 
 use crate::comparing::has_key;
 use crate::paths::{first_place, next_place};
@@ -20,9 +20,13 @@ pub(crate) enum Seen {
 }
 
 /// What a look found, with the payload's words at the buffer's start.
-pub(crate) enum Glance {
+#[derive(Clone, Copy)]
+pub enum Glance {
+    /// The payload has so many words.
     Found { count: usize },
+    /// No row had the key: this place on its path was empty.
     Initial { place: u32 },
+    /// All places held other keys.
     PageFull,
 }
 
@@ -30,6 +34,7 @@ fn walk<C: Content>(hand: &mut Hand<C>, site: Site, key: &[u64]) -> Seen
     requires { IsAtWork site (view_of hand.old) }
     ensures table { table_of hand.new ≡ table_of hand.old }
     ensures walked { Walks site (view_of hand.old) (view_of hand.new) key.now result }
+    ensures told { Tells C.lawful C.fits (view_of hand.new) }
 {
     let start = hand.page_start(site.page);
     let mut place = first_place(site.sizes, key);
@@ -87,6 +92,7 @@ pub(crate) fn look<C: Content>(
     requires room { site.sizes.width ≤ length buffer.old }
     ensures table { table_of hand.new ≡ table_of hand.old }
     ensures look { Glances site (C.fits (view_of hand.old).log) (view_of hand.old) (view_of hand.new) key.now buffer.new result }
+    ensures told { IsTold (C.fits (view_of hand.new).log) (view_of hand.new) site.version }
 {
     match walk(hand, site, key) {
         Seen::Same { row } => {

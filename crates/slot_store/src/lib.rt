@@ -8,11 +8,12 @@
 mod catching;
 mod claiming;
 mod comparing;
-mod finding;
+pub mod finding;
 pub mod page;
 pub mod pass;
 pub mod paths;
 pub mod pinned;
+pub mod pinned_hand;
 mod pinned_page;
 mod pinning;
 mod placing;

@@ -5,6 +5,7 @@ ghost use Rattle.std.specs.Borrow.{sem, follows_so};
 ghost use Rattle.slot_store.specs.Keys.{row_of};
 ghost use Rattle.slot_store.specs.Logs.{IsEntryOf};
 ghost use Rattle.slot_store.specs.Answers.{Finds, LendsFitting, Publishes, ReadsLog};
+ghost use Rattle.slot_store.specs.GraphAnswers.{WhereTold, LookTells, TellsPut};
 
 use pin_rule::content::Content;
 
@@ -39,6 +40,10 @@ pub enum Put {
 /// A row has a key, which is not empty, and a payload. Each key has a path
 /// through all places of the page, and stands at the first place of its path
 /// that was empty when it was published (open addressing with linear probing).
+///
+/// Where the page tells its graph, which is its rows, a look finds a row exactly
+/// where the graph has one with the key. A page that others extend meanwhile
+/// cannot tell it.
 pub trait Page<C: Content> {
     ghost use Rattle.slot_store.specs.Meaning.{Meaning};
 
@@ -59,6 +64,7 @@ pub trait Page<C: Content> {
     fn find(&mut self, key: &[u64]) -> Look<'_>
         requires { 0 < length key.now }
         ensures lent { LendsFitting (C.fits (means self.old).log) key.now result }
+        ensures graph { WhereTold (means self.old).graph (LookTells (means self.old).sizes.places key.now result) }
         ensures* found { sem 𝓛 (follows_so Self.row Self.row self.entry.ghost_name none (λ _ _. ⊤)
             (λ n. Finds C.fits (means self.old) (means n) key.now result)) };
 
@@ -67,6 +73,7 @@ pub trait Page<C: Content> {
         requires key { 0 < length key.now }
         requires fits { C.fits (means self.old).log (row_of key.now payload.now) }
         ensures put { Publishes (means self.old) (means self.new) key.now payload.now result }
+        ensures graph { TellsPut (means self.old) (means self.new) key.now payload.now result }
         ensures wide { (result ≡ Put.TooWide) ↔ ((means self.old).sizes.width - 2 < length key.now + length payload.now) }
         ensures free { (means self.new).own ≡ None };
 }

@@ -6,6 +6,7 @@ ghost use Rattle.slot_store.specs.Pinning.{TakesPin, DropsPin};
 use crate::catching::catch_up;
 use crate::pass::{Pass, Spent};
 use crate::pinned::Pinned;
+use crate::pinned_hand::PinnedHand;
 use crate::site::{Site, page_in, version_in};
 use pin_rule::content::Content;
 
@@ -49,13 +50,14 @@ impl<C: Content> Pass<C> {
             version: version_in(current),
         };
         catch_up(&mut hand, site, front);
-        Ok(Pinned {
+        let hand = PinnedHand {
             hand,
             site,
             next,
             left: left - 1,
             buffer,
-        })
+        };
+        Ok(Pinned { hand })
     }
 }
 
@@ -64,15 +66,10 @@ impl<C: Content> Pinned<C> {
     pub fn unpin(self) -> Pass<C>
         ensures { DropsPin (means_of self) (pass_of result) }
     {
-        let Pinned {
-            hand,
-            site,
-            next,
-            left,
-            buffer,
-        } = self;
-        let mut hand = hand;
-        hand.unpin(site.page);
+        let site = self.hand.site;
+        let next = self.hand.next;
+        let left = self.hand.left;
+        let (hand, buffer) = self.hand.unpin();
         Pass {
             hand,
             sizes: site.sizes,

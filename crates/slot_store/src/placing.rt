@@ -2,6 +2,7 @@
 
 ghost use Rattle.std.specs.Prelude.{◌≡◌, ◌≤◌, ◌<◌, ◌+◌, ℕ, length};
 ghost use Rattle.pin_rule.specs.Hands.{view_of, table_of};
+ghost use Rattle.pin_rule.specs.Told.{Tells};
 ghost use Rattle.slot_store.specs.Keys.{row_of};
 ghost use Rattle.slot_store.specs.Walks.{IsAtWork, OwnsRow, IsPlaceable, Offers, Places};
 
@@ -36,7 +37,8 @@ fn offer<C: Content>(
     requires row { row < site.sizes.rows }
     requires place { (step : ℕ) × IsPlaceable (C.fits (view_of hand.old).log) site (view_of hand.old) row key.now payload.now step place }
     ensures table { table_of hand.new ≡ table_of hand.old }
-    ensures offer { Offers site (view_of hand.old) (view_of hand.new) place row (row_of key.now payload.now) result }
+    ensures offer { Offers site (view_of hand.old) (view_of hand.new) place row key.now (row_of key.now payload.now) result }
+    ensures told { Tells C.lawful C.fits (view_of hand.new) }
 {
     let met = hand.load_place(site.page, place);
     if met != 0 {
@@ -62,6 +64,7 @@ pub(crate) fn place_row<C: Content>(
     requires fits { C.fits (view_of hand.old).log (row_of key.now payload.now) }
     ensures table { table_of hand.new ≡ table_of hand.old }
     ensures placed { Places site (view_of hand.old) (view_of hand.new) row key.now (row_of key.now payload.now) result }
+    ensures told { Tells C.lawful C.fits (view_of hand.new) }
 {
     let mut place = first_place(site.sizes, key);
     for _step in 0..site.sizes.places {

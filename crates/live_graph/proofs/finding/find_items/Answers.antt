@@ -16,6 +16,6 @@ returns-in_ok-expansion-in-Found-clause-looks g c =
     let same = c.in_ok-expansion-in-Found.ensures can.0 can.1 can.3 in
     record {
       added = added.0;
-      comes = record { is = added.1; quiet = added.2 };
+      passes = record { is = added.1; quiet = added.2 };
       looks = (c.in-Found.payload.now, (subst FitsCoding (sym same) can.1, can.3 ∙ ap item_payload_words (sym same)), added.3);
     }

@@ -48,6 +48,6 @@ returns-clause-came g c =
     c.in_ok-expansion.ensures.looks) in
     offered_came CodesItems c.args.grammar.now.grammar (g.P.Page.means c.args.page.now) (g.P.Page.means c.find_items.new.page)
     (g.P.Page.means c.offer-origin.new.page) (kernel c.args.kernel.now) c.deref-2.result.now c.in_ok-payload.payload.items c.deref-3.result.now
-    (c.deref-2.ensures.value ∙ c.in_ok-key.ensures.words) c.offer-origin.result
+    (c.deref-2.ensures.value ∙ c.in_ok-key.ensures.words) c.offer-origin.result c.is_kernel.ensures
     (c.in_ok-expansion-2.expansion, c.in_ok-expansion-2.ensures.expansion, c.in_ok-payload.ensures.words) c.deref-3.ensures.value looked
     c.offer-origin.ensures

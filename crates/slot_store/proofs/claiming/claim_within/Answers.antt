@@ -7,7 +7,12 @@ use Rattle.slot_store.proofs.Taking.{starts, won, goes_on, ends}
 use Rattle.slot_store.proofs.claiming.claim_within.Goals as goal
 
 pub loop-row-init : goal.loop-row-init
-loop-row-init g c = record { table = refl; taking = starts c.args.site (view_of c.args.hand.now) c.args.from c.requires.free }
+loop-row-init g c = record {
+  table = refl;
+  taking = starts c.args.site (view_of c.args.hand.now) c.args.from c.requires.free;
+  told = λ lt. absurd (omega arith);
+  still = λ t. t;
+}
 
 pub claim-requires-clause-share : goal.claim-requires-clause-share
 claim-requires-clause-share g c = let t = c.loop-row.invariant.taking in
@@ -38,8 +43,13 @@ loop-row-preserved g c = record {
   taking = goes_on c.args.site (view_of c.args.hand.now) (view_of c.loop-row.hand)
       (view_of c.claim.new.self) c.requires.work c.args.from c.loop-row.row c.claim.result c.claim.ensures.view c.loop-row.invariant.taking c.if-claim-eq0.false
       c.claim.ensures.met;
+  told = λ _. c.claim.ensures.told;
+  still = λ _. c.claim.ensures.told;
 }
 
 pub returns-clause-claim : goal.returns-clause-claim
 returns-clause-claim g c = ends c.args.site (view_of c.args.hand.now)
     (view_of c.loop-row.hand) c.args.from c.loop-row.row c.args.to c.loop-row-test.false c.loop-row.invariant.taking
+
+pub returns-clause-told : goal.returns-clause-told
+returns-clause-told g c lt = let out = c.loop-row-test.false in c.loop-row.invariant.told (omega arith)

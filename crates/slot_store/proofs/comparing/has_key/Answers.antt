@@ -36,6 +36,7 @@ loop-i-init g c =
       table = c.load_row_at.ensures.table;
       room = omega arith;
       reading = past_one z v u row key (agrees z v v u row key c.requires.work 0 0 n (first_in z) is start length_is refl);
+      told = c.load_row_at.ensures.told;
     }
 
 pub load_row_at-requires-in-loop-i-clause-keeps : goal.load_row_at-requires-in-loop-i-clause-keeps
@@ -67,6 +68,7 @@ loop-i-preserved g c =
       table = c.load_row_at-in-loop-i.ensures.table ∙ c.loop-i.invariant.table;
       room = c.loop-i.invariant.room;
       reading = subst (Reading c.args.site v u c.args.row key) (let r : i + 2 + 1 ≡ i + 1 + 2 = omega arith in r) next;
+      told = c.load_row_at-in-loop-i.ensures.told;
     }
 
 pub returns-clause-compared : goal.returns-clause-compared

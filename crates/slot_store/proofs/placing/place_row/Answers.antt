@@ -1,6 +1,5 @@
-use Rattle.std.proofs.Common.{◌≡◌, ◌-◌, ◌<◌, ℕ, List, refl, ◌∙◌, arith}
+use Rattle.std.proofs.Common.{◌≡◌, ◌-◌, ◌<◌, ℕ, refl, ◌∙◌, arith}
 use Rattle.std.specs.Prelude.{IsTrue, Bool, true, false}
-use Rattle.pin_rule.specs.declared.view.Step.{Step}
 use Rattle.pin_rule.specs.Hands.{view_of}
 use Rattle.slot_store.specs.Keys.{row_of}
 use Rattle.slot_store.specs.Walks.{IsRowStep}
@@ -18,6 +17,7 @@ loop-step-init g c = record {
   owns = c.requires.owns;
   walking = starts (IsRowStep c.args.site.sizes c.args.row (row_of c.args.key.now c.args.payload.now)) c.args.site (view_of c.args.hand.now) c.args.key.now
       c.first_place-place.result c.first_place-place.ensures;
+  told = λ n. absurd (n refl);
 }
 
 pub offer-met-requires-clause-work : goal.offer-met-requires-clause-work
@@ -43,10 +43,10 @@ returns-clause-placed g c = full c.args.site (view_of c.args.hand.now) (view_of 
 
 pub overflow_cast-met : goal.overflow_cast-met
 overflow_cast-met g c = let few = c.args.site.sizes.rows_in in let n : ℕ = c.offer-met.result in
-    let inside : n - 1 < c.args.site.sizes.rows = (c.offer-met.ensures.offer.lost (n - 1) (row_met n c.if-met-eq0.false)).1.0 in record { fits = omega arith }
+    let inside : n - 1 < c.args.site.sizes.rows = (c.offer-met.ensures.offer.lost (n - 1) (row_met n c.if-met-eq0.false)).met.0 in record { fits = omega arith }
 
 pub has_key-requires-clause-row : goal.has_key-requires-clause-row
-has_key-requires-clause-row g c = let n : ℕ = c.offer-met.result in (c.offer-met.ensures.offer.lost (n - 1) (row_met n c.if-met-eq0.false)).1.0
+has_key-requires-clause-row g c = let n : ℕ = c.offer-met.result in (c.offer-met.ensures.offer.lost (n - 1) (row_met n c.if-met-eq0.false)).met.0
 
 pub returns-then-has_key-clause-placed : goal.returns-then-has_key-clause-placed
 returns-then-has_key-clause-placed g c = let n : ℕ = c.offer-met.result in
@@ -73,4 +73,13 @@ loop-step-preserved g c =
       walking = goes_on (IsRowStep z.sizes row words) (plain_row z.sizes row words) z v w key step place k u x (n - 1) m (IsTrue c.has_key.result)
           c.has_key.ensures.compared (λ t. not_both c.has_key.result t c.if-has_key.false) c.next_place-place.result
           (c.next_place-place.ensures key step k.at);
+      told = λ _. c.has_key.ensures.told;
     }
+
+pub has_key-requires-clause-work : goal.has_key-requires-clause-work
+has_key-requires-clause-work g c = let n : ℕ = c.offer-met.result in let z = c.args.site in let v = view_of c.args.hand.now in
+    let w = view_of c.loop-step.hand in let u = view_of c.offer-met.new.hand in let k = c.loop-step.invariant.walking in let f = c.offer-met.ensures.offer in
+    work_on z w u f.added (work_on z v w k.added c.requires.work k.moves) (f.lost (n - 1) (row_met n c.if-met-eq0.false)).moves
+
+pub returns-clause-told : goal.returns-clause-told
+returns-clause-told g c = let some = c.args.site.sizes.places_in in let out = c.loop-step-test.false in c.loop-step.invariant.told (λ e. omega arith)

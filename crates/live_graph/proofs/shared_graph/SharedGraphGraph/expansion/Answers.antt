@@ -5,7 +5,8 @@ use Rattle.live_graph.specs.Asking.{AsksKernel}
 use Rattle.live_graph.specs.Sharing.{means_shared}
 use Rattle.live_graph.specs.Answers.{origins, kernel_key}
 use Rattle.live_graph.proofs.KeptEntries.{value_at}
-use Rattle.live_graph.proofs.Keeping.{kernel_kept, grown_or_later}
+use Rattle.live_graph.proofs.KeptGrowth.{grown_or_later}
+use Rattle.live_graph.proofs.Keeping.{kernel_kept}
 use Rattle.live_graph.proofs.shared_graph.SharedGraphGraph.expansion.Goals as goal
 
 pub place_of_items-requires-clause-items : goal.place_of_items-requires-clause-items

@@ -4,7 +4,8 @@ use Rattle.live_graph.specs.Asking.{AsksScan}
 use Rattle.live_graph.specs.Sharing.{means_shared}
 use Rattle.live_graph.specs.Answers.{origins, scan_key}
 use Rattle.live_graph.proofs.KeptEntries.{value_at}
-use Rattle.live_graph.proofs.Keeping.{scan_kept, grown_or_later}
+use Rattle.live_graph.proofs.KeptGrowth.{grown_or_later}
+use Rattle.live_graph.proofs.Keeping.{scan_kept}
 use Rattle.live_graph.proofs.shared_graph.SharedGraphGraph.scan.Goals as goal
 
 pub place_of_scan-requires-clause-marks : goal.place_of_scan-requires-clause-marks
