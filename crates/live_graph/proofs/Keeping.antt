@@ -1,5 +1,5 @@
 -- What a graph over a page keeps stays true of it, whichever key is asked for.
-use Rattle.std.proofs.Common.{◌≡◌, ◌⊎◌, inl, inr, ℕ, ◌<◌, List, [], Option, ◌∷◌, ◌++◌, Result, Ok, Err, OnOk, OnErr, length, Contains, refl, sym, ap, ◌∙◌, subst, arith}
+use Rattle.std.proofs.Common.{◌≡◌, inl, inr, ℕ, ◌<◌, List, [], Option, ◌∷◌, ◌++◌, length, Contains, sym, ap, ◌∙◌, subst, arith}
 use Rattle.std.proofs.lemmas.List.Elements.{Contains-push_cases}
 use Rattle.forest.specs.Distinct.{IsDistinct}
 use Rattle.edit_log.specs.History.{Grammar}
@@ -17,11 +17,12 @@ use Rattle.live_graph.specs.declared.origin.Origin.TheVariants.{Found, Made, Rac
 use Rattle.live_graph.specs.declared.answer.Answer.{Answer}
 use Rattle.live_graph.specs.Sharing.{keys_in}
 use Rattle.live_graph.specs.Ending.{EndsShown}
-use Rattle.live_graph.specs.Showing.{Comes, HasNoRow, HasNoPlace, WasFound, WasMade, WasThere, Came}
-use Rattle.live_graph.specs.Answers.{HasCome, AddsKey, origins, HoldsAnswers, HoldsOrigins, ExpandsKernel, ExpandsScan, kernel_key, scan_key, IsKept}
+use Rattle.live_graph.specs.Showing.{HasNoRow, HasNoPlace, Came}
+use Rattle.live_graph.specs.Answers.{origins, HoldsAnswers, HoldsOrigins, ExpandsKernel, ExpandsScan, kernel_key, scan_key, IsKept}
 use Rattle.live_graph.proofs.Steps.{came_before, came_behind, shown, comes_join, comes_none}
 use Rattle.live_graph.proofs.KeptAnswers.{origins_push, keys_push}
 use Rattle.live_graph.proofs.KeptGrowth.{HasGrown}
+use Rattle.live_graph.proofs.KeptGraphs.{told_at_first, kernel_told, scan_told}
 
 -- ---- a page with more steps is the same page
 
@@ -69,7 +70,7 @@ origins_grown : {K E : Type 0} (grammar : Grammar) (as_key : K → Key) (basis p
     → page ≡ extended (with_graph basis page.graph) added → (grown : HasGrown grammar as_key page next old new) → HoldsOrigins as_key basis added grammar (origins old)
     → HoldsOrigins as_key basis (added ++ grown.more) grammar (origins new)
 origins_grown grammar as_key basis page next added old new is grown holds = elim grown.kept [
-  | inl same ↦
+  | inl (same, told) ↦
       subst (λ kept. HoldsOrigins as_key basis (added ++ grown.more) grammar (origins kept)) (sym same)
       (origins_stay as_key basis added grown.more grammar (origins old) holds)
   | inr gained ↦
@@ -80,7 +81,7 @@ origins_grown grammar as_key basis page next added old new is grown holds = elim
 once_grown : {K E : Type 0} (grammar : Grammar) (as_key : K → Key) (page next : PageMeaning) (old new : List (K × Answer E))
     → HasGrown grammar as_key page next old new → IsDistinct (keys_in (origins old)) → IsDistinct (keys_in (origins new))
 once_grown grammar as_key page next old new grown once = elim grown.kept [
-  | inl same ↦ subst (λ kept. IsDistinct (keys_in (origins kept))) (sym same) once
+  | inl (same, told) ↦ subst (λ kept. IsDistinct (keys_in (origins kept))) (sym same) once
   | inr gained ↦
       subst (λ kept. IsDistinct (keys_in kept)) (sym (ap origins gained.longer ∙ origins_push old gained.key gained.answer))
       (subst IsDistinct (sym (keys_push (origins old) gained.key gained.answer.origin))
@@ -105,6 +106,7 @@ module _ (grammar : Grammar) (basis page next : PageMeaning) (scans : List (Scan
     kernels_once = once_grown grammar kernel_key page next kernels new grown kept.kernels_once;
     few_scans = kept.few_scans;
     few_kernels = few;
+    graph = kernel_told grammar basis page next scans kernels kept new grown;
   }
 
   pub scan_kept : (new : List (ScanKey × Answer ScanExpansion)) → HasGrown grammar scan_key page next scans new
@@ -121,6 +123,7 @@ module _ (grammar : Grammar) (basis page next : PageMeaning) (scans : List (Scan
     kernels_once = kept.kernels_once;
     few_scans = few;
     few_kernels = kept.few_kernels;
+    graph = scan_told grammar basis page next scans kernels kept new grown;
   }
 
 -- ---- at first and at the end
@@ -148,6 +151,7 @@ kept_at_first grammar basis page scans kernels log same no_scan no_kernel =
       kernels_once = tt;
       few_scans = omega arith;
       few_kernels = omega arith;
+      graph = told_at_first grammar page;
     }
 
 pub kept_ends : (grammar : Grammar) (basis page : PageMeaning) (scans : List (ScanKey × Answer ScanExpansion))

@@ -1,32 +1,5 @@
 -- Keys that are kept with their answers, and one more of them.
-use Rattle.std.proofs.Common.{
-  ◌≡◌,
-  ◌⊎◌,
-  inl,
-  inr,
-  ℕ,
-  suc,
-  ◌+◌,
-  ◌<◌,
-  Bool,
-  List,
-  [],
-  ◌∷◌,
-  ◌++◌,
-  map,
-  length,
-  slice_get,
-  position,
-  None,
-  Some,
-  Contains,
-  refl,
-  sym,
-  ap,
-  ◌∙◌,
-  subst,
-  arith,
-}
+use Rattle.std.proofs.Common.{◌≡◌, inl, inr, ℕ, ◌+◌, ◌<◌, Bool, List, [], ◌∷◌, ◌++◌, map, length, slice_get, position, None, Some, Contains, refl, sym, ap, ◌∙◌, subst, arith}
 use Rattle.std.specs.Bool.{Decides}
 use Rattle.std.specs.Cmp.{IsEquivalence}
 use Rattle.std.specs.List.{position_or_len}
@@ -35,14 +8,13 @@ use Rattle.std.proofs.lemmas.List.{length-append, map-append}
 use Rattle.std.proofs.lemmas.List.Elements.{Contains-push_cases}
 use Rattle.indexmap.specs.IndexMap.{insert_entry}
 use Rattle.indexmap.proofs.MapLemmas.{Missing-position, insert_entry-absent}
-use Rattle.edit_log.specs.History.{Grammar}
 use Rattle.live_graph.specs.declared.origin.Origin.{Origin}
 use Rattle.live_graph.specs.declared.origin.Origin.TheVariants.{Found, Made, Raced, Alone}
 use Rattle.live_graph.specs.declared.answer.Answer.{Answer}
-use Rattle.live_graph.specs.Asking.{Joins, Works, Asks}
+use Rattle.live_graph.specs.Asking.{Works, Asks}
 use Rattle.live_graph.specs.Sharing.{own_with, own_keys, keys_in, asked_with}
-use Rattle.live_graph.specs.Answers.{Pays, origins, HoldsAnswers, StandsAnswer}
-use Rattle.live_graph.proofs.KeptEntries.{StandsAt, stands_at, IsPut, is_put}
+use Rattle.live_graph.specs.Answers.{Pays, origins, HoldsAnswers}
+use Rattle.live_graph.proofs.KeptEntries.{is_put}
 
 -- ---- the keys of what is kept
 

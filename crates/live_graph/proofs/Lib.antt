@@ -6,7 +6,10 @@ pub mod Steps
 pub mod RowsOfKeys
 pub mod NextEdits
 pub mod TallyCounts
+pub mod ToldGraphs
+pub mod GraphGrowth
 pub mod Comings
 pub mod KeptAnswers
 pub mod KeptGrowth
+pub mod KeptGraphs
 pub mod Keeping

@@ -1,7 +1,7 @@
 -- Rows of the keys of a grammar, in the log of that grammar.
-use Rattle.std.proofs.Common.{◌≡◌, ℕ, ◌<◌, List, length, refl, sym, ap, ◌∙◌, subst, arith}
+use Rattle.std.proofs.Common.{◌≡◌, ℕ, ◌<◌, List, refl, sym, ◌∙◌, subst}
 use Rattle.std.specs.List.Sorted.{IsStrictlySortedBy}
-use Rattle.edit_log.specs.History.{Grammar, grammar_of}
+use Rattle.edit_log.specs.History.{Grammar}
 use Rattle.edit_log.specs.Facts.{IsWellFormed}
 use Rattle.edit_log.proofs.HistoryLaws.{well_formed_always}
 use Rattle.item_sets.specs.declared.item.Item.{Item}
@@ -18,7 +18,7 @@ use Rattle.isg_states.specs.Marks.{AreAscending}
 use Rattle.isg_states.specs.Expansion.{AreMarks, IsScanExpansionOf}
 use Rattle.pin_rule.specs.declared.content.Entry.{Entry}
 use Rattle.row_coding.specs.Words.{item_payload_words, scan_payload_words}
-use Rattle.row_coding.specs.Rows.{Key, kernel, scan, key_words, FitsKey, row_words}
+use Rattle.row_coding.specs.Rows.{Key, kernel, scan, key_words, FitsKey}
 use Rattle.row_coding.specs.Conditions.{FitsCoding, FitsScanCoding}
 use Rattle.row_coding.proofs.OneCoding.{one_key, one_item_payload, one_scan_payload}
 use Rattle.row_coding.proofs.ExpansionsFit as items_fit
@@ -28,7 +28,7 @@ use Rattle.graph_content.specs.Rows.{IsPayloadOf, IsRowOf}
 use Rattle.graph_content.specs.Contents.{IsLogOfGrammar, FitsLog}
 use Rattle.graph_content.proofs.KeySizes.{history_key_fits, history_index_small}
 use Rattle.graph_content.proofs.LogLaws.{one_grammar}
-use Rattle.graph_content.proofs.RowKeys.{AreSameParts, row_parts}
+use Rattle.graph_content.proofs.RowKeys.{row_parts}
 use Rattle.slot_store.specs.Keys.{row_of}
 use Rattle.live_graph.specs.Answers.{CanReadItems, CanReadScan}
 

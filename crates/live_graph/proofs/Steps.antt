@@ -1,38 +1,14 @@
 -- What steps show, more steps show too.
-use Rattle.std.proofs.Common.{
-  ◌≡◌,
-  ◌⊎◌,
-  inl,
-  inr,
-  ℕ,
-  ◌+◌,
-  ◌-◌,
-  ◌<◌,
-  ◌≤◌,
-  List,
-  [],
-  ◌∷◌,
-  ◌++◌,
-  length,
-  refl,
-  sym,
-  ap,
-  ◌∙◌,
-  subst,
-  arith,
-  append_assoc,
-  append-nil,
-}
+use Rattle.std.proofs.Common.{◌≡◌, inl, inr, ℕ, List, [], ◌++◌, sym, ap, ◌∙◌, subst, arith, append_assoc, append-nil}
 use Rattle.edit_log.specs.History.{Grammar}
 use Rattle.pin_rule.specs.declared.view.Step.{Step}
 use Rattle.pin_rule.proofs.Lists.{each_append}
 use Rattle.row_coding.specs.Rows.{Key, key_words}
 use Rattle.slot_store.specs.Meaning.{Meaning as PageMeaning, with_graph, extended}
 use Rattle.slot_store.specs.Quiet.{IsQuiet}
-use Rattle.graph_content.specs.Rows.{IsPayloadOf}
 use Rattle.live_graph.specs.declared.origin.Origin.{Origin}
 use Rattle.live_graph.specs.declared.origin.Origin.TheVariants.{Found, Made, Raced, Alone}
-use Rattle.live_graph.specs.Showing.{StandsAmong, Comes, HasStepped, IsNarrow, IsWide, HasNoRow, HasNoPlace, WasFound, WasMade, WasThere, ShowsKey, Came}
+use Rattle.live_graph.specs.Showing.{StandsAmong, Comes, IsNarrow, HasNoRow, HasNoPlace, WasFound, WasMade, WasThere, ShowsKey, Came}
 use Rattle.live_graph.specs.Showing.ShowsKey.{found, made, met, no_row, no_place}
 use Rattle.live_graph.specs.Answers.{Passes, HasPassed}
 

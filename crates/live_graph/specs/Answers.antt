@@ -1,5 +1,5 @@
 -- What a page and a user of it answer about one key: parts of the work of a graph over the page.
-use Rattle.std.specs.Prelude.{◌≡◌, ◌⊎◌, ℕ, ◌+◌, ◌-◌, ◌<◌, List, [], ◌∷◌, ◌++◌, Contains, length, map, slice_get, Some, None, Option, Result, IfOk}
+use Rattle.std.specs.Prelude.{◌≡◌, ◌⊎◌, ℕ, ◌+◌, ◌-◌, ◌<◌, List, [], ◌∷◌, ◌++◌, Contains, length, map, slice_get, Some, None, Option}
 use Rattle.forest.specs.Distinct.{IsDistinct}
 use Rattle.edit_log.specs.History.{Grammar}
 use Rattle.item_sets.specs.declared.item.Item.{Item}
@@ -10,19 +10,23 @@ use Rattle.isg_states.specs.declared.ranges.ScanExpansion.{ScanExpansion}
 use Rattle.isg_states.specs.Expansion.{IsScanExpansionOf}
 use Rattle.pin_rule.specs.declared.sizes.Sizes.{Sizes}
 use Rattle.pin_rule.specs.declared.view.Step.{Step}
-use Rattle.pin_rule.specs.Lists.{Each}
+use Rattle.pin_rule.specs.Lists.{Each, In}
 use Rattle.slot_store.specs.Meaning.{Meaning as PageMeaning, extended}
 use Rattle.slot_store.specs.Quiet.{IsQuiet}
+use Rattle.slot_store.specs.Keys.{row_of}
+use Rattle.slot_store.specs.GraphAnswers.{WhereTold, HasRowWith, HasRows, AddsRow}
 use Rattle.slot_store.specs.Answers.{IsFound, IsMade, IsAlready, IsPageFull, IsPoolFull, IsInitial}
 use Rattle.row_coding.specs.Words.{item_payload_words, scan_payload_words}
 use Rattle.row_coding.specs.Conditions.{FitsCoding, IsTyped, FitsScanCoding, IsTypedScan}
 use Rattle.row_coding.specs.Rows.{Key, key_words, kernel, scan}
+use Rattle.graph_content.specs.Rows.{IsRowOf}
 use Rattle.graph_content.specs.Contents.{FitsLog, IsLogOfGrammar}
 use Rattle.live_graph.specs.declared.origin.Origin.{Origin}
 use Rattle.live_graph.specs.declared.origin.Origin.TheVariants.{Found, Made, Raced, Alone}
 use Rattle.live_graph.specs.declared.answer.Answer.{Answer}
 use Rattle.live_graph.specs.Sharing.{keys_in}
-use Rattle.live_graph.specs.Showing.{Comes, Came}
+use Rattle.live_graph.specs.Showing.{Comes, Came, IsWide}
+use Rattle.live_graph.specs.Growing.{WhereBothTold, HasRowOf, TellsGraph}
 
 -- the words code this expansion
 abbrev pub CodesItems : List ℕ → Expansion → Type 0
@@ -42,10 +46,11 @@ CanReadScan payload = (coded : ScanExpansion) × FitsScanCoding coded × IsTyped
 abbrev pub IsMissing : Sizes → ℕ → List Step → List ℕ → Type 0
 IsMissing z page added key = ((place : ℕ) × IsInitial z page added key place) ⊎ IsPageFull z page added key
 
--- by the steps that were added to those of the page a row was found whose payload codes the expansion, or none
+-- by the steps that were added to those of the page a row was found whose payload codes the expansion, or none; and just so is the graph
 abbrev pub Looks : {E : Type 0} → (List ℕ → E → Type 0) → PageMeaning → List Step → List ℕ → Option E → Type 0
-Looks Codes m added key None = IsMissing m.sizes m.page added key
+Looks Codes m added key None = IsMissing m.sizes m.page added key × WhereTold m.graph (λ graph. ¬ (HasRowWith graph key))
 Looks Codes m added key (Some expansion) = (payload : List ℕ) × Codes payload expansion × IsFound m.sizes m.page added (FitsLog m.log) key payload
+    × WhereTold m.graph (In (row_of key payload))
 
 -- only these steps came, none of which pins or changes a version, and the graph is as it was
 pub record Passes (old new : PageMeaning) (added : List Step) : Type 0 where
@@ -69,17 +74,34 @@ WasOffered z page added key payload Made = IsMade z page added key payload
 WasOffered z page added key payload Raced = IsAlready z page added key
 WasOffered z page added key payload Alone = (z.width - 2 < length key + length payload) ⊎ (IsPoolFull z page added ⊎ IsPageFull z page added key)
 
+-- what became of the graph, as its row was or was not published
+abbrev pub Publishes : Sizes → (key payload : List ℕ) → Origin → (before after : List (List ℕ)) → Type 0
+Publishes z key payload Found before after = ⊥
+Publishes z key payload Made before after = (¬ (HasRowWith before key)) × AddsRow before after (row_of key payload)
+Publishes z key payload Raced before after = HasRowWith before key
+Publishes z key payload Alone before after = (after ≡ before) × ((z.width - 2 < length key + length payload) ⊎ (HasRows before z.rows ⊎ HasRows before z.places))
+
 -- the call that publishes added only its steps
 pub record HasOffered (old new : PageMeaning) (key payload : List ℕ) (origin : Origin) : Type 0 where
   pub added : List Step
   pub comes : Comes old new added
   pub offers : WasOffered old.sizes old.page added key payload origin
+  pub graph : WhereBothTold old.graph new.graph (Publishes old.sizes key payload origin)
+
+-- what became of the graph, as the key's expansion came so
+abbrev pub GoesOnBy : Sizes → Grammar → Key → Origin → (before after : List (List ℕ)) → Type 0
+GoesOnBy z grammar key Found before after = (after ≡ before) × HasRowOf grammar key before
+GoesOnBy z grammar key Made before after = (¬ (HasRowWith before (key_words key))) × ((row : List ℕ) × IsRowOf grammar key row × AddsRow before after row)
+GoesOnBy z grammar key Raced before after = ⊥
+GoesOnBy z grammar key Alone before after = (after ≡ before) × (¬ (HasRowWith before (key_words key)))
+    × (IsWide z grammar key ⊎ (HasRows before z.rows ⊎ HasRows before z.places))
 
 -- by the steps that were added the key's expansion came so
 pub record HasCome (grammar : Grammar) (old new : PageMeaning) (key : Key) (origin : Origin) : Type 0 where
   pub added : List Step
   pub comes : Comes old new added
   pub came : Came old added grammar key origin
+  pub graph : WhereBothTold old.graph new.graph (GoesOnBy old.sizes grammar key origin)
 
 -- a key that was found took no steps of expansion, and each other took its cost
 abbrev pub Pays : {K : Type 0} → (K → ℕ → Type 0) → K → Origin → (before after : ℕ) → Type 0
@@ -140,3 +162,4 @@ pub record IsKept (grammar : Grammar) (basis page : PageMeaning) (scans : List (
   pub kernels_once : IsDistinct (keys_in (origins kernels))
   pub few_scans : length scans < 4294967296
   pub few_kernels : length kernels < 4294967296
+  pub graph : TellsGraph (record { grammar = grammar; basis = basis; page = page; scans = origins scans; kernels = origins kernels })

@@ -5,6 +5,7 @@ pub mod Kept
 pub mod Sharing
 pub mod Showing
 pub mod Tallying
+pub mod Growing
 pub mod CatchingUp
 pub mod Answers
 pub mod Ending

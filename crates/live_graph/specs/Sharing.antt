@@ -1,5 +1,5 @@
 -- What a graph over a page of a shared table means.
-use Rattle.std.specs.Prelude.{Bool, true, false, List, [], ◌∷◌, map}
+use Rattle.std.specs.Prelude.{List, [], ◌∷◌, map}
 use Rattle.edit_log.specs.History.{Grammar}
 use Rattle.item_sets.specs.declared.item.Item.{Item}
 use Rattle.isg_states.specs.declared.scan_key.ScanKey.{ScanKey}

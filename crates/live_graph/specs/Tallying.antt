@@ -1,5 +1,5 @@
 -- How often the expansion of a key came in each way.
-use Rattle.std.specs.Prelude.{◌≡◌, ℕ, suc, ◌+◌, List, fold, map}
+use Rattle.std.specs.Prelude.{◌≡◌, suc, ◌+◌, List, fold}
 use Rattle.live_graph.specs.declared.origin.Origin.{Origin}
 use Rattle.live_graph.specs.declared.origin.Origin.TheVariants.{Found, Made, Raced, Alone}
 use Rattle.live_graph.specs.declared.tally.Tally.{Tally}

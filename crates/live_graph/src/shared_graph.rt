@@ -4,6 +4,7 @@ ghost use Rattle.std.specs.Prelude.{◌≡◌, [], IfOk, IfErr};
 ghost use Rattle.graph_content.specs.Contents.{IsLogOfGrammar};
 ghost use Rattle.live_graph.specs.Tallying.{tallies_of};
 ghost use Rattle.live_graph.specs.Ending.{EndsShown};
+ghost use Rattle.live_graph.specs.Growing.{TellsGraph};
 
 use crate::NoMemory;
 use crate::answer::Answer;
@@ -85,10 +86,15 @@ impl<P: Page<GraphRows>> SharedGraph<'_, P> {
     }
 
     /// Gives the page back, and how the expansions of the keys came that were asked for.
+    ///
+    /// Where the page tells its graph, those keys were found of which the graph at first had a row, and as many rows
+    /// were added as were made. So the cost, which is that of the keys that were not found, is the sum over the keys
+    /// that were asked for and are not in the graph at first.
     pub fn end(self) -> (P, Tallies)
         ensures page { P.means result.0 ≡ self.entry.page }
         ensures tallies { result.1 ≡ tallies_of self.entry }
         ensures ends { EndsShown self.entry }
+        ensures graph { TellsGraph self.entry }
     {
         let SharedGraph {
             grammar: _,

@@ -1,7 +1,6 @@
-use Rattle.std.proofs.Common.{◌≡◌, ◌∙◌, ap, subst, sym}
+use Rattle.std.proofs.Common.{◌∙◌, ap}
 use Rattle.edit_log.specs.History.{after_edit}
-use Rattle.edit_log.specs.Verdict.{IsAccepted}
-use Rattle.live_graph.proofs.NextEdits.{IsNextEdit, next_edit, next_accepted, next_behind}
+use Rattle.live_graph.proofs.NextEdits.{next_edit, next_accepted, next_behind}
 use Rattle.live_graph.proofs.catching.apply_next.Goals as goal
 use Rattle.live_graph.proofs.catching.apply_next.Goals.{After-log_entry, In_ok-ready}
 

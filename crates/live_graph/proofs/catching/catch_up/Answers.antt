@@ -1,6 +1,6 @@
 use Rattle.std.proofs.Common.{sym, subst}
 use Rattle.live_graph.specs.CatchingUp.{IsAtPrefixLength}
-use Rattle.live_graph.proofs.NextEdits.{behind_at, caught_up, reads_none, reads_join, reads_same_log}
+use Rattle.live_graph.proofs.NextEdits.{behind_at, reads_none}
 use Rattle.live_graph.proofs.catching.catch_up.Goals as goal
 
 pub loop-index-init : goal.loop-index-init

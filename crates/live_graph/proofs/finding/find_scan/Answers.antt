@@ -3,6 +3,7 @@ use Rattle.row_coding.specs.Words.{scan_payload_words}
 use Rattle.row_coding.specs.Conditions.{FitsScanCoding}
 use Rattle.graph_content.specs.Contents.{FitsLog}
 use Rattle.slot_store.specs.Answers.{Finds}
+use Rattle.slot_store.specs.GraphAnswers.{WhereTold, LookTells}
 use Rattle.live_graph.proofs.finding.find_scan.Goals as goal
 
 pub read_scan-requires : goal.read_scan-requires
@@ -12,10 +13,12 @@ pub returns-in_ok-expansion-in-Found-clause-looks : goal.returns-in_ok-expansion
 returns-in_ok-expansion-in-Found-clause-looks g c =
     let added = subst (Finds FitsLog (g.P.Page.means c.args.page.now) (g.P.Page.means c.find.follows.lender-at-none) c.args.key.now) c.in-Found.is
     c.find.follows.holds-at-none in
+    let graph = subst (λ look. WhereTold (g.P.Page.means c.args.page.now).graph (LookTells (g.P.Page.means c.args.page.now).sizes.places c.args.key.now look))
+    c.in-Found.is c.find.ensures.graph in
     let can = c.requires.readable c.in-Found.payload.now c.in-Found.ensures.lent in
     let same = c.in_ok-expansion-in-Found.ensures can.0 can.1 can.3 in
     record {
       added = added.0;
       passes = record { is = added.1; quiet = added.2 };
-      looks = (c.in-Found.payload.now, (subst FitsScanCoding (sym same) can.1, can.3 ∙ ap scan_payload_words (sym same)), added.3);
+      looks = (c.in-Found.payload.now, (subst FitsScanCoding (sym same) can.1, can.3 ∙ ap scan_payload_words (sym same)), added.3, graph);
     }

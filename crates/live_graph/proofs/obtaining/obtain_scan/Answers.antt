@@ -1,5 +1,5 @@
-use Rattle.std.proofs.Common.{◌≡◌, sym, ◌∙◌, subst, Some, None}
-use Rattle.row_coding.specs.Rows.{scan, key_words}
+use Rattle.std.proofs.Common.{◌≡◌, sym, ◌∙◌, subst, None}
+use Rattle.row_coding.specs.Rows.{scan}
 use Rattle.slot_store.specs.Keys.{row_of}
 use Rattle.graph_content.specs.Contents.{FitsLog}
 use Rattle.live_graph.specs.Answers.{CodesScan, HasLooked}

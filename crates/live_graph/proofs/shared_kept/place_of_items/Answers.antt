@@ -1,11 +1,11 @@
-use Rattle.std.proofs.Common.{inl, inr, refl, sym, subst, Contains}
+use Rattle.std.proofs.Common.{inr, sym, subst, Contains}
 use Rattle.std.specs.Cmp.Lexicographic.{pointwise, lists_equiv}
 use Rattle.item_sets.specs.Orders.{item_eq, item_equiv}
 use Rattle.item_sets.specs.Expansions.{IsCost}
 use Rattle.live_graph.specs.Answers.{ExpandsKernel}
 use Rattle.live_graph.proofs.SameKernels.{kernel_eq-decides}
 use Rattle.live_graph.proofs.KeptEntries.{stands_at}
-use Rattle.live_graph.proofs.KeptAnswers.{IsAnswered, is_answered, asks_again, not_asked, asks, holds}
+use Rattle.live_graph.proofs.KeptAnswers.{is_answered, asks_again, not_asked, asks, holds}
 use Rattle.live_graph.proofs.shared_kept.place_of_items.Goals as goal
 use Rattle.live_graph.proofs.shared_kept.place_of_items.Goals.{In_ok-place}
 

@@ -1,10 +1,10 @@
-use Rattle.std.proofs.Common.{inl, inr, refl, sym, subst, Contains}
+use Rattle.std.proofs.Common.{inr, sym, subst, Contains}
 use Rattle.std.specs.Cmp.{decided}
 use Rattle.isg_states.specs.Sameness.{key_eq, key_eq-decides}
 use Rattle.isg_states.specs.Expansion.{IsScanCost}
 use Rattle.live_graph.specs.Answers.{ExpandsScan}
 use Rattle.live_graph.proofs.KeptEntries.{stands_at}
-use Rattle.live_graph.proofs.KeptAnswers.{IsAnswered, is_answered, asks_again, not_asked, asks, holds}
+use Rattle.live_graph.proofs.KeptAnswers.{is_answered, asks_again, not_asked, asks, holds}
 use Rattle.live_graph.proofs.shared_kept.place_of_scan.Goals as goal
 use Rattle.live_graph.proofs.shared_kept.place_of_scan.Goals.{In_ok-place}
 
