@@ -2,3 +2,6 @@ pub mod OneReply
 pub mod ReplySteps
 pub mod TokenKinds
 pub mod EditedLogs
+pub mod OriginCounts
+pub mod UsedGraphs
+pub mod AskedKeys
