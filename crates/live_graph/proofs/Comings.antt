@@ -15,7 +15,7 @@ use Rattle.live_graph.specs.declared.origin.Origin.{Origin}
 use Rattle.live_graph.specs.declared.origin.Origin.TheVariants.{Found, Made, Raced, Alone}
 use Rattle.live_graph.specs.Showing.{StandsAmong, Comes, Came}
 use Rattle.live_graph.specs.Growing.{WhereBothTold}
-use Rattle.live_graph.specs.Answers.{IsMissing, HasLooked, WasOffered, Publishes, HasOffered, GoesOnBy, HasCome}
+use Rattle.live_graph.specs.Answers.{IsMissing, HasLooked, WasOffered, OffersRow, HasOffered, GoesOnBy, HasCome}
 use Rattle.live_graph.proofs.Steps.{whole_part, comes_join, passes_comes, same_graph}
 use Rattle.live_graph.proofs.ToldGraphs.{told_of, told_with}
 use Rattle.live_graph.proofs.RowsOfKeys.{codes}
@@ -83,7 +83,7 @@ module _ (grammar : Grammar) (m : PageMeaning) (key : Key) (payload : List ℕ) 
 
 -- what becomes of the graph of a page that has no row of the key
 went_on : (z : Sizes) (grammar : Grammar) (key : Key) (payload : List ℕ) → IsKey grammar key → IsPayloadOf grammar key payload → (origin : Origin)
-    → (before after : List (List ℕ)) → (HasRowWith before (key_words key) → ⊥) → Publishes z (key_words key) payload origin before after
+    → (before after : List (List ℕ)) → (HasRowWith before (key_words key) → ⊥) → OffersRow z (key_words key) payload origin before after
     → GoesOnBy z grammar key origin before after
 went_on z grammar key payload names pays Found before after lacks none = absurd none
 went_on z grammar key payload names pays Made before after lacks (again, adds) =
@@ -109,7 +109,7 @@ module _ {E : Type 0} (Codes : List ℕ → E → Type 0) (grammar : Grammar) (m
             (subst (λ k. Comes k n offered.added) (sym looked.passes.is) offered.comes);
         came = came_offered grammar m key payload_words pays looked.added looked.looks.0 offered.added origin offered.offers;
         graph =
-            told_with (Publishes m.sizes (key_words key) payload_words origin) (GoesOnBy m.sizes grammar key origin)
+            told_with (OffersRow m.sizes (key_words key) payload_words origin) (GoesOnBy m.sizes grammar key origin)
             (λ graph. HasRowWith graph (key_words key) → ⊥) m.graph n.graph
             (went_on m.sizes grammar key payload_words names pays origin) looked.looks.1 offered.graph;
       }

@@ -67,8 +67,8 @@ module _ {K : Type 0} (as_key : K → Key) (basis : PageMeaning) (added more : L
       ]
 
 origins_grown : {K E : Type 0} (grammar : Grammar) (as_key : K → Key) (basis page next : PageMeaning) (added : List Step) (old new : List (K × Answer E))
-    → page ≡ extended (with_graph basis page.graph) added → (grown : HasGrown grammar as_key page next old new) → HoldsOrigins as_key basis added grammar (origins old)
-    → HoldsOrigins as_key basis (added ++ grown.more) grammar (origins new)
+    → page ≡ extended (with_graph basis page.graph) added → (grown : HasGrown grammar as_key page next old new)
+    → HoldsOrigins as_key basis added grammar (origins old) → HoldsOrigins as_key basis (added ++ grown.more) grammar (origins new)
 origins_grown grammar as_key basis page next added old new is grown holds = elim grown.kept [
   | inl (same, told) ↦
       subst (λ kept. HoldsOrigins as_key basis (added ++ grown.more) grammar (origins kept)) (sym same)

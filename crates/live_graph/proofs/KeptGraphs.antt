@@ -147,7 +147,8 @@ module _ (grammar : Grammar) (basis page next : PageMeaning) (scans : List (Scan
       told_join (Grows before) (GoesOnBy basis.sizes grammar (kernel gained.key) gained.answer.origin) (Grows (shared grammar basis next scans new)) basis.graph
       page.graph next.graph
       (λ first old last grown on.
-      goes_on before next (origins scans) (origins new) (key_fits basis.log grammar kept.log) (kernel gained.key) first old grown gained.answer.origin last asks on)
+      goes_on before next (origins scans) (origins new) (key_fits basis.log grammar kept.log) (kernel gained.key) first old grown gained.answer.origin last
+      asks on)
       kept.graph goes
 
   pub kernel_told : (new : List (List Item × Answer Expansion)) → HasGrown grammar kernel_key page next kernels new
@@ -167,7 +168,8 @@ module _ (grammar : Grammar) (basis page next : PageMeaning) (scans : List (Scan
       told_join (Grows before) (GoesOnBy basis.sizes grammar (scan gained.key) gained.answer.origin) (Grows (shared grammar basis next new kernels)) basis.graph
       page.graph next.graph
       (λ first old last grown on.
-      goes_on before next (origins new) (origins kernels) (key_fits basis.log grammar kept.log) (scan gained.key) first old grown gained.answer.origin last asks on)
+      goes_on before next (origins new) (origins kernels) (key_fits basis.log grammar kept.log) (scan gained.key) first old grown gained.answer.origin last
+      asks on)
       kept.graph goes
 
   pub scan_told : (new : List (ScanKey × Answer ScanExpansion)) → HasGrown grammar scan_key page next scans new

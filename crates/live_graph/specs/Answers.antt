@@ -75,18 +75,19 @@ WasOffered z page added key payload Raced = IsAlready z page added key
 WasOffered z page added key payload Alone = (z.width - 2 < length key + length payload) ⊎ (IsPoolFull z page added ⊎ IsPageFull z page added key)
 
 -- what became of the graph, as its row was or was not published
-abbrev pub Publishes : Sizes → (key payload : List ℕ) → Origin → (before after : List (List ℕ)) → Type 0
-Publishes z key payload Found before after = ⊥
-Publishes z key payload Made before after = (¬ (HasRowWith before key)) × AddsRow before after (row_of key payload)
-Publishes z key payload Raced before after = HasRowWith before key
-Publishes z key payload Alone before after = (after ≡ before) × ((z.width - 2 < length key + length payload) ⊎ (HasRows before z.rows ⊎ HasRows before z.places))
+abbrev pub OffersRow : Sizes → (key payload : List ℕ) → Origin → (before after : List (List ℕ)) → Type 0
+OffersRow z key payload Found before after = ⊥
+OffersRow z key payload Made before after = (¬ (HasRowWith before key)) × AddsRow before after (row_of key payload)
+OffersRow z key payload Raced before after = HasRowWith before key
+OffersRow z key payload Alone before after = (after ≡ before)
+    × ((z.width - 2 < length key + length payload) ⊎ (HasRows before z.rows ⊎ HasRows before z.places))
 
 -- the call that publishes added only its steps
 pub record HasOffered (old new : PageMeaning) (key payload : List ℕ) (origin : Origin) : Type 0 where
   pub added : List Step
   pub comes : Comes old new added
   pub offers : WasOffered old.sizes old.page added key payload origin
-  pub graph : WhereBothTold old.graph new.graph (Publishes old.sizes key payload origin)
+  pub graph : WhereBothTold old.graph new.graph (OffersRow old.sizes key payload origin)
 
 -- what became of the graph, as the key's expansion came so
 abbrev pub GoesOnBy : Sizes → Grammar → Key → Origin → (before after : List (List ℕ)) → Type 0

@@ -1,5 +1,6 @@
 -- The log of a bench goes with the grammar.
-use Rattle.std.proofs.Common.{◌≡◌, ℕ, ◌+◌, List, [], ◌∷◌, ◌++◌, length, map, Option, Some, None, refl, sym, ap, ◌∙◌, subst, arith, append-nil, eq-eqb}
+use Rattle.std.proofs.Common.{◌≡◌, ℕ, ◌+◌, List, [], ◌∷◌, ◌++◌, length, map, Option, Some, None, refl, sym, ap, ◌∙◌, subst, arith, append-nil, length-append, eq-eqb}
+use Rattle.std.specs.Prelude.{fold}
 use Rattle.std.specs.Option.{option_or}
 use Rattle.std.proofs.lemmas.List.{length-map}
 use Rattle.grammar_text.specs.declared.edit.Edit.{Edit}
@@ -8,35 +9,35 @@ use Rattle.edit_log.specs.declared.limits.TheConstants.{LOG_LIMIT}
 use Rattle.edit_log.specs.declared.refusal.Refusal.{Refusal}
 use Rattle.edit_log.specs.declared.refusal.Refusal.TheVariants.{LogFull}
 use Rattle.edit_log.specs.Facts.{IsWellFormed}
-use Rattle.edit_log.specs.History.{Grammar, after_edit}
+use Rattle.edit_log.specs.History.{Grammar, empty_grammar, after_edit, grammar_of}
 use Rattle.edit_log.specs.Verdict.{IsAccepted, clash, twin, lack, fullness, verdict}
 use Rattle.edit_log.proofs.HistoryLaws.{well_formed_always}
 use Rattle.pin_rule.specs.declared.content.Entry.{Entry}
 use Rattle.graph_content.specs.Contents.{IsLogOf, IsLogOfGrammar, IsLawfulLog}
 use Rattle.graph_content.proofs.LogLaws.{log_push, grammar_push}
-use Rattle.live_graph.proofs.NextEdits.{behind_at}
 use Rattle.version_store.specs.Meaning.{BenchMeaning}
 use Rattle.version_store.specs.Alone.{EditsAlone}
 use Rattle.version_store.proofs.GivenUp.{alike_all}
+use Rattle.sections.proofs.ReplySteps.{version_after}
 
 -- ---- the grammar of a log
 
 pub formed_by_log : (log : List Entry) (grammar : Grammar) → IsLogOfGrammar log grammar → IsWellFormed grammar
 formed_by_log log grammar is = subst IsWellFormed (sym is.made) (well_formed_always is.history is.is.is_history)
 
+version_along : (g : Grammar) (edits : List Edit) → (fold after_edit g edits).version ≡ g.version + length edits
+version_along g [] = omega arith
+version_along g (edit ∷ edits) = omega (arith, version_along (after_edit g edit) edits, version_after g edit)
+
 -- the log has an entry for each version
 pub version_by_log : (log : List Entry) (grammar : Grammar) → IsLogOfGrammar log grammar → grammar.version ≡ length log
 version_by_log log grammar is =
-    let at = behind_at log grammar (record {
-      history = is.history;
-      rest = [];
-      is = subst (IsLogOf log) (sym (append-nil is.history)) is.is;
-      made = is.made;
-    }) in
+    let made : grammar.version ≡ (grammar_of is.history).version = ap (λ (g : Grammar). g.version) is.made in
+    let along = version_along empty_grammar is.history in
     let log_long = length-map log (λ (entry : Entry). entry.words) in
     let history_long = length-map is.history entry_of in
     let same : length (map (λ (entry : Entry). entry.words) log) ≡ length (map entry_of is.history) = ap length is.is.entries in
-    omega (arith, at.count_is, log_long, history_long, same)
+    omega (arith, made, along, log_long, history_long, same)
 
 -- ---- an edit that is taken
 
@@ -76,3 +77,12 @@ pub edited_log : (keeps : List ℕ → Type 0) (words : List ℕ) (m n : BenchMe
 edited_log keeps words m n edits =
     let same = alike_all edits.count edits.between edits.after edits.gave_up in
     edits.last.log ∙ same.log ∙ edits.made.log ∙ ap (λ log. log ++ record { words = words } ∷ []) (sym edits.first.log)
+
+-- the version that it makes is the grammar's next one
+pub edited_version : (keeps : List ℕ → Type 0) (words : List ℕ) (m n : BenchMeaning) (grammar : Grammar) (version : ℕ) → EditsAlone keeps words m n
+    → IsLogOfGrammar m.log grammar → version ≡ length n.log → version ≡ grammar.version + 1
+edited_version keeps words m n grammar version edits is told =
+    let longer = ap length (edited_log keeps words m n edits) in
+    let long = length-append m.log (record { words = words } ∷ []) in
+    let before = version_by_log m.log grammar is in
+    omega (arith, told, longer, long, before)

@@ -20,10 +20,10 @@ pub record LeavesUntouched (grammar : Grammar) (edit : Edit) (old new : List (Li
 abbrev pub LeavesAll : List (List ℕ) → List (List ℕ) → Type 0
 LeavesAll old new = new ≡ old
 
-abbrev unless_refused : Option Refusal → Grammar → Edit → List (List ℕ) → List (List ℕ) → Type 0
-unless_refused None grammar edit old new = LeavesUntouched grammar edit old new
-unless_refused (Some why) grammar edit old new = LeavesAll old new
+abbrev pub LeavesBy : Option Refusal → Grammar → Edit → List (List ℕ) → List (List ℕ) → Type 0
+LeavesBy None grammar edit old new = LeavesUntouched grammar edit old new
+LeavesBy (Some why) grammar edit old new = LeavesAll old new
 
 -- an edit that is taken leaves the rows that it does not touch, and a refused one all rows
 abbrev pub LeavesRows : Grammar → Edit → List (List ℕ) → List (List ℕ) → Type 0
-LeavesRows grammar edit old new = unless_refused (verdict grammar edit) grammar edit old new
+LeavesRows grammar edit old new = LeavesBy (verdict grammar edit) grammar edit old new

@@ -1,6 +1,5 @@
 //! One command, while nobody else uses the table.
 
-use crate::crew::Crew;
 use crate::reply::Reply;
 use graph_content::GraphRows;
 use live_graph::Tallies;
@@ -11,6 +10,7 @@ use version_store::bench::Bench;
 pub struct Alone {
     /// The bench, for the next command.
     pub bench: Bench<GraphRows>,
+    /// What is answered.
     pub reply: Reply,
     /// How the expansions came that the command asked for.
     pub tallies: Tallies,

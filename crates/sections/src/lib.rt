@@ -10,8 +10,6 @@ mod crew;
 mod editing;
 mod laws;
 mod reply;
-#[cfg(test)]
-mod tests;
 mod texts;
 
 pub use alone::{Alone, AloneError};

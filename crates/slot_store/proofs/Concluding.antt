@@ -96,13 +96,14 @@ module _ (z : Site) (v w y : View) (row : ℕ) (key payload : List ℕ) (claim :
     same_share = ap (λ (y : View). y.share) s.is ∙ moves_before.share
 
     -- as far as the places are known
-    pub made_known : IsSoleAt z v → PutsRow v.known u.known (row_of key payload)
+    pub made_known : IsSoleAt z v → PutsRow z.sizes v.known u.known (row_of key payload)
     made_known sole = let alone = sole_on z v s.view (claim.added ++ s.before) moves_before sole in
         let own = owner s.view (row_of key payload) row s.wrote in record {
           before = s.view.known;
           later = settles.moves.known sole.share sole.every;
           place = place;
           row = row;
+          inside = lt;
           wrote = words_of_own s.view.own;
           empty = s.empty alone;
           written = own;

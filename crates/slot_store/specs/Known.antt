@@ -73,11 +73,12 @@ abbrev pub HoldsKey : List KnownPlace → List ℕ → Type 0
 HoldsKey ks key = HoldsWords ks (TellsKey key) (head_of key)
 
 -- a row with all these words was put to a place that was empty
-pub record PutsRow (ks ls : List KnownPlace) (words : List ℕ) : Type 0 where
+pub record PutsRow (z : Sizes) (ks ls : List KnownPlace) (words : List ℕ) : Type 0 where
   pub before : List KnownPlace
   pub later : AreLater ks before
   pub place : ℕ
   pub row : ℕ
+  pub inside : place < z.places
   pub wrote : List (ℕ × ℕ)
   pub empty : (k : KnownPlace) → In k before → k.place ≡ place → k.met ≡ 0
   pub written : (index : ℕ) → index < length words → In (index, slice_index words index) wrote
@@ -91,7 +92,7 @@ GlanceKnows ks ls key payload (glance.Initial place) = LacksKey ks key
 GlanceKnows ks ls key payload glance.PageFull = LacksKey ks key × IsFilled ks
 
 abbrev pub PutKnows : Sizes → List KnownPlace → List KnownPlace → List ℕ → List ℕ → Put → Type 0
-PutKnows z ks ls key payload put.Made = IsOfOnePage z ls × LacksKey ks key × PutsRow ks ls (row_of key payload)
+PutKnows z ks ls key payload put.Made = IsOfOnePage z ls × LacksKey ks key × PutsRow z ks ls (row_of key payload)
 PutKnows z ks ls key payload put.Already = IsOfOnePage z ls × AreLater ks ls × HoldsKey ls key
 PutKnows z ks ls key payload put.PageFull = IsOfOnePage z ls × AreLater ks ls × LacksKey ks key × IsFilled ks
 PutKnows z ks ls key payload put.PoolFull = IsOfOnePage z ls × AreLater ks ls × ((row : ℕ) → row < z.rows → StandsKnown z ks row)

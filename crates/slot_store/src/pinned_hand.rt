@@ -1,5 +1,5 @@
 //! A hand at work on the page of the version that it has pinned.
-ghost use Rattle.std.specs.Prelude.{◌≡◌, ◌≢◌, ◌≤◌, ◌<◌, [], Some, None, length};
+ghost use Rattle.std.specs.Prelude.{◌≡◌, ◌≢◌, ◌≤◌, ◌<◌, Some, None, length};
 ghost use Rattle.pin_rule.specs.declared.view.Role.{Role};
 ghost use Rattle.pin_rule.specs.Hands.{view_of, table_of};
 ghost use Rattle.pin_rule.specs.Views.{now};
@@ -34,7 +34,6 @@ pub struct PinnedHand<C: Content> {
     ghost caught_up: { site.version ≡ now (view_of hand) },
     ghost free: { (view_of hand).own ≡ None },
     ghost settled: { (r : Role) → (view_of hand).role ≡ Some r → r.giving_up ≡ None },
-    ghost whole_entries: { (view_of hand).log_words ≡ [] },
     ghost counted: { left ≡ (view_of hand).pins_left },
     ghost next_in: { next ≤ site.sizes.rows },
     ghost room: { site.sizes.width ≤ length buffer.items },
@@ -69,7 +68,6 @@ impl<C: Content> PinnedHand<C> {
         requires names { IsCurrentFor (view_of hand) met }
         requires free { (view_of hand).own ≡ None }
         requires settled { (r : Role) → (view_of hand).role ≡ Some r → r.giving_up ≡ None }
-        requires whole_entries { (view_of hand).log_words ≡ [] }
         requires next { next ≤ sizes.rows }
         requires left { left ≡ (view_of hand).pins_left }
         requires room { sizes.width ≤ length buffer.items }
@@ -143,6 +141,7 @@ impl<C: Content> PinnedHand<C> {
         ensures put { Publishes (meaning_in self.old) (meaning_in self.new) key.now payload.now result }
         ensures wide { (result ≡ Put.TooWide) ↔ ((site_in self.old).sizes.width - 2 < length key.now + length payload.now) }
         ensures role { (view_in self.new).role ≡ (view_in self.old).role }
+        ensures log_words { (view_in self.new).log_words ≡ (view_in self.old).log_words }
         ensures knows { IsSoleAt (site_in self.old) (view_in self.old)
             → PutKnows (site_in self.old).sizes (view_in self.old).known (view_in self.new).known key.now payload.now result }
         ensures same { IsSameHand self.old self.new }

@@ -37,7 +37,8 @@ use Rattle.pin_rule.specs.Steps.{is_newest_page, keeps_page, learned_place, know
 use Rattle.pin_rule.proofs.Lists.{in_mapped, at_end, at_short}
 use Rattle.pin_rule.proofs.Seats.{none_some, same_some}
 use Rattle.version_store.specs.Rows.{Found}
-use Rattle.version_store.specs.Learning.{IsLater, Grown, Shows, Learns}
+use Rattle.slot_store.specs.Known.{IsLater}
+use Rattle.version_store.specs.Learning.{Grown, Shows, Learns}
 
 -- Lists that grow
 

@@ -24,3 +24,9 @@ pub mod EmptyPages
 pub mod KnownAgain
 pub mod PlaceRead
 pub mod BenchPlace
+pub mod LaterRows
+pub mod KeyedRows
+pub mod CountedRows
+pub mod AddedRows
+pub mod LoneAnswers
+pub mod LoneHands

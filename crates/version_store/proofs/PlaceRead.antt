@@ -1,9 +1,7 @@
 -- One place of the page is read.
-use Rattle.std.proofs.Common.{◌≡◌, ◌≢◌, ℕ, zero, suc, ◌+◌, ◌<◌, List, [], ◌∷◌, ◌++◌, inl, inr, length, slice_index, eq-eqb, ne_eqb, sym, refl}
+use Rattle.std.proofs.Common.{◌≡◌, ◌≢◌, ℕ, zero, suc, ◌+◌, ◌<◌, List, [], ◌∷◌, ◌++◌, length, slice_index, eq-eqb, sym, refl}
 use Rattle.std.proofs.Common.{ap, ◌∙◌, subst, arith}
 use mathlib.Core.Bool.{cond}
-use mathlib.Core.Logic.{dite}
-use native.Mathlib.Decide.{ℕ_discrete}
 use Rattle.std.specs.Prelude.{Option, Some, None, Bool}
 use Rattle.pin_rule.specs.declared.sizes.Sizes.{Sizes}
 use Rattle.pin_rule.specs.declared.content.Entry.{Entry}
@@ -11,35 +9,26 @@ use Rattle.pin_rule.specs.declared.view.View.{View}
 use Rattle.pin_rule.specs.declared.view.KnownPlace.{KnownPlace}
 use Rattle.pin_rule.specs.Lists.{In}
 use Rattle.pin_rule.specs.Views.{whole, version_at, version_pinned, version_of_role, version_given_up}
-use Rattle.pin_rule.specs.Steps.{met_entry, version_of, learned_place, loaded_place, after_load_place}
+use Rattle.pin_rule.specs.Steps.{met_entry, version_of, loaded_place, after_load_place}
 use Rattle.pin_rule.specs.Told.{Tells, IsAsKnown}
 use Rattle.pin_rule.proofs.Seats.{none_some, same_some}
 use Rattle.pin_rule.proofs.Frames.{content_same}
 use Rattle.pin_rule.proofs.Passing.{load_keeps_role}
+use Rattle.slot_store.proofs.LaterPlaces.{learned_same}
 use Rattle.slot_store.proofs.Single.{names_it, names_known}
 use Rattle.version_store.specs.declared.current.Current.{Current}
 use Rattle.version_store.specs.Roles.{role_of}
 use Rattle.version_store.specs.Rows.{Found, IsWholeRow}
 use Rattle.version_store.specs.Edits.{place_loads, row_loads}
 use Rattle.version_store.specs.Graphs.{word_in, row_known, rows_known, IsReadWhole, IsWholeKnown}
-use Rattle.version_store.specs.Learning.{IsLater, Grown, Shows}
+use Rattle.slot_store.specs.Known.{IsLater}
+use Rattle.version_store.specs.Learning.{Grown, Shows}
 use Rattle.version_store.specs.Stages.{IsEditorOf, Goes, ReadsRow}
 use Rattle.version_store.specs.PlaceReading.{ReadsPlace}
 use Rattle.version_store.proofs.Going.{goes_on, goes_as, editor_on}
 use Rattle.version_store.proofs.KnownPlaces.{grown_still, met_is}
 use Rattle.version_store.proofs.RowWords.{told_of}
 use Rattle.version_store.proofs.GraphRows.{word_in_is, row_is, row_from, row_to}
-
--- a place that is known is not learned again
-learned_same : (place n : ℕ) (ks : List KnownPlace) → ((k : KnownPlace) × In k ks × (k.place ≡ place)) → learned_place place n ks ≡ ks
-learned_same place n [] k = absurd k.1
-learned_same place n (x ∷ ks) k = dite (ℕ_discrete x.place place)
-    (λ e. ap (λ (b : Bool). cond b (x ∷ ks) (x ∷ learned_place place n ks)) (eq-eqb x.place place e))
-    (λ ne. ap (λ (b : Bool). cond b (x ∷ ks) (x ∷ learned_place place n ks)) (ne_eqb x.place place ne)
-    ∙ ap (λ (l : List KnownPlace). x ∷ l) (learned_same place n ks (elim k.1 [
-      | inl e ↦ absurd (ne (ap (λ (y : KnownPlace). y.place) (sym e) ∙ k.2))
-      | inr t ↦ (k.0, t, k.2)
-    ])))
 
 module _ (c : Current) (v : View) (editor : IsEditorOf c v) (place n : ℕ) (u : View) (is : u ≡ after_load_place v c.page place n) where
   -- the editor may speak of the page

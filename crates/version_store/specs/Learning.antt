@@ -5,13 +5,11 @@ use lib.ListN.{get_elem?}
 use Rattle.pin_rule.specs.declared.sizes.Sizes.{Sizes}
 use Rattle.pin_rule.specs.declared.view.KnownPlace.{KnownPlace}
 use Rattle.pin_rule.specs.Lists.{In}
+use Rattle.slot_store.specs.Known.{IsLater}
 use Rattle.version_store.specs.Graphs.{rows_known, IsWholeKnown}
 use Rattle.version_store.specs.Rows.{Found, rows_found}
 
--- the places are the same ones, with the same words there; more words of their rows may be known
-abbrev pub IsLater : KnownPlace → KnownPlace → Type 0
-IsLater k l = (l.place ≡ k.place) × (l.met ≡ k.met) × ((w : ℕ × ℕ) → In w k.words → In w l.words)
-
+-- the places are the same ones, and more words of their rows may be known
 pub record Grown (ks ls : List KnownPlace) : Type 0 where
   pub on : (k : KnownPlace) → In k ks → (l : KnownPlace) × In l ls × IsLater k l
   pub back : (l : KnownPlace) → In l ls → (k : KnownPlace) × In k ks × IsLater k l

@@ -18,3 +18,4 @@ pub mod GivingUp
 pub mod Freeing
 pub mod Gathering
 pub mod Alone
+pub mod PinningAlone

@@ -1,7 +1,12 @@
--- What benches and editors mean.
+-- What benches, pinned and not, and editors mean.
+use Rattle.std.specs.Prelude.{Some}
 use Rattle.pin_rule.specs.Hands.{view_of, table_of}
 use Rattle.version_store.specs.declared.bench.Bench.{Bench}
 use Rattle.version_store.specs.declared.editor.Editor.{Editor}
+use Rattle.slot_store.specs.Meaning.{Meaning, with_graph}
+use Rattle.slot_store.specs.PinnedHands.{view_in, meaning_in}
+use Rattle.version_store.specs.declared.lone.Lone.{Lone}
+use Rattle.version_store.specs.Graphs.{rows_known}
 use Rattle.version_store.specs.Meaning.{BenchMeaning, EditorMeaning, bench_meaning, editor_meaning}
 
 abbrev pub editor_of : {C : Type 0} → Editor C → EditorMeaning
@@ -9,3 +14,7 @@ editor_of e = editor_meaning (view_of e.hand) (table_of e.hand)
 
 abbrev pub bench_of : {C : Type 0} → Bench C → BenchMeaning
 bench_of b = bench_meaning (view_of b.editor.hand) (table_of b.editor.hand)
+
+-- a page that tells its graph
+abbrev pub lone_of : {C : Type 0} → Lone C → Meaning
+lone_of l = with_graph (meaning_in l.hand) (Some (rows_known (view_in l.hand).known))

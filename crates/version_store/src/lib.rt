@@ -4,7 +4,8 @@
 //! A [`bench::Bench`] has the whole table. It is parted into an
 //! [`editor::Editor`] and some passes, which may go to threads of their own.
 //! An edit adds an entry to the log and makes the next version, whose page has
-//! the rows of the page before that a chooser keeps.
+//! the rows of the page before that a chooser keeps. A bench that pins its
+//! version is a [`lone::Lone`], whose page tells its graph.
 #![tactic(auto)]
 
 pub mod bench;
@@ -23,10 +24,13 @@ mod giving_up;
 mod leaving;
 mod live_version;
 mod lives;
+pub mod lone;
+mod lone_page;
 mod next_version;
 mod page_reading;
 mod page_writing;
 mod parting;
+mod pinning_alone;
 mod row_placing;
 mod row_reading;
 

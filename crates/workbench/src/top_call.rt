@@ -140,12 +140,7 @@ fn run_script<K: Sink>(alloc: Global, script: &[u8], sink: &mut K) -> Ended
 /// The words are those of the command line, of which the first is the program's name. Nothing is written
 /// before the script has been read whole, and no command is run before all its lines were found good. Want of
 /// memory may end a run at any point.
-pub fn run<S: Source, K: Sink>(
-    alloc: Global,
-    words: &[&str],
-    source: &mut S,
-    sink: &mut K,
-) -> Ended
+pub fn run<S: Source, K: Sink>(alloc: Global, words: &[&str], source: &mut S, sink: &mut K) -> Ended
     requires { 0 < length words.now }
 
     // Only the program's name may stand in the words.

@@ -9,8 +9,8 @@ use Rattle.sections.proofs.ReplySteps.{refused_for}
 use Rattle.sections.proofs.TokenKinds.{few_tokens, terminal_tokens}
 use Rattle.sections.proofs.texts.parse_over.Goals as goal
 
-pub returns-in-Err : goal.returns-in-Err
-returns-in-Err g c =
+pub returns-in-Err-clause-parsed : goal.returns-in-Err-clause-parsed
+returns-in-Err-clause-parsed g c =
     let other : c.in-Err.error ≡ NoMemory → ⊥ = λ e. search rules in
     scan (refused_for (g.G.Graph.means c.args.graph.now).grammar c.args.text.now c.in-Err.error other c.in-Err.ensures.refused)
 
@@ -26,10 +26,10 @@ parse_tokens-requires-clause-terminals g c =
     (subst (λ found. AreTerminals grammar.rules (kinds_of found)) (sym c.deref.ensures.value)
     (terminal_tokens grammar c.args.text.now c.in-Ok.tokens.items c.requires.well_formed c.in-Ok.ensures.tokens))
 
-pub returns : goal.returns
-returns g c =
+pub returns-clause-parsed : goal.returns-clause-parsed
+returns-clause-parsed g c =
     let grammar = (g.G.Graph.means c.args.graph.now).grammar in
     parse c.in-Ok.ensures.tokens
     (subst (λ found. IsParse grammar.rules (kinds_of found) c.in_ok-outcome.outcome) c.deref.ensures.value
     (subst (λ (scanned : Grammar). IsParse scanned.rules (kinds_of c.deref.result.now) c.in_ok-outcome.outcome) c.in-Ok.ensures.grammar
-    c.in_ok-outcome.ensures))
+    c.in_ok-outcome.ensures.parsed))

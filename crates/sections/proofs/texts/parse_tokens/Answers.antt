@@ -5,13 +5,13 @@ use Rattle.sections.specs.Replies.{too_large}
 use Rattle.sections.proofs.ReplySteps.{parsed_so}
 use Rattle.sections.proofs.texts.parse_tokens.Goals as goal
 
-pub returns-in-Ok : goal.returns-in-Ok
-returns-in-Ok g c =
+pub returns-in-Ok-clause-parsed : goal.returns-in-Ok-clause-parsed
+returns-in-Ok-clause-parsed g c =
     parsed_so (g.G.Graph.means c.args.graph.now).grammar.rules (kinds_of c.args.tokens.now) c.in-Ok.parsed c.in-Ok.ensures.forest
     c.in-Ok.ensures.no_sentence c.in-Ok.ensures.within
 
-pub returns-in-Err-TooLarge : goal.returns-in-Err-TooLarge
-returns-in-Err-TooLarge g c =
+pub returns-in-Err-TooLarge-clause-parsed : goal.returns-in-Err-TooLarge-clause-parsed
+returns-in-Err-TooLarge-clause-parsed g c =
     let rules = (g.G.Graph.means c.args.graph.now).grammar.rules in
     let told : TellsTooLarge rules (kinds_of c.args.tokens.now) (TooLarge c.in-Err-TooLarge.field-0-0) =
     subst (TellsTooLarge rules (kinds_of c.args.tokens.now)) c.in-Err-TooLarge.field-0-is c.in-Err-TooLarge.ensures.too_large in

@@ -1,0 +1,84 @@
+use Rattle.std.proofs.Common.{◌≡◌, ◌+◌, ◌∙◌, Some, inl, inr, refl, ap, sym, subst, rules}
+use Rattle.edit_log.specs.History.{after_edit}
+use Rattle.edit_log.specs.Touches.{IsTouchOf}
+use Rattle.edit_log.specs.Verdict.{verdict}
+use Rattle.graph_content.specs.Modifications.{Modification}
+use Rattle.graph_content.specs.Contents.{KeepsRow}
+use Rattle.script_text.specs.declared.command.Command.TheVariants.{Edit}
+use Rattle.version_store.specs.Means.{bench_of}
+use Rattle.sections.specs.declared.reply.Reply.TheVariants.{Edited}
+use Rattle.sections.specs.Replies.{IsReply, taken, refused}
+use Rattle.sections.proofs.ReplySteps.{refused_stays}
+use Rattle.sections.proofs.EditedLogs.{room_by_verdict, version_by_log, lawful_longer, log_longer, edited_log, edited_version}
+use Rattle.sections.proofs.EditedRows.{rows_refused, rows_taken}
+use Rattle.sections.proofs.editing.edit_bench.Goals as goal
+
+-- ---- a refused edit
+
+-- the refusal is the verdict
+said : (c : goal.In-Err) → verdict c.args.grammar.now.grammar c.args.edit.now ≡ Some c.in-Err.refusal
+said c = elim c.in-Err.ensures.refused [
+  | inl gone ↦ absurd (search rules)
+  | inr is ↦ is
+]
+
+pub returns-in-Err-clause-replied : goal.returns-in-Err-clause-replied
+returns-in-Err-clause-replied c = refused (said c)
+
+pub returns-in-Err-clause-next : goal.returns-in-Err-clause-next
+returns-in-Err-clause-next c = refused_stays c.args.grammar.now.grammar c.args.edit.now c.in-Err.refusal (said c)
+
+pub returns-in-Err-clause-kept : goal.returns-in-Err-clause-kept
+returns-in-Err-clause-kept c =
+    rows_refused c.args.grammar.now.grammar c.args.edit.now c.in-Err.refusal (bench_of c.args.bench.now).graph (bench_of c.args.bench.now).graph (said c) refl
+
+-- ---- an edit that is taken
+
+pub edit_alone-made-requires-clause-lawful : goal.edit_alone-made-requires-clause-lawful
+edit_alone-made-requires-clause-lawful c =
+    lawful_longer (bench_of c.args.bench.now).log (record { words = c.in-Ok.entry.words }) c.args.grammar.now.grammar c.args.edit.now c.requires.log
+    c.in-Ok.ensures.taken c.in-Ok.ensures.entry
+
+pub unreachable-requires : goal.unreachable-requires
+unreachable-requires c =
+    let grammar = c.args.grammar.now.grammar in
+    let full = c.in-Err-made.ensures.full in
+    room_by_verdict grammar c.args.edit.now c.in-Ok.ensures.taken.taken
+    (version_by_log (bench_of c.args.bench.now).log grammar c.requires.log ∙ full.full ∙ c.requires.full)
+
+pub returns-clause-replied : goal.returns-clause-replied
+returns-clause-replied c =
+    let grammar = c.args.grammar.now.grammar in
+    let version : c.in-Ok-made.version ≡ grammar.version + 1 =
+    edited_version (KeepsRow c.new-modify.result) c.in-Ok.entry.words (bench_of c.args.bench.now) (bench_of c.edit_alone-made.new.self) grammar
+    c.in-Ok-made.version c.in-Ok-made.ensures.made c.requires.log c.in-Ok-made.ensures.version in
+    subst (λ n. IsReply grammar (Edit c.args.edit.now) (Edited n)) (sym version) (taken c.in-Ok.ensures.taken.taken)
+
+pub returns-clause-serves : goal.returns-clause-serves
+returns-clause-serves c =
+    let grammar = c.args.grammar.now.grammar in
+    let edit = c.args.edit.now in
+    let old = bench_of c.args.bench.now in
+    let new = bench_of c.edit_alone-made.new.self in
+    let made = c.in-Ok-made.ensures.made in
+    let next : c.apply.new.self.grammar ≡ after_edit grammar edit =
+    c.apply.ensures edit (c.in_ok-ready.ensures.ready edit c.in-Ok.ensures.entry c.in-Ok.ensures.taken) ∙ ap
+    (λ g. after_edit g edit) c.in_ok-ready.ensures.history in
+    record {
+      log = log_longer old.log (record { words = c.in-Ok.entry.words }) grammar edit c.requires.log c.in-Ok.ensures.taken c.in-Ok.ensures.entry new.log
+          c.apply.new.self.grammar (edited_log (KeepsRow c.new-modify.result) c.in-Ok.entry.words old new made) next;
+      sizes = made.sizes;
+      table = made.table;
+    }
+
+pub returns-clause-kept : goal.returns-clause-kept
+returns-clause-kept c =
+    let edit = c.args.edit.now in
+    let replica = c.prepare.new.self in
+    let made = c.in-Ok-made.ensures.made in
+    let ready = c.in_ok-ready.ensures.ready edit c.in-Ok.ensures.entry c.in-Ok.ensures.taken in
+    let touches : IsTouchOf c.new-modify.result.grammar edit c.new-modify.result.touch =
+    subst (λ (m : Modification). IsTouchOf m.grammar edit m.touch) (sym c.new-modify.ensures) (c.touch.ensures replica edit ready) in
+    let same = ap (λ (m : Modification). m.grammar) c.new-modify.ensures ∙ c.in_ok-ready.ensures.history in
+    rows_taken c.args.grammar.now.grammar edit c.new-modify.result (bench_of c.args.bench.now).graph (bench_of c.edit_alone-made.new.self).graph
+    c.in-Ok.ensures.taken.taken same touches made.kept made.every
