@@ -1,5 +1,5 @@
 -- Which keys a text asks a graph for.
-use Rattle.std.proofs.Common.{◌≡◌, ◌⊎◌, ◌↔◌, inl, inr, ℕ, List, [], Contains, Err, refl, sym, ap, ◌∙◌, subst, arith}
+use Rattle.std.proofs.Common.{◌≡◌, ◌⊎◌, ◌↔◌, inl, inr, ℕ, List, [], Contains, Result, Ok, Err, refl, sym, ap, ◌∙◌, subst, arith}
 use Rattle.forest.specs.declared.symbols.SymbolId.{SymbolId}
 use Rattle.forest.specs.declared.symbols.Token.{Token}
 use Rattle.forest.specs.Distinct.{IsDistinct, AreAll}
@@ -24,14 +24,16 @@ use Rattle.sections.specs.Asked.{HasAsked, AsksAll, AsksMost, AsksText, AsksToke
 use Rattle.sections.proofs.OneReply.{one_list, not_refused}
 use Rattle.sections.proofs.UsedGraphs.{asked_keys, has_kernel, has_scan, asked_once}
 
-pub unless_memory : {X : Type 0} (error : ScanError) (P : Type 0) → (error ≡ NoMemory → ⊥) → UnlessScanNoMemory {X = X} (Err error) P → P
-unless_memory (NoToken offset) P other is = is
-unless_memory (TooManyTokens offset) P other is = is
-unless_memory NoMemory P other is = absurd (other refl)
+pub unless_memory : {X : Type 0} (result : Result X ScanError) (error : ScanError) (P : Type 0) → result ≡ Err error → (error ≡ NoMemory → ⊥)
+    → UnlessScanNoMemory result P → P
+unless_memory (Ok found) error P same other is = is
+unless_memory (Err (NoToken offset)) error P same other is = is
+unless_memory (Err (TooManyTokens offset)) error P same other is = is
+unless_memory (Err NoMemory) error P same other is = let none : error ≡ NoMemory = cc same in absurd (other none)
 
 -- ---- a scan, and a parse behind it
 
-module _ {Base : Type 0} (grammar : Grammar) (text : List ℕ) (old between new : GraphMeaning Base) (kernels : between.kernels ≡ old.kernels)
+module _ {Base : Type 0} (grammar : Grammar) (text : List ℕ) (old between : GraphMeaning Base) (kernels : between.kernels ≡ old.kernels)
     (scans : (key : ScanKey) → Contains between.scans.keys key ↔ (Contains old.scans.keys key ⊎ ReachesScan grammar text key)) where
   kernels_back : (items : List Item) → Contains between.kernels.keys items → Contains old.kernels.keys items
   kernels_back items has = subst (λ (k : Asked (List Item)). Contains k.keys items) kernels has
@@ -54,7 +56,8 @@ module _ {Base : Type 0} (grammar : Grammar) (text : List ℕ) (old between new 
     ],
   )
 
-  module _ (found : List Token) (is : Tokenizes grammar text (tokens found)) (rules : between.grammar ≡ grammar) (stand : new.scans ≡ between.scans) where
+  module _ (new : GraphMeaning Base) (found : List Token) (is : Tokenizes grammar text (tokens found)) (rules : between.grammar ≡ grammar)
+      (stand : new.scans ≡ between.scans) where
     scans_after : (key : ScanKey) → Contains new.scans.keys key ↔ (Contains old.scans.keys key ⊎ ReachesScan grammar text key)
     scans_after key = subst (λ (s : Asked ScanKey). Contains s.keys key ↔ (Contains old.scans.keys key ⊎ ReachesScan grammar text key)) (sym stand) (scans key)
 

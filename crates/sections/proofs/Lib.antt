@@ -6,3 +6,4 @@ pub mod EditedRows
 pub mod OriginCounts
 pub mod UsedGraphs
 pub mod AskedKeys
+pub mod TextUses

@@ -1,5 +1,5 @@
 -- A tally counts the keys whose expansions came in each way.
-use Rattle.std.proofs.Common.{◌≡◌, ◌↔◌, ℕ, zero, suc, ◌+◌, Bool, true, false, cond, List, [], ◌∷◌, length, map, fold, filter, Contains, refl, sym, ap, ◌∙◌, subst, arith}
+use Rattle.std.proofs.Common.{◌≡◌, ◌↔◌, ℕ, zero, suc, ◌+◌, Bool, true, false, cond, List, [], ◌∷◌, inl, inr, length, map, fold, filter, Contains, refl, sym, ap, ◌∙◌, subst, arith}
 use Rattle.std.proofs.lemmas.List.{length-map}
 use Rattle.forest.specs.Distinct.{IsDistinct, AreAll}
 use Rattle.forest.proofs.Ascending.{contains_here, contains_there, contains_cases}
@@ -43,36 +43,42 @@ reached_counts Raced t = omega arith
 reached_counts Alone t = omega arith
 
 found_counts : Counts (λ t. t.found) is_found
+unfolding is_found
 found_counts Found t = omega arith
 found_counts Made t = omega arith
 found_counts Raced t = omega arith
 found_counts Alone t = omega arith
 
 made_counts : Counts (λ t. t.made) is_made
+unfolding is_made
 made_counts Found t = omega arith
 made_counts Made t = omega arith
 made_counts Raced t = omega arith
 made_counts Alone t = omega arith
 
 raced_counts : Counts (λ t. t.raced) is_raced
+unfolding is_raced
 raced_counts Found t = omega arith
 raced_counts Made t = omega arith
 raced_counts Raced t = omega arith
 raced_counts Alone t = omega arith
 
 found_only : (origin : Origin) → is_found origin ≡ true → origin ≡ Found
+unfolding is_found
 found_only Found e = refl
 found_only Made e = cc
 found_only Raced e = cc
 found_only Alone e = cc
 
 made_only : (origin : Origin) → is_made origin ≡ true → origin ≡ Made
+unfolding is_made
 made_only Found e = cc
 made_only Made e = refl
 made_only Raced e = cc
 made_only Alone e = cc
 
 raced_only : (origin : Origin) → is_raced origin ≡ true → origin ≡ Raced
+unfolding is_raced
 raced_only Found e = cc
 raced_only Made e = cc
 raced_only Raced e = refl
@@ -89,16 +95,14 @@ module _ {K : Type 0} where
       → number (fold (λ t one. counted one.1 t) t kept) ≡ number t + length (keys_by test kept)
   unfolding keys_by
   counts number test step [] t = omega arith
-  counts number test step (one ∷ kept) t = by (test one.1) (step one.1 t)
+  counts number test step (one ∷ kept) t =
+      by (test one.1) (number (fold (λ t one. counted one.1 t) (counted one.1 t) kept)) (step one.1 t) (counts number test step kept (counted one.1 t))
     where
-      rest : number (fold (λ t one. counted one.1 t) (counted one.1 t) kept) ≡ number (counted one.1 t) + length (keys_by test kept)
-      rest = counts number test step kept (counted one.1 t)
-
-      by : (passes : Bool) → number (counted one.1 t) ≡ number t + cond passes 1 0
-          → number (fold (λ t one. counted one.1 t) (counted one.1 t) kept)
-          ≡ number t + length (keys_in (cond passes (one ∷ filter (λ one. test one.1) kept) (filter (λ one. test one.1) kept)))
-      by true more = omega (arith, more, rest)
-      by false more = omega (arith, more, rest)
+      by : (passes : Bool) (total : ℕ) → number (counted one.1 t) ≡ number t + cond passes 1 0
+          → total ≡ number (counted one.1 t) + length (keys_by test kept)
+          → total ≡ number t + length (keys_in (cond passes (one ∷ filter (λ one. test one.1) kept) (filter (λ one. test one.1) kept)))
+      by true total more rest = omega (arith, more, rest)
+      by false total more rest = omega (arith, more, rest)
 
   came_by : (test : Origin → Bool) (kept : List (K × Origin)) (key : K) → Contains (keys_by test kept) key
       → (origin : Origin) × (test origin ≡ true) × Contains kept (key, origin)
@@ -159,11 +163,13 @@ module _ {K : Type 0} where
         (λ key is. let (origin, has) = comes key is in (origin, refl, has))
 
     pub found_count : ((key : K) → Contains kept (key, Found) → P key) → ((key : K) → P key → Contains kept (key, Found)) → IsCount P (tally_of kept).found
+    unfolding is_found
     found_count holds comes =
         counted_set (λ t. t.found) is_found found_counts refl kept distinct P
         (λ key origin passes has. holds key (subst (λ o. Contains kept (key, o)) (found_only origin passes) has)) (λ key is. (Found, refl, comes key is))
 
     pub made_count : ((key : K) → Contains kept (key, Made) → P key) → ((key : K) → P key → Contains kept (key, Made)) → IsCount P (tally_of kept).made
+    unfolding is_made
     made_count holds comes =
         counted_set (λ t. t.made) is_made made_counts refl kept distinct P
         (λ key origin passes has. holds key (subst (λ o. Contains kept (key, o)) (made_only origin passes) has)) (λ key is. (Made, refl, comes key is))

@@ -116,7 +116,7 @@ module _ (log : List Entry) (graph : Shared) (first last : List (List ℕ)) (is_
     alone_lacks : (key : K) → Contains kept (key, Alone) → (HasRowOf graph.grammar (as_key key) first → ⊥) → HasRowOf graph.grammar (as_key key) last → ⊥
     alone_lacks key known lacks (row, there, is) = elim (grown.only row there) [
       | inl old ↦ lacks (row, old, is)
-      | inr (other, made, its) ↦
+      | inr (other, made, its, room) ↦
           let same : other ≡ as_key key = one_key_of graph.grammar row other (as_key key) (key_fits log graph.grammar is_log other its.names)
           (key_fits log graph.grammar is_log (as_key key) is.names) its is in
           let again : Contains kept (key, Made) = comes key Made (subst (λ k. IsAsked graph k Made) same made) in
@@ -171,7 +171,7 @@ module _ (log : List Entry) (graph : Shared) (first last : List (List ℕ)) (is_
     kept = grown.kept;
     only = λ row there. elim (grown.only row there) [
       | inl old ↦ inl old
-      | inr (key, asked, is) ↦ inr (key, is_among key Made asked, is)
+      | inr (key, asked, is, room) ↦ inr (key, is_among key Made asked, is, room)
     ];
     stored = λ key there narrow. let (origin, asked) = came_by key there in grown.stored key origin asked narrow;
     many = grown.many;

@@ -67,7 +67,7 @@ module _ (grammar : Grammar) (asked : List Key) (first last : List (List ℕ)) w
 
 -- a row that has room is that of one of the keys
 abbrev pub IsRowAmong : Sizes → Grammar → List Key → List ℕ → Type 0
-IsRowAmong z grammar asked row = (key : Key) × Contains asked key × IsRowOf grammar key row
+IsRowAmong z grammar asked row = (key : Key) × Contains asked key × IsRowOf grammar key row × (length row ≤ z.width)
 
 -- No row went, only rows of keys that were asked for came, and as many as the tallies say. Each of these keys whose row is not too wide is in the last graph,
 -- or that is full.

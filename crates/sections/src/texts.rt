@@ -36,6 +36,7 @@ fn scan_over<G: Graph, L: Ledger>(
     requires short { length text.now ≤ SCAN_LIMIT }
     ensures scanned { IfOk result (IsResult (G.means graph.old).grammar text.now) }
     ensures asks { OnOk result (AsksAll (ScansKey (G.means graph.old).grammar text.now) (G.means graph.old) (G.means graph.new)) }
+    ensures grammar { (G.means graph.new).grammar ≡ (G.means graph.old).grammar }
     ensures base { (G.means graph.new).base ≡ (G.means graph.old).base }
 {
     match scan(alloc, graph, text, steps) {
@@ -58,6 +59,7 @@ fn parse_tokens<G: Graph, L: Ledger>(
     ensures parsed { IfOk result (IsParse (G.means graph.old).grammar.rules (kinds_of tokens.now)) }
     ensures asks { IfOk result (λ outcome. AsksTokens (kinds_of tokens.now) outcome (G.means graph.old) (G.means graph.new)) }
     ensures scans { (G.means graph.new).scans ≡ (G.means graph.old).scans }
+    ensures grammar { (G.means graph.new).grammar ≡ (G.means graph.old).grammar }
     ensures base { (G.means graph.new).base ≡ (G.means graph.old).base }
 {
     match parser.parse(alloc, graph, tokens, steps) {
@@ -79,6 +81,7 @@ fn parse_over<G: Graph, L: Ledger>(
     requires well_formed { IsWellFormed (G.means graph.old).grammar }
     ensures parsed { IfOk result (IsOutcome (G.means graph.old).grammar text.now) }
     ensures asks { IfOk result (λ outcome. AsksText (G.means graph.old).grammar text.now outcome (G.means graph.old) (G.means graph.new)) }
+    ensures grammar { (G.means graph.new).grammar ≡ (G.means graph.old).grammar }
     ensures base { (G.means graph.new).base ≡ (G.means graph.old).base }
 {
     let tokens = match scan(alloc, graph, text, steps) {
