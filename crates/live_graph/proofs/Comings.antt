@@ -86,8 +86,8 @@ went_on : (z : Sizes) (grammar : Grammar) (key : Key) (payload : List ℕ) → I
     → (before after : List (List ℕ)) → (HasRowWith before (key_words key) → ⊥) → OffersRow z (key_words key) payload origin before after
     → GoesOnBy z grammar key origin before after
 went_on z grammar key payload names pays Found before after lacks none = absurd none
-went_on z grammar key payload names pays Made before after lacks (again, adds) =
-    (lacks, (row_of (key_words key) payload, record { names = names; payload = payload; codes = pays; words = refl }, adds))
+went_on z grammar key payload names pays Made before after lacks (again, adds, room) =
+    (lacks, (row_of (key_words key) payload, record { names = names; payload = payload; codes = pays; words = refl }, adds, room))
 went_on z grammar key payload names pays Raced before after lacks has = absurd (lacks has)
 went_on z grammar key payload names pays Alone before after lacks (same, inl wide) = (same, lacks, inl (payload, pays, wide))
 went_on z grammar key payload names pays Alone before after lacks (same, inr full) = (same, lacks, inr full)

@@ -1,5 +1,5 @@
 -- The graph of a page grew as one that is asked for keys tells, when one key more is asked for.
-use Rattle.std.proofs.Common.{◌≡◌, ◌⊎◌, ◌↔◌, inl, inr, ℕ, suc, ◌+◌, List, refl, sym, subst, arith}
+use Rattle.std.proofs.Common.{◌≡◌, ◌⊎◌, ◌↔◌, inl, inr, ℕ, suc, ◌+◌, ◌≤◌, List, length, refl, sym, subst, arith}
 use Rattle.edit_log.specs.History.{Grammar}
 use Rattle.item_sets.specs.declared.item.Item.{Item}
 use Rattle.isg_states.specs.declared.scan_key.ScanKey.{ScanKey}
@@ -113,14 +113,14 @@ module _ (before : Shared) (page : PageMeaning) (scans : List (ScanKey × Origin
     asked_row : (origin : Origin) → AsksNext key origin → (row : List ℕ) → In row old → IsAskedRow after first row
     asked_row origin next row there = elim (grown.only row there) [
       | inl known ↦ inl known
-      | inr (other, asked, is) ↦ inr (other, next.stays other Made asked, is)
+      | inr (other, asked, is, room) ↦ inr (other, next.stays other Made asked, is, room)
     ]
 
     -- the graph had the row at first, if it is that of a key that was not asked for
     in_first : (origin : Origin) → AsksNext key origin → (row : List ℕ) → In row old → IsRowOf before.grammar key row → In row first
     in_first origin next row there is = elim (grown.only row there) [
       | inl known ↦ known
-      | inr (other, asked, its) ↦
+      | inr (other, asked, its, room) ↦
           let same : other ≡ key = one_key_of before.grammar row other key (fits other its.names) (fits key is.names) its is in
           absurd (next.new_key Made (subst (λ k. IsAsked before k Made) same asked))
     ]
@@ -157,12 +157,13 @@ module _ (before : Shared) (page : PageMeaning) (scans : List (ScanKey × Origin
 
     -- its row came
     goes_on_made : (new : Graph) → AsksNext key Made → (HasRowWith old (key_words key) → ⊥) → (row : List ℕ) → IsRowOf before.grammar key row
-        → AddsRow old new row → GrowsByAsked after first new
-    goes_on_made new next lacks row is adds = grows_by after first new (record {
+        → AddsRow old new row → length row ≤ before.basis.sizes.width → GrowsByAsked after first new
+    goes_on_made new next lacks row is adds room = grows_by after first new (record {
       kept = λ other there. adds.kept other (grown.kept other there);
       only = λ other there. elim (adds.only other there) [
         | inl known ↦ asked_row Made next other known
-        | inr same ↦ inr (key, next.asked, subst (IsRowOf before.grammar key) (sym same) is)
+        | inr same ↦
+            inr (key, next.asked, subst (IsRowOf before.grammar key) (sym same) is, subst (λ r. length r ≤ before.basis.sizes.width) (sym same) room)
       ];
       many = λ count has.
           let more = one_more old new row (count + made_in before) (λ there. lacks (row, there, (is.payload, is.words))) adds (grown.many count has) in
@@ -177,7 +178,7 @@ module _ (before : Shared) (page : PageMeaning) (scans : List (ScanKey × Origin
     goes_on Found new next (same, (row, there, is)) =
         let has : HasRowOf before.grammar key first = (row, in_first Found next row there is, is) in
         subst (GrowsByAsked after first) (sym same) (goes_on_same Found next next.made (found_here before.grammar key first has) has)
-    goes_on Made new next (lacks, (row, is, adds)) = goes_on_made new next lacks row is adds
+    goes_on Made new next (lacks, (row, is, adds, room)) = goes_on_made new next lacks row is adds room
     goes_on Raced new next none = absurd none
     goes_on Alone new next (same, lacks, why) =
         subst (GrowsByAsked after first) (sym same)

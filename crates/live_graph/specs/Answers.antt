@@ -1,5 +1,5 @@
 -- What a page and a user of it answer about one key: parts of the work of a graph over the page.
-use Rattle.std.specs.Prelude.{◌≡◌, ◌⊎◌, ℕ, ◌+◌, ◌-◌, ◌<◌, List, [], ◌∷◌, ◌++◌, Contains, length, map, slice_get, Some, None, Option}
+use Rattle.std.specs.Prelude.{◌≡◌, ◌⊎◌, ℕ, ◌+◌, ◌-◌, ◌<◌, ◌≤◌, List, [], ◌∷◌, ◌++◌, Contains, length, map, slice_get, Some, None, Option}
 use Rattle.forest.specs.Distinct.{IsDistinct}
 use Rattle.edit_log.specs.History.{Grammar}
 use Rattle.item_sets.specs.declared.item.Item.{Item}
@@ -77,7 +77,7 @@ WasOffered z page added key payload Alone = (z.width - 2 < length key + length p
 -- what became of the graph, as its row was or was not published
 abbrev pub OffersRow : Sizes → (key payload : List ℕ) → Origin → (before after : List (List ℕ)) → Type 0
 OffersRow z key payload Found before after = ⊥
-OffersRow z key payload Made before after = (¬ (HasRowWith before key)) × AddsRow before after (row_of key payload)
+OffersRow z key payload Made before after = (¬ (HasRowWith before key)) × AddsRow before after (row_of key payload) × (length (row_of key payload) ≤ z.width)
 OffersRow z key payload Raced before after = HasRowWith before key
 OffersRow z key payload Alone before after = (after ≡ before)
     × ((z.width - 2 < length key + length payload) ⊎ (HasRows before z.rows ⊎ HasRows before z.places))
@@ -92,7 +92,8 @@ pub record HasOffered (old new : PageMeaning) (key payload : List ℕ) (origin :
 -- what became of the graph, as the key's expansion came so
 abbrev pub GoesOnBy : Sizes → Grammar → Key → Origin → (before after : List (List ℕ)) → Type 0
 GoesOnBy z grammar key Found before after = (after ≡ before) × HasRowOf grammar key before
-GoesOnBy z grammar key Made before after = (¬ (HasRowWith before (key_words key))) × ((row : List ℕ) × IsRowOf grammar key row × AddsRow before after row)
+GoesOnBy z grammar key Made before after = (¬ (HasRowWith before (key_words key)))
+    × ((row : List ℕ) × IsRowOf grammar key row × AddsRow before after row × (length row ≤ z.width))
 GoesOnBy z grammar key Raced before after = ⊥
 GoesOnBy z grammar key Alone before after = (after ≡ before) × (¬ (HasRowWith before (key_words key)))
     × (IsWide z grammar key ⊎ (HasRows before z.rows ⊎ HasRows before z.places))

@@ -1,5 +1,5 @@
 -- How the graph of a page grew while keys were asked for, where the page tells it.
-use Rattle.std.specs.Prelude.{◌≡◌, ◌⊎◌, ◌↔◌, ℕ, ◌+◌, List, Option, Some, None, Contains, length}
+use Rattle.std.specs.Prelude.{◌≡◌, ◌⊎◌, ◌↔◌, ℕ, ◌+◌, ◌≤◌, List, Option, Some, None, Contains, length}
 use Rattle.edit_log.specs.History.{Grammar}
 use Rattle.pin_rule.specs.declared.sizes.Sizes.{Sizes}
 use Rattle.pin_rule.specs.Lists.{In}
@@ -51,11 +51,11 @@ Accords z grammar key Made first last = HasRowOf grammar key last
 Accords z grammar key Raced first last = ⊥
 Accords z grammar key Alone first last = IsWide z grammar key ⊎ IsFull z last
 
--- a row that the graph has now it had at first, or it is that of a key which was asked for and made
+-- a row that the graph has now it had at first, or it is that of a key which was asked for and made, and has room
 abbrev pub IsAskedRow : Shared → List (List ℕ) → List ℕ → Type 0
-IsAskedRow graph first row = In row first ⊎ ((key : Key) × IsAsked graph key Made × IsRowOf graph.grammar key row)
+IsAskedRow graph first row = In row first ⊎ ((key : Key) × IsAsked graph key Made × IsRowOf graph.grammar key row × (length row ≤ graph.basis.sizes.width))
 
--- No row went, and only rows of keys that were made came, as many as were made. Of the keys that were asked for, those were found of which there was a row
+-- No row went, and only rows of keys that were made came, none of them too wide, as many as were made. Of the keys that were asked for, those were found of which there was a row
 -- at first, each came as the graphs say, and each has its row in the last graph, unless it is too wide or that graph is full.
 pub record GrowsByAsked (graph : Shared) (first last : List (List ℕ)) : Type 0 where
   pub kept : (row : List ℕ) → In row first → In row last

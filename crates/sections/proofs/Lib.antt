@@ -3,3 +3,7 @@ pub mod ReplySteps
 pub mod TokenKinds
 pub mod EditedLogs
 pub mod EditedRows
+pub mod OriginCounts
+pub mod UsedGraphs
+pub mod AskedKeys
+pub mod TextUses

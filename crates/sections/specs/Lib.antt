@@ -1,4 +1,6 @@
 pub mod Commands
 pub mod Replies
+pub mod Held
+pub mod Asked
 pub mod Editing
 pub mod Alone

@@ -1,13 +1,17 @@
 //! Scanning and parsing a text over a page.
 
-ghost use Rattle.std.specs.Prelude.{◌≡◌, ◌≤◌, length, IfOk, IfErr};
+ghost use Rattle.std.specs.Prelude.{◌≡◌, ◌≤◌, length, IfOk, IfErr, OnOk};
 ghost use Rattle.forest.specs.Derivation.{AreTerminals};
 ghost use Rattle.edit_log.specs.declared.limits.TheConstants.{TOKEN_LIMIT};
 ghost use Rattle.edit_log.specs.Facts.{IsWellFormed};
 ghost use Rattle.graph_content.specs.Contents.{IsLogOfGrammar};
 ghost use Rattle.isg_scan.specs.declared.scanning.TheConstants.{SCAN_LIMIT};
+ghost use Rattle.forest.specs.Distinct.{AreAll};
 ghost use Rattle.live_graph.specs.Showing.{HasStepped};
+ghost use Rattle.live_graph.specs.Growing.{WhereBothTold};
 ghost use Rattle.rekers.specs.Answers.{kinds_of};
+ghost use Rattle.sections.specs.Asked.{AsksAll, AsksText, AsksTokens};
+ghost use Rattle.sections.specs.Held.{ScansKey, AsksFor, UsesKeys};
 ghost use Rattle.sections.specs.Replies.{IsParse, IsOutcome, IsResult};
 
 use crate::reply::{Outcome, TokenList};
@@ -31,6 +35,8 @@ fn scan_over<G: Graph, L: Ledger>(
 ) -> Result<Result<TokenList, ScanError>, NoMemory>
     requires short { length text.now ≤ SCAN_LIMIT }
     ensures scanned { IfOk result (IsResult (G.means graph.old).grammar text.now) }
+    ensures asks { OnOk result (AsksAll (ScansKey (G.means graph.old).grammar text.now) (G.means graph.old) (G.means graph.new)) }
+    ensures grammar { (G.means graph.new).grammar ≡ (G.means graph.old).grammar }
     ensures base { (G.means graph.new).base ≡ (G.means graph.old).base }
 {
     match scan(alloc, graph, text, steps) {
@@ -51,6 +57,9 @@ fn parse_tokens<G: Graph, L: Ledger>(
     requires few { length tokens.now ≤ TOKEN_LIMIT }
     requires terminals { AreTerminals (G.means graph.old).grammar.rules (kinds_of tokens.now) }
     ensures parsed { IfOk result (IsParse (G.means graph.old).grammar.rules (kinds_of tokens.now)) }
+    ensures asks { IfOk result (λ outcome. AsksTokens (kinds_of tokens.now) outcome (G.means graph.old) (G.means graph.new)) }
+    ensures scans { (G.means graph.new).scans ≡ (G.means graph.old).scans }
+    ensures grammar { (G.means graph.new).grammar ≡ (G.means graph.old).grammar }
     ensures base { (G.means graph.new).base ≡ (G.means graph.old).base }
 {
     match parser.parse(alloc, graph, tokens, steps) {
@@ -71,6 +80,8 @@ fn parse_over<G: Graph, L: Ledger>(
     requires short { length text.now ≤ SCAN_LIMIT }
     requires well_formed { IsWellFormed (G.means graph.old).grammar }
     ensures parsed { IfOk result (IsOutcome (G.means graph.old).grammar text.now) }
+    ensures asks { IfOk result (λ outcome. AsksText (G.means graph.old).grammar text.now outcome (G.means graph.old) (G.means graph.new)) }
+    ensures grammar { (G.means graph.new).grammar ≡ (G.means graph.old).grammar }
     ensures base { (G.means graph.new).base ≡ (G.means graph.old).base }
 {
     let tokens = match scan(alloc, graph, text, steps) {
@@ -83,6 +94,7 @@ fn parse_over<G: Graph, L: Ledger>(
 }
 
 /// Scans and parses the text over a graph that stands on the page. The page comes back with how the expansions came.
+/// Where it tells its graph, the keys that were asked for are those that the text reaches, and the tallies are theirs.
 pub(crate) fn parse_text<P: Page<GraphRows>, L: Ledger>(
     alloc: Global,
     parser: &mut Parser,
@@ -94,6 +106,8 @@ pub(crate) fn parse_text<P: Page<GraphRows>, L: Ledger>(
     requires short { length text.now ≤ SCAN_LIMIT }
     requires log { IsLogOfGrammar (P.means page).log grammar.now.grammar }
     ensures outcome { IfOk result (λ done. IsOutcome grammar.now.grammar text.now done.1) }
+    ensures uses { IfOk result (λ done. WhereBothTold (P.means page).graph (P.means done.0).graph
+        (UsesKeys (P.means page).sizes grammar.now.grammar (AsksFor grammar.now.grammar text.now done.1) done.2)) }
     ensures page { IfOk result (λ done. HasStepped (P.means page) (P.means done.0)) }
     ensures refused { IfErr result (λ refused. HasStepped (P.means page) (P.means refused.0)) }
 {
@@ -109,7 +123,8 @@ pub(crate) fn parse_text<P: Page<GraphRows>, L: Ledger>(
     }
 }
 
-/// Scans the text over a graph that stands on the page. The page comes back with how the expansions came.
+/// Scans the text over a graph that stands on the page. The page comes back with how the expansions came. Where it
+/// tells its graph, the keys that were asked for are those that the scan reaches, and the tallies are theirs.
 pub(crate) fn scan_text<P: Page<GraphRows>, L: Ledger>(
     alloc: Global,
     grammar: &Grammar,
@@ -120,6 +135,8 @@ pub(crate) fn scan_text<P: Page<GraphRows>, L: Ledger>(
     requires short { length text.now ≤ SCAN_LIMIT }
     requires log { IsLogOfGrammar (P.means page).log grammar.now.grammar }
     ensures scanned { IfOk result (λ done. IsResult grammar.now.grammar text.now done.1) }
+    ensures uses { IfOk result (λ done. WhereBothTold (P.means page).graph (P.means done.0).graph
+        (UsesKeys (P.means page).sizes grammar.now.grammar (AreAll (ScansKey grammar.now.grammar text.now)) done.2)) }
     ensures page { IfOk result (λ done. HasStepped (P.means page) (P.means done.0)) }
     ensures refused { IfErr result (λ refused. HasStepped (P.means page) (P.means refused.0)) }
 {

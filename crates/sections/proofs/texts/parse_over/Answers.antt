@@ -6,7 +6,9 @@ use Rattle.isg_scan.specs.declared.scan_error.ScanError.TheVariants.{NoMemory}
 use Rattle.rekers.specs.Answers.{kinds_of}
 use Rattle.sections.specs.Replies.{IsParse, scan, parse}
 use Rattle.sections.proofs.ReplySteps.{refused_for}
+use Rattle.sections.specs.Asked.{AsksTokens}
 use Rattle.sections.proofs.TokenKinds.{few_tokens, terminal_tokens}
+use Rattle.sections.proofs.AskedKeys.{unless_memory, scan_refused, text_asks}
 use Rattle.sections.proofs.texts.parse_over.Goals as goal
 
 pub returns-in-Err-clause-parsed : goal.returns-in-Err-clause-parsed
@@ -33,3 +35,20 @@ returns-clause-parsed g c =
     (subst (λ found. IsParse grammar.rules (kinds_of found) c.in_ok-outcome.outcome) c.deref.ensures.value
     (subst (λ (scanned : Grammar). IsParse scanned.rules (kinds_of c.deref.result.now) c.in_ok-outcome.outcome) c.in-Ok.ensures.grammar
     c.in_ok-outcome.ensures.parsed))
+
+pub returns-in-Err-clause-asks : goal.returns-in-Err-clause-asks
+returns-in-Err-clause-asks g c =
+    let grammar = (g.G.Graph.means c.args.graph.now).grammar in
+    let other : c.in-Err.error ≡ NoMemory → ⊥ = λ e. search rules in
+    scan_refused grammar c.args.text.now (g.G.Graph.means c.args.graph.now) (g.G.Graph.means c.scan.new.graph) c.in-Err.ensures.kernels
+    (unless_memory c.scan.result c.in-Err.error _ c.in-Err.is other c.scan.ensures.asked) c.in-Err.error
+    (refused_for grammar c.args.text.now c.in-Err.error other c.in-Err.ensures.refused)
+
+pub returns-clause-asks : goal.returns-clause-asks
+returns-clause-asks g c =
+    let graph = g.G.Graph.means c.args.graph.now in
+    let scanned = g.G.Graph.means c.scan.new.graph in
+    let parsed = g.G.Graph.means c.parse_tokens.new.graph in
+    text_asks graph.grammar c.args.text.now graph scanned c.in-Ok.ensures.kernels c.in-Ok.ensures.asked parsed c.in-Ok.tokens.items
+    c.in-Ok.ensures.tokens c.in-Ok.ensures.grammar c.in_ok-outcome.ensures.scans c.in_ok-outcome.outcome
+    (subst (λ found. AsksTokens (kinds_of found) c.in_ok-outcome.outcome scanned parsed) c.deref.ensures.value c.in_ok-outcome.ensures.asks)
