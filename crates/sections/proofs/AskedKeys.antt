@@ -19,7 +19,7 @@ use Rattle.rekers.specs.Asked.{AsksStates, AsksSomeStates}
 use Rattle.sections.specs.declared.reply.Outcome.{Outcome}
 use Rattle.sections.specs.declared.reply.Outcome.TheVariants.{Parsed, Scan, TooLarge}
 use Rattle.sections.specs.Replies.{IsScanRefusedFor}
-use Rattle.sections.specs.Held.{ReachesKey, ScansKey, AreSome, AsksFor}
+use Rattle.sections.specs.Held.{ReachesKey, ScansKey, AreSomeReached, AsksFor}
 use Rattle.sections.specs.Asked.{HasAsked, AsksAll, AsksMost, AsksText, AsksTokens}
 use Rattle.sections.proofs.OneReply.{one_list, not_refused}
 use Rattle.sections.proofs.UsedGraphs.{asked_keys, has_kernel, has_scan, asked_once}

@@ -156,7 +156,8 @@ module _ {K : Type 0} where
   }
 
   module _ (kept : List (K × Origin)) (distinct : IsDistinct (keys_in kept)) (P : K → Type 0) where
-    pub reached_count : ((key : K) (origin : Origin) → Contains kept (key, origin) → P key) → ((key : K) → P key → (origin : Origin) × Contains kept (key, origin))
+    pub reached_count : ((key : K) (origin : Origin) → Contains kept (key, origin) → P key) → ((key : K) → P key
+        → (origin : Origin) × Contains kept (key, origin))
         → IsCount P (tally_of kept).reached
     reached_count holds comes =
         counted_set (λ t. t.reached) (λ origin. true) reached_counts refl kept distinct P (λ key origin passes has. holds key origin has)
@@ -182,7 +183,7 @@ module _ {K : Type 0} where
   none_raced kept none =
       let total = counts (λ t. t.raced) is_raced raced_counts kept none_counted in
       let no_key : (key : K) → Contains (keys_by is_raced kept) key → ⊥ = λ key there.
-          let (origin, passes, has) = came_by is_raced kept key there in none key (subst (λ o. Contains kept (key, o)) (raced_only origin passes) has) in
+      let (origin, passes, has) = came_by is_raced kept key there in none key (subst (λ o. Contains kept (key, o)) (raced_only origin passes) has) in
       let empty = nothing (keys_by is_raced kept) no_key in
       omega (arith, total, empty)
 

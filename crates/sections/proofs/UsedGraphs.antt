@@ -31,7 +31,11 @@ asked_keys kernels scans = map kernel kernels ++ map scan scans
 
 module _ (kernels : List (List Item)) (scans : List ScanKey) where
   pub has_kernel : (items : List Item) → Contains (asked_keys kernels scans) (kernel items) ↔ Contains kernels items
-  has_kernel items = (λ there. from there, λ there. Contains-append_left (map kernel kernels) (map scan scans) (kernel items) (contains_map kernel kernels items there))
+  has_kernel items = (
+    λ there. from there,
+    λ there. Contains-append_left (map kernel kernels) (map scan scans) (kernel items)
+        (contains_map kernel kernels items there),
+  )
     where
       from : Contains (map kernel kernels ++ map scan scans) (kernel items) → Contains kernels items
       from there = elim (Contains-append_cases (map kernel kernels) (map scan scans) (kernel items) there) [
@@ -83,7 +87,8 @@ origin_of {K} kept key there =
     let from = contains_map_from (λ (one : K × Origin). one.0) kept key there in
     (from.from.1, subst (λ k. Contains kept (k, from.from.1)) from.is from.there)
 
-module _ (log : List Entry) (graph : Shared) (first last : List (List ℕ)) (is_log : IsLogOfGrammar log graph.grammar) (grown : GrowsByAsked graph first last) where
+module _ (log : List Entry) (graph : Shared) (first last : List (List ℕ)) (is_log : IsLogOfGrammar log graph.grammar)
+    (grown : GrowsByAsked graph first last) where
   -- the first graph has the row of a key that was found, and of no other
   found_at : (key : Key) (origin : Origin) → IsAsked graph key origin → HasRowOf graph.grammar key first → origin ≡ Found
   found_at key origin asked (row, there, is) = (grown.found key origin asked).1 (row, there, (is.payload, is.words))
@@ -151,13 +156,15 @@ module _ (log : List Entry) (graph : Shared) (first last : List (List ℕ)) (is_
 
 -- ---- the keys of both kinds
 
-module _ (log : List Entry) (graph : Shared) (first last : List (List ℕ)) (is_log : IsLogOfGrammar log graph.grammar) (grown : GrowsByAsked graph first last) where
+module _ (log : List Entry) (graph : Shared) (first last : List (List ℕ)) (is_log : IsLogOfGrammar log graph.grammar)
+    (grown : GrowsByAsked graph first last) where
   abbrev asked_in : List Key
   asked_in = asked_keys (keys_in graph.kernels) (keys_in graph.scans)
 
   is_among : (key : Key) (origin : Origin) → IsAsked graph key origin → Contains asked_in key
   is_among (kernel items) origin asked =
-      (has_kernel (keys_in graph.kernels) (keys_in graph.scans) items).1 (contains_map (λ (one : List Item × Origin). one.0) graph.kernels (items, origin) asked)
+      (has_kernel (keys_in graph.kernels) (keys_in graph.scans) items).1 (contains_map (λ (one : List Item ×
+      Origin). one.0) graph.kernels (items, origin) asked)
   is_among (scan key) origin asked =
       (has_scan (keys_in graph.kernels) (keys_in graph.scans) key).1 (contains_map (λ (one : ScanKey × Origin). one.0) graph.scans (key, origin) asked)
 

@@ -13,8 +13,8 @@ IsProperCommand (Tokens text) = length text ≤ TEXT_LIMIT
 IsProperCommand Stats = ⊥
 
 -- how many pins a command takes: one for each text
-abbrev pub pins_of : Command → ℕ
-pins_of (Edit edit) = 0
-pins_of (Parse text) = 1
-pins_of (Tokens text) = 1
-pins_of Stats = 0
+abbrev pub pins_for : Command → ℕ
+pins_for (Edit edit) = 0
+pins_for (Parse text) = 1
+pins_for (Tokens text) = 1
+pins_for Stats = 0

@@ -34,7 +34,7 @@ ScansKey grammar text (scan key) = ReachesScan grammar text key
 ScansKey grammar text (kernel items) = ⊥
 
 -- some of the keys that the text reaches, each once, and among them all that its scan reaches
-pub record AreSome (grammar : Grammar) (text : List ℕ) (asked : List Key) : Type 0 where
+pub record AreSomeReached (grammar : Grammar) (text : List ℕ) (asked : List Key) : Type 0 where
   pub distinct : IsDistinct asked
   pub within : (key : Key) → Contains asked key → ReachesKey grammar text key
   pub scanned : (key : Key) → ScansKey grammar text key → Contains asked key
@@ -43,7 +43,7 @@ pub record AreSome (grammar : Grammar) (text : List ℕ) (asked : List Key) : Ty
 abbrev pub AsksFor : Grammar → List ℕ → Outcome → List Key → Type 0
 AsksFor grammar text (Parsed parsed) asked = AreAll (ReachesKey grammar text) asked
 AsksFor grammar text (Scan error) asked = AreAll (ReachesKey grammar text) asked
-AsksFor grammar text TooLarge asked = AreSome grammar text asked
+AsksFor grammar text TooLarge asked = AreSomeReached grammar text asked
 
 -- ---- how many
 

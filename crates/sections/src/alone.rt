@@ -8,7 +8,7 @@ ghost use Rattle.edit_log.specs.Verdict.{IsProper};
 ghost use Rattle.graph_content.specs.Contents.{IsLogOfGrammar};
 ghost use Rattle.version_store.specs.Means.{bench_of};
 ghost use Rattle.sections.specs.Replies.{IsReply, grammar_after};
-ghost use Rattle.sections.specs.Commands.{IsProperCommand, pins_of};
+ghost use Rattle.sections.specs.Commands.{IsProperCommand, pins_for};
 ghost use Rattle.sections.specs.Alone.{ServesNext, IsSpent};
 
 use crate::crew::Crew;
@@ -187,8 +187,8 @@ pub fn run_alone<L: Ledger>(
     ensures stays { OnErr result (crew.new ≡ crew.old) }
     ensures serves { IfOk result (λ alone. ServesNext (bench_of bench) (bench_of alone.bench) crew.new) }
     ensures back { IfErr result (λ refused. ServesNext (bench_of bench) (bench_of refused.0) crew.new) }
-    ensures pins { IfOk result (λ alone. (bench_of alone.bench).pins_left + pins_of command.now ≡ (bench_of bench).pins_left) }
-    ensures spent { IsSpent result ↔ ((bench_of bench).pins_left < pins_of command.now) }
+    ensures pins { IfOk result (λ alone. (bench_of alone.bench).pins_left + pins_for command.now ≡ (bench_of bench).pins_left) }
+    ensures spent { IsSpent result ↔ ((bench_of bench).pins_left < pins_for command.now) }
 {
     match command {
         Command::Edit(edit) => edit_alone(alloc, bench, crew, edit),

@@ -14,14 +14,14 @@ use Rattle.script_text.specs.declared.command.Block.{Block}
 use Rattle.script_text.specs.declared.command.Block.TheVariants.{Alone, Par}
 use Rattle.script_text.specs.declared.limits.TheConstants.{COMMAND_LIMIT}
 use Rattle.sections.specs.Alone.{ServesNext}
-use Rattle.sections.specs.Commands.{pins_of}
+use Rattle.sections.specs.Commands.{pins_for}
 use Rattle.workbench.specs.Blocks.{IsProperBlock, grammar_after_all}
 use Rattle.workbench.specs.Benches.{pins_in, IsBenchAfter}
 use Rattle.workbench.proofs.RunSteps.{answerable_at}
 
 -- ---- pins
 
-one_pin : (command : Command) → pins_of command ≤ 1
+one_pin : (command : Command) → pins_for command ≤ 1
 one_pin (Edit edit) = omega arith
 one_pin (Parse text) = omega arith
 one_pin (Tokens text) = omega arith

@@ -10,13 +10,13 @@ use Rattle.script_text.specs.declared.command.Block.TheVariants.{Alone, Par}
 use Rattle.script_text.specs.declared.command.Script.{Script}
 use Rattle.script_text.specs.Scripts.{SpellsScript}
 use Rattle.bench_io.specs.Known.{IsKnownAs}
-use Rattle.sections.specs.Commands.{pins_of}
+use Rattle.sections.specs.Commands.{pins_for}
 use Rattle.workbench.specs.Blocks.{grammar_after_all}
 
 -- how many pins a block takes: one for each text
 abbrev pub pins_in : Block → ℕ
-pins_in (Alone command) = pins_of command
-pins_in (Par commands) = sum_by pins_of commands
+pins_in (Alone command) = pins_for command
+pins_in (Par commands) = sum_by pins_for commands
 
 -- the table has full sizes, its log is that of the grammar which the blocks make, and each text took one of its pins
 pub record IsBenchAfter (blocks : List Block) (bench : BenchMeaning) : Type 0 where

@@ -9,7 +9,7 @@ ghost use Rattle.edit_log.specs.declared.limits.TheConstants.{LOG_LIMIT};
 ghost use Rattle.graph_content.specs.Contents.{IsLogOfGrammar};
 ghost use Rattle.version_store.specs.Means.{bench_of};
 ghost use Rattle.sections.specs.Alone.{ServesNext};
-ghost use Rattle.sections.specs.Commands.{IsProperCommand, pins_of};
+ghost use Rattle.sections.specs.Commands.{IsProperCommand, pins_for};
 ghost use Rattle.sections.specs.Replies.{grammar_after};
 ghost use Rattle.workbench.specs.declared.answering.TheConstants.{WRITE_SIZE};
 ghost use Rattle.workbench.specs.Benches.{IsBenchAfter, pins_in};
@@ -62,11 +62,11 @@ fn answer<L: Ledger>(
     requires proper { IsProperCommand command.now }
     requires log { IsLogOfGrammar (bench_of bench).log crew.old }
     requires full { (bench_of bench).sizes.log ≡ LOG_LIMIT }
-    requires pins { pins_of command.now ≤ (bench_of bench).pins_left }
+    requires pins { pins_for command.now ≤ (bench_of bench).pins_left }
     ensures next { OnOk result (crew.new ≡ grammar_after crew.old command.now) }
     ensures replied { OnOk result (RepliesWith crew.old command.now out.old.items out.new.items) }
     ensures serves { IfOk result (λ next. ServesNext (bench_of bench) (bench_of next) crew.new) }
-    ensures pins { IfOk result (λ next. (bench_of next).pins_left + pins_of command.now ≡ (bench_of bench).pins_left) }
+    ensures pins { IfOk result (λ next. (bench_of next).pins_left + pins_for command.now ≡ (bench_of bench).pins_left) }
 {
     let alone = match run_alone(alloc, bench, crew, command, steps) {
         Ok(alone) => alone,
