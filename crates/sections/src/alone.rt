@@ -1,8 +1,27 @@
 //! One command, while nobody else uses the table.
 
+ghost use Rattle.std.specs.Prelude.{◌≡◌, ◌↔◌, ◌<◌, ◌≤◌, ◌+◌, length, IfOk, IfErr, OnOk, OnErr};
+ghost use Rattle.script_text.specs.declared.command.Command.TheVariants.{Edit as an_edit, Parse as a_parse, Tokens as a_scan};
+ghost use Rattle.script_text.specs.declared.limits.TheConstants.{TEXT_LIMIT};
+ghost use Rattle.edit_log.specs.declared.limits.TheConstants.{LOG_LIMIT};
+ghost use Rattle.edit_log.specs.Verdict.{IsProper};
+ghost use Rattle.graph_content.specs.Contents.{IsLogOfGrammar};
+ghost use Rattle.version_store.specs.Means.{bench_of};
+ghost use Rattle.sections.specs.Replies.{IsReply, grammar_after};
+ghost use Rattle.sections.specs.Commands.{IsProperCommand, pins_of};
+ghost use Rattle.sections.specs.Alone.{ServesNext, IsSpent};
+
+use crate::crew::Crew;
+use crate::editing::edit_bench;
 use crate::reply::Reply;
+use crate::texts::{parse_text, scan_text};
+use grammar_text::{Edit, Text};
 use graph_content::GraphRows;
-use live_graph::Tallies;
+use live_graph::{Tallies, Tally};
+use script_text::Command;
+use std::alloc::Global;
+use std::sync::ledger::Ledger;
+use steps::Steps;
 use version_store::bench::Bench;
 
 /// What came of a command.
@@ -25,4 +44,156 @@ pub enum AloneError {
     Spent,
     /// Memory ran out.
     NoMemory,
+}
+
+/// A command that asked for no expansion.
+fn none_asked() -> Tallies {
+    let none = Tally {
+        reached: 0,
+        made: 0,
+        found: 0,
+        raced: 0,
+        alone: 0,
+    };
+    Tallies {
+        items: none,
+        scan: none,
+    }
+}
+
+/// Makes the edit, where the grammar takes it.
+fn edit_alone(
+    alloc: Global,
+    bench: Bench<GraphRows>,
+    crew: &mut Crew,
+    edit: &Edit,
+) -> Result<Alone, (Bench<GraphRows>, AloneError)>
+    requires proper { IsProper edit.now }
+    requires log { IsLogOfGrammar (bench_of bench).log crew.old }
+    requires full { (bench_of bench).sizes.log ≡ LOG_LIMIT }
+    ensures replied { IfOk result (λ alone. IsReply crew.old (an_edit edit.now) alone.reply) }
+    ensures next { OnOk result (crew.new ≡ grammar_after crew.old (an_edit edit.now)) }
+    ensures stays { OnErr result (crew.new ≡ crew.old) }
+    ensures serves { IfOk result (λ alone. ServesNext (bench_of bench) (bench_of alone.bench) crew.new) }
+    ensures back { IfErr result (λ refused. ServesNext (bench_of bench) (bench_of refused.0) crew.new) }
+    ensures pins { IfOk result (λ alone. (bench_of alone.bench).pins_left ≡ (bench_of bench).pins_left) }
+    ensures not_spent { IfErr result (λ refused. refused.1 ≡ AloneError.NoMemory) }
+{
+    let mut bench = bench;
+    match edit_bench(alloc, &mut bench, &mut crew.grammar, edit) {
+        Ok((reply, dropped)) => Ok(Alone {
+            bench,
+            reply,
+            tallies: none_asked(),
+            dropped,
+        }),
+        Err(_) => Err((bench, AloneError::NoMemory)),
+    }
+}
+
+/// Parses the text over a pin of its own.
+fn parse_alone<L: Ledger>(
+    alloc: Global,
+    bench: Bench<GraphRows>,
+    crew: &mut Crew,
+    text: &Text,
+    steps: &mut Steps<L>,
+) -> Result<Alone, (Bench<GraphRows>, AloneError)>
+    requires short { length text.now ≤ TEXT_LIMIT }
+    requires log { IsLogOfGrammar (bench_of bench).log crew.old }
+    ensures replied { IfOk result (λ alone. IsReply crew.old (a_parse text.now) alone.reply) }
+    ensures stays { crew.new ≡ crew.old }
+    ensures serves { IfOk result (λ alone. ServesNext (bench_of bench) (bench_of alone.bench) crew.new) }
+    ensures back { IfErr result (λ refused. ServesNext (bench_of bench) (bench_of refused.0) crew.new) }
+    ensures pins { IfOk result (λ alone. (bench_of alone.bench).pins_left + 1 ≡ (bench_of bench).pins_left) }
+    ensures spent { IsSpent result ↔ ((bench_of bench).pins_left ≡ 0) }
+{
+    let page = match bench.pin() {
+        Ok(page) => page,
+        Err((bench, _)) => return Err((bench, AloneError::Spent)),
+    };
+    let version = crew.grammar.version();
+    let parsed = parse_text(
+        alloc,
+        &mut crew.parser,
+        &crew.grammar,
+        page,
+        text.bytes(),
+        steps,
+    );
+    let (page, outcome, tallies) = match parsed {
+        Ok(done) => done,
+        Err((page, _)) => return Err((page.unpin(), AloneError::NoMemory)),
+    };
+    Ok(Alone {
+        bench: page.unpin(),
+        reply: Reply::Parse { version, outcome },
+        tallies,
+        dropped: (0, 0),
+    })
+}
+
+/// Scans the text over a pin of its own.
+fn scan_alone<L: Ledger>(
+    alloc: Global,
+    bench: Bench<GraphRows>,
+    crew: &mut Crew,
+    text: &Text,
+    steps: &mut Steps<L>,
+) -> Result<Alone, (Bench<GraphRows>, AloneError)>
+    requires short { length text.now ≤ TEXT_LIMIT }
+    requires log { IsLogOfGrammar (bench_of bench).log crew.old }
+    ensures replied { IfOk result (λ alone. IsReply crew.old (a_scan text.now) alone.reply) }
+    ensures stays { crew.new ≡ crew.old }
+    ensures serves { IfOk result (λ alone. ServesNext (bench_of bench) (bench_of alone.bench) crew.new) }
+    ensures back { IfErr result (λ refused. ServesNext (bench_of bench) (bench_of refused.0) crew.new) }
+    ensures pins { IfOk result (λ alone. (bench_of alone.bench).pins_left + 1 ≡ (bench_of bench).pins_left) }
+    ensures spent { IsSpent result ↔ ((bench_of bench).pins_left ≡ 0) }
+{
+    let page = match bench.pin() {
+        Ok(page) => page,
+        Err((bench, _)) => return Err((bench, AloneError::Spent)),
+    };
+    let version = crew.grammar.version();
+    let scanned = scan_text(alloc, &crew.grammar, page, text.bytes(), steps);
+    let (page, result, tallies) = match scanned {
+        Ok(done) => done,
+        Err((page, _)) => return Err((page.unpin(), AloneError::NoMemory)),
+    };
+    Ok(Alone {
+        bench: page.unpin(),
+        reply: Reply::Tokens { version, result },
+        tallies,
+        dropped: (0, 0),
+    })
+}
+
+/// Answers a command. The bench comes back in any case, for the next command, and so does the crew.
+///
+/// A text takes a pin of the table, which lasts as long as its parse. Where memory runs out, the pin is dropped too, and
+/// counts as taken.
+pub fn run_alone<L: Ledger>(
+    alloc: Global,
+    bench: Bench<GraphRows>,
+    crew: &mut Crew,
+    command: &Command,
+    steps: &mut Steps<L>,
+) -> Result<Alone, (Bench<GraphRows>, AloneError)>
+    requires proper { IsProperCommand command.now }
+    requires log { IsLogOfGrammar (bench_of bench).log crew.old }
+    requires full { (bench_of bench).sizes.log ≡ LOG_LIMIT }
+    ensures replied { IfOk result (λ alone. IsReply crew.old command.now alone.reply) }
+    ensures next { OnOk result (crew.new ≡ grammar_after crew.old command.now) }
+    ensures stays { OnErr result (crew.new ≡ crew.old) }
+    ensures serves { IfOk result (λ alone. ServesNext (bench_of bench) (bench_of alone.bench) crew.new) }
+    ensures back { IfErr result (λ refused. ServesNext (bench_of bench) (bench_of refused.0) crew.new) }
+    ensures pins { IfOk result (λ alone. (bench_of alone.bench).pins_left + pins_of command.now ≡ (bench_of bench).pins_left) }
+    ensures spent { IsSpent result ↔ ((bench_of bench).pins_left < pins_of command.now) }
+{
+    match command {
+        Command::Edit(edit) => edit_alone(alloc, bench, crew, edit),
+        Command::Parse(text) => parse_alone(alloc, bench, crew, text, steps),
+        Command::Tokens(text) => scan_alone(alloc, bench, crew, text, steps),
+        Command::Stats => unreachable!(),
+    }
 }

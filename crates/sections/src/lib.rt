@@ -12,7 +12,7 @@ mod laws;
 mod reply;
 mod texts;
 
-pub use alone::{Alone, AloneError};
+pub use alone::{Alone, AloneError, run_alone};
 pub use crew::Crew;
 pub use laws::one_reply;
 pub use reply::{Outcome, Reply, TokenList};

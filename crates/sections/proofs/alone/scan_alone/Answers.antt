@@ -1,0 +1,9 @@
+use Rattle.std.proofs.Common.{refl}
+use Rattle.script_text.specs.declared.command.Command.TheVariants.{Tokens}
+use Rattle.sections.proofs.ReplySteps.{scanned_reply}
+use Rattle.sections.proofs.alone.scan_alone.Goals as goal
+
+pub returns-clause-replied : goal.returns-clause-replied
+returns-clause-replied g c =
+    scanned_reply c.crew.inside.grammar.grammar c.args.crew.now (Tokens c.args.text.now) c.args.text.now c.bytes.result.now c.version-version.result
+    c.in-Ok-scanned.done.1 c.crew.view_is refl c.bytes.ensures c.version-version.ensures.version c.in-Ok-scanned.ensures.scanned
