@@ -55,8 +55,8 @@ Accords z grammar key Alone first last = IsWide z grammar key ⊎ IsFull z last
 abbrev pub IsAskedRow : Shared → List (List ℕ) → List ℕ → Type 0
 IsAskedRow graph first row = In row first ⊎ ((key : Key) × IsAsked graph key Made × IsRowOf graph.grammar key row × (length row ≤ graph.basis.sizes.width))
 
--- No row went, and only rows of keys that were made came, none of them too wide, as many as were made. Of the keys that were asked for, those were found of which there was a row
--- at first, each came as the graphs say, and each has its row in the last graph, unless it is too wide or that graph is full.
+-- No row went, and only rows of keys that were made came, none of them too wide, as many as were made. Of the keys that were asked for, those were found of
+-- which there was a row at first, each came as the graphs say, and each has its row in the last graph, unless it is too wide or that graph is full.
 pub record Grows (graph : Shared) (first last : List (List ℕ)) : Type 0 where
   pub kept : (row : List ℕ) → In row first → In row last
   pub only : (row : List ℕ) → In row last → IsAskedRow graph first row
