@@ -25,22 +25,23 @@ pub record EditsRows (grammar : Grammar) (edit : AnEdit) (tallies : Tallies) (fi
   pub asks_none : tallies ≡ none_tallied
 
 -- a text that is parsed asks for the keys that it reaches, by how the parse comes out; no other reply is told of a parse
-abbrev pub ParsesOver : Sizes → Grammar → List ℕ → Reply → Tallies → (first last : List (List ℕ)) → Type 0
-ParsesOver z grammar text (Parsing version outcome) tallies first last = UsesKeys z grammar (AsksFor grammar text outcome) tallies first last
-ParsesOver z grammar text (Scanning version result) tallies first last = ⊥
-ParsesOver z grammar text (Edited version) tallies first last = ⊥
-ParsesOver z grammar text (Refused why) tallies first last = ⊥
+abbrev pub ParsesOver : Sizes → Grammar → List ℕ → Reply → Tallies → (before after : ℕ) → (first last : List (List ℕ)) → Type 0
+ParsesOver z grammar text (Parsing version outcome) tallies before after first last =
+    UsesKeys z grammar (AsksFor grammar text outcome) tallies before after first last
+ParsesOver z grammar text (Scanning version result) tallies before after first last = ⊥
+ParsesOver z grammar text (Edited version) tallies before after first last = ⊥
+ParsesOver z grammar text (Refused why) tallies before after first last = ⊥
 
 -- a text that is scanned asks for exactly the keys that its scan reaches
-abbrev pub ScansOver : Sizes → Grammar → List ℕ → Tallies → (first last : List (List ℕ)) → Type 0
-ScansOver z grammar text tallies first last = UsesKeys z grammar (AreAll (ScansKey grammar text)) tallies first last
+abbrev pub ScansOver : Sizes → Grammar → List ℕ → Tallies → (before after : ℕ) → (first last : List (List ℕ)) → Type 0
+ScansOver z grammar text tallies before after first last = UsesKeys z grammar (AreAll (ScansKey grammar text)) tallies before after first last
 
--- what a command that was answered so, with these tallies, made of the graph
-abbrev pub SharesRows : Sizes → Grammar → Command → Reply → Tallies → (first last : List (List ℕ)) → Type 0
-SharesRows z grammar (Edit edit) reply tallies first last = EditsRows grammar edit tallies first last
-SharesRows z grammar (Parse text) reply tallies first last = ParsesOver z grammar text reply tallies first last
-SharesRows z grammar (Tokens text) reply tallies first last = ScansOver z grammar text tallies first last
-SharesRows z grammar Stats reply tallies first last = ⊥
+-- what a command that was answered so, with these tallies and these steps before and after, made of the graph; an edit takes no step
+abbrev pub SharesRows : Sizes → Grammar → Command → Reply → Tallies → (before after : ℕ) → (first last : List (List ℕ)) → Type 0
+SharesRows z grammar (Edit edit) reply tallies before after first last = EditsRows grammar edit tallies first last × (after ≡ before)
+SharesRows z grammar (Parse text) reply tallies before after first last = ParsesOver z grammar text reply tallies before after first last
+SharesRows z grammar (Tokens text) reply tallies before after first last = ScansOver z grammar text tallies before after first last
+SharesRows z grammar Stats reply tallies before after first last = ⊥
 
 -- but for an edit that was taken, no row was dropped
 abbrev pub DropsFor : Reply → ℕ × ℕ → Type 0

@@ -10,6 +10,7 @@ ghost use Rattle.version_store.specs.Means.{bench_of};
 ghost use Rattle.sections.specs.Replies.{IsReply, grammar_after};
 ghost use Rattle.sections.specs.Commands.{IsProperCommand, pins_of};
 ghost use Rattle.sections.specs.Alone.{ServesNext, IsSpent};
+ghost use Rattle.sections.specs.Held.{AddsRowsOf};
 ghost use Rattle.sections.specs.Laziness.{none_tallied, EditsRows, ParsesOver, ScansOver, SharesRows, DropsFor, ComesBack};
 
 use crate::crew::Crew;
@@ -112,10 +113,11 @@ fn parse_alone<L: Ledger>(
     ensures serves { IfOk result (λ alone. ServesNext (bench_of bench) (bench_of alone.bench) crew.new) }
     ensures back { IfErr result (λ refused. ServesNext (bench_of bench) (bench_of refused.0) crew.new) }
     ensures pins { IfOk result (λ alone. (bench_of alone.bench).pins_left + 1 ≡ (bench_of bench).pins_left) }
-    ensures parses { IfOk result (λ alone. ParsesOver (bench_of bench).sizes crew.old text.now alone.reply alone.tallies
+    ensures parses { IfOk result (λ alone. ParsesOver (bench_of bench).sizes crew.old text.now alone.reply alone.tallies steps.old steps.new
         (bench_of bench).graph (bench_of alone.bench).graph) }
     ensures drops { IfOk result (λ alone. DropsFor alone.reply alone.dropped) }
     ensures untouched { IfErr result (λ refused. refused.1 ≡ AloneError.Spent → refused.0 ≡ bench) }
+    ensures rows { IfErr result (λ refused. AddsRowsOf crew.old (bench_of bench).graph (bench_of refused.0).graph) }
     ensures spent { IsSpent result ↔ ((bench_of bench).pins_left ≡ 0) }
 {
     let page = match bench.pin() {
@@ -158,10 +160,11 @@ fn scan_alone<L: Ledger>(
     ensures serves { IfOk result (λ alone. ServesNext (bench_of bench) (bench_of alone.bench) crew.new) }
     ensures back { IfErr result (λ refused. ServesNext (bench_of bench) (bench_of refused.0) crew.new) }
     ensures pins { IfOk result (λ alone. (bench_of alone.bench).pins_left + 1 ≡ (bench_of bench).pins_left) }
-    ensures scans { IfOk result (λ alone. ScansOver (bench_of bench).sizes crew.old text.now alone.tallies
+    ensures scans { IfOk result (λ alone. ScansOver (bench_of bench).sizes crew.old text.now alone.tallies steps.old steps.new
         (bench_of bench).graph (bench_of alone.bench).graph) }
     ensures drops { IfOk result (λ alone. DropsFor alone.reply alone.dropped) }
     ensures untouched { IfErr result (λ refused. refused.1 ≡ AloneError.Spent → refused.0 ≡ bench) }
+    ensures rows { IfErr result (λ refused. AddsRowsOf crew.old (bench_of bench).graph (bench_of refused.0).graph) }
     ensures spent { IsSpent result ↔ ((bench_of bench).pins_left ≡ 0) }
 {
     let page = match bench.pin() {
@@ -202,10 +205,11 @@ pub fn run_alone<L: Ledger>(
     ensures serves { IfOk result (λ alone. ServesNext (bench_of bench) (bench_of alone.bench) crew.new) }
     ensures back { IfErr result (λ refused. ServesNext (bench_of bench) (bench_of refused.0) crew.new) }
     ensures pins { IfOk result (λ alone. (bench_of alone.bench).pins_left + pins_of command.now ≡ (bench_of bench).pins_left) }
-    ensures shares { IfOk result (λ alone. SharesRows (bench_of bench).sizes crew.old command.now alone.reply alone.tallies
+    ensures shares { IfOk result (λ alone. SharesRows (bench_of bench).sizes crew.old command.now alone.reply alone.tallies steps.old steps.new
         (bench_of bench).graph (bench_of alone.bench).graph) }
     ensures drops { IfOk result (λ alone. DropsFor alone.reply alone.dropped) }
     ensures untouched { IfErr result (λ refused. ComesBack command.now refused.1 bench refused.0) }
+    ensures rows { IfErr result (λ refused. AddsRowsOf crew.old (bench_of bench).graph (bench_of refused.0).graph) }
     ensures spent { IsSpent result ↔ ((bench_of bench).pins_left < pins_of command.now) }
 {
     match command {
