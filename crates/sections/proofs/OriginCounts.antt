@@ -1,14 +1,12 @@
 -- A tally counts the keys whose expansions came in each way.
-use Rattle.std.proofs.Common.{◌≡◌, ◌↔◌, ℕ, zero, suc, ◌+◌, Bool, true, false, cond, List, [], ◌∷◌, inl, inr, length, map, fold, filter, Contains, refl, sym}
-use Rattle.std.proofs.Common.{ap, ◌∙◌, subst, arith}
-use Rattle.std.proofs.lemmas.List.{length-map}
+use Rattle.std.proofs.Common.{◌≡◌, ℕ, ◌+◌, Bool, true, false, cond, List, [], ◌∷◌, inl, inr, length, fold, filter, Contains, refl, sym, ap, subst, arith}
 use Rattle.forest.specs.Distinct.{IsDistinct, AreAll}
 use Rattle.forest.proofs.Ascending.{contains_here, contains_there, contains_cases}
 use Rattle.edit_log.proofs.PlainLists.{each_contained, contains_filter, filter_passes, contains_map, contains_map_from, distinct_filter}
 use Rattle.live_graph.specs.declared.origin.Origin.{Origin}
 use Rattle.live_graph.specs.declared.origin.Origin.TheVariants.{Found, Made, Raced, Alone}
 use Rattle.live_graph.specs.declared.tally.Tally.{Tally}
-use Rattle.live_graph.specs.Sharing.{keys_in}
+use Rattle.live_graph.specs.Sharing.{keys_in, own_keys}
 use Rattle.live_graph.specs.Tallying.{none_counted, counted, tally_of, AddsUp}
 use Rattle.live_graph.proofs.TallyCounts.{adds_up_on}
 use Rattle.sections.specs.Held.{IsCount}
@@ -32,6 +30,13 @@ is_raced Found = false
 is_raced Made = false
 is_raced Raced = true
 is_raced Alone = false
+
+-- all but the keys that were found are the graph's own
+is_own : Origin → Bool
+is_own Found = false
+is_own Made = true
+is_own Raced = true
+is_own Alone = true
 
 -- a number of the tally counts the keys that came in a certain way
 abbrev Counts : (Tally → ℕ) → (Origin → Bool) → Type 0
@@ -84,6 +89,20 @@ raced_only Found e = cc
 raced_only Made e = cc
 raced_only Raced e = refl
 raced_only Alone e = cc
+
+own_only : (origin : Origin) → is_own origin ≡ true → origin ≡ Found → ⊥
+unfolding is_own
+own_only Found own same = cc own
+own_only Made own same = cc same
+own_only Raced own same = cc same
+own_only Alone own same = cc same
+
+is_own_if : (origin : Origin) → (origin ≡ Found → ⊥) → is_own origin ≡ true
+unfolding is_own
+is_own_if Found other = absurd (other refl)
+is_own_if Made other = refl
+is_own_if Raced other = refl
+is_own_if Alone other = refl
 
 -- ---- how many keys came so
 
@@ -141,6 +160,32 @@ module _ {K : Type 0} where
 
   -- ---- the tally
 
+  all_by : (test : Origin → Bool) (kept : List (K × Origin)) → IsDistinct (keys_in kept) → (P : K → Type 0)
+      → ((key : K) (origin : Origin) → test origin ≡ true → Contains kept (key, origin) → P key)
+      → ((key : K) → P key → (origin : Origin) × (test origin ≡ true) × Contains kept (key, origin)) → AreAll P (keys_by test kept)
+  unfolding keys_by
+  all_by test kept distinct P holds comes = record {
+    distinct = distinct_filter (λ (one : K × Origin). one.0) (λ one. test one.1) kept distinct;
+    within = λ key there. let (origin, passes, has) = came_by test kept key there in holds key origin passes has;
+    all = λ key is. let (origin, passes, has) = comes key is in comes_by test kept key origin passes has;
+  }
+
+  own_by : (kept : List (K × Origin)) → own_keys kept ≡ keys_by is_own kept
+  unfolding keys_by is_own
+  own_by [] = refl
+  own_by ((key, Found) ∷ kept) = own_by kept
+  own_by ((key, Made) ∷ kept) = ap (λ keys. key ∷ keys) (own_by kept)
+  own_by ((key, Raced) ∷ kept) = ap (λ keys. key ∷ keys) (own_by kept)
+  own_by ((key, Alone) ∷ kept) = ap (λ keys. key ∷ keys) (own_by kept)
+
+  pub own_all : (kept : List (K × Origin)) → IsDistinct (keys_in kept) → (P : K → Type 0)
+      → ((key : K) (origin : Origin) → (origin ≡ Found → ⊥) → Contains kept (key, origin) → P key)
+      → ((key : K) → P key → (origin : Origin) × (origin ≡ Found → ⊥) × Contains kept (key, origin)) → AreAll P (own_keys kept)
+  own_all kept distinct P holds comes =
+      subst (AreAll P) (sym (own_by kept))
+      (all_by is_own kept distinct P (λ key origin own has. holds key origin (own_only origin own) has)
+      (λ key is. let (origin, other, has) = comes key is in (origin, is_own_if origin other, has)))
+
   counted_set : (number : Tally → ℕ) (test : Origin → Bool) → Counts number test → number none_counted ≡ 0 → (kept : List (K × Origin))
       → IsDistinct (keys_in kept) → (P : K → Type 0)
       → ((key : K) (origin : Origin) → test origin ≡ true → Contains kept (key, origin) → P key)
@@ -148,18 +193,13 @@ module _ {K : Type 0} where
   unfolding keys_by
   counted_set number test step none kept distinct P holds comes = record {
     members = keys_by test kept;
-    are_all = record {
-      distinct = distinct_filter (λ (one : K × Origin). one.0) (λ one. test one.1) kept distinct;
-      within = λ key there. let (origin, passes, has) = came_by test kept key there in holds key origin passes has;
-      all = λ key is. let (origin, passes, has) = comes key is in comes_by test kept key origin passes has;
-    };
+    are_all = all_by test kept distinct P holds comes;
     many = let total = counts number test step kept none_counted in omega (arith, total, none);
   }
 
   module _ (kept : List (K × Origin)) (distinct : IsDistinct (keys_in kept)) (P : K → Type 0) where
-    pub reached_count : ((key : K) (origin : Origin) → Contains kept (key, origin) → P key) → ((key : K) → P key
-        → (origin : Origin) × Contains kept (key, origin))
-        → IsCount P (tally_of kept).reached
+    pub reached_count : ((key : K) (origin : Origin) → Contains kept (key, origin) → P key)
+        → ((key : K) → P key → (origin : Origin) × Contains kept (key, origin)) → IsCount P (tally_of kept).reached
     reached_count holds comes =
         counted_set (λ t. t.reached) (λ origin. true) reached_counts refl kept distinct P (λ key origin passes has. holds key origin has)
         (λ key is. let (origin, has) = comes key is in (origin, refl, has))

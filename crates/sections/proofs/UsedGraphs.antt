@@ -16,13 +16,14 @@ use Rattle.graph_content.specs.Contents.{IsLogOfGrammar}
 use Rattle.graph_content.proofs.RowKeys.{one_key_of}
 use Rattle.live_graph.specs.declared.origin.Origin.{Origin}
 use Rattle.live_graph.specs.declared.origin.Origin.TheVariants.{Found, Made, Raced, Alone}
-use Rattle.live_graph.specs.Sharing.{Shared, keys_in}
+use Rattle.live_graph.specs.Sharing.{Shared, keys_in, own_keys, means_shared}
+use Rattle.live_graph.specs.Cost.{IsCostOf, RisesAsCost}
 use Rattle.live_graph.specs.Showing.{IsNarrow}
 use Rattle.live_graph.specs.Tallying.{tally_of, tallies_of}
 use Rattle.live_graph.specs.Growing.{IsAsked, HasRowOf, IsFull, Accords, IsAskedRow, GrowsByAsked}
 use Rattle.live_graph.proofs.RowsOfKeys.{key_fits}
-use Rattle.sections.specs.Held.{IsTallyOf, UsesGraph}
-use Rattle.sections.proofs.OriginCounts.{reached_count, found_count, made_count, none_raced, adds_up}
+use Rattle.sections.specs.Held.{IsTallyOf, IsCostOfOthers, UsesGraph, AddsRowsOf}
+use Rattle.sections.proofs.OriginCounts.{own_all, reached_count, found_count, made_count, none_raced, adds_up}
 
 -- ---- the keys that were asked for, kernels first
 
@@ -33,8 +34,7 @@ module _ (kernels : List (List Item)) (scans : List ScanKey) where
   pub has_kernel : (items : List Item) → Contains (asked_keys kernels scans) (kernel items) ↔ Contains kernels items
   has_kernel items = (
     λ there. from there,
-    λ there. Contains-append_left (map kernel kernels) (map scan scans) (kernel items)
-        (contains_map kernel kernels items there),
+    λ there. Contains-append_left (map kernel kernels) (map scan scans) (kernel items) (contains_map kernel kernels items there),
   )
     where
       from : Contains (map kernel kernels ++ map scan scans) (kernel items) → Contains kernels items
@@ -139,6 +139,22 @@ module _ (log : List Entry) (graph : Shared) (first last : List (List ℕ)) (is_
         by Raced known = absurd (grown.accords (as_key key) Raced (asks key Raced known))
         by Alone known = absurd (alone_lacks key known lacks has)
 
+    abbrev IsOther : K → Type 0
+    IsOther key = Contains asked (as_key key) × (¬ (HasRowOf graph.grammar (as_key key) first))
+
+    other_so : (key : K) → IsOther key → (origin : Origin) × (origin ≡ Found → ⊥) × Contains kept (key, origin)
+    other_so key (there, lacks) = let (origin, known) = with_origin key there in (
+      origin,
+      λ same. lacks (grown.accords (as_key key) Found (asks key Found (subst (λ o. Contains kept (key, o)) same known))),
+      known,
+    )
+
+    -- the keys that the graph expanded itself
+    pub own_so : AreAll IsOther (own_keys kept)
+    own_so =
+        own_all kept once IsOther
+        (λ key origin other known. (in_asked key origin known, not_found (as_key key) origin (asks key origin known) other)) other_so
+
     pub tallied : IsTallyOf graph.grammar asked first last as_key (tally_of kept)
     tallied = record {
       reached = reached_count kept once (λ key. Contains asked (as_key key)) in_asked with_origin;
@@ -172,20 +188,53 @@ module _ (log : List Entry) (graph : Shared) (first last : List (List ℕ)) (is_
   came_by (kernel items) there = origin_of graph.kernels items ((has_kernel (keys_in graph.kernels) (keys_in graph.scans) items).0 there)
   came_by (scan key) there = origin_of graph.scans key ((has_scan (keys_in graph.kernels) (keys_in graph.scans) key).0 there)
 
-  pub used : IsDistinct (keys_in graph.kernels) → IsDistinct (keys_in graph.scans)
-      → UsesGraph graph.basis.sizes graph.grammar asked_in first last (tallies_of graph)
-  used kernels_once scans_once = record {
-    kept = grown.kept;
-    only = λ row there. elim (grown.only row there) [
-      | inl old ↦ inl old
-      | inr (key, asked, is, room) ↦ inr (key, is_among key Made asked, is, room)
-    ];
-    stored = λ key there narrow. let (origin, asked) = came_by key there in grown.stored key origin asked narrow;
-    many = grown.many;
-    items_told =
-        tallied log graph first last is_log grown kernel graph.kernels kernels_once asked_in (λ key origin known. known) (λ key origin known. known)
-        (has_kernel (keys_in graph.kernels) (keys_in graph.scans));
-    scan_told =
-        tallied log graph first last is_log grown scan graph.scans scans_once asked_in (λ key origin known. known) (λ key origin known. known)
-        (has_scan (keys_in graph.kernels) (keys_in graph.scans));
-  }
+  module _ (kernels_once : IsDistinct (keys_in graph.kernels)) (scans_once : IsDistinct (keys_in graph.scans)) where
+    cost_of : (cost : ℕ) → IsCostOf (means_shared graph) cost → IsCostOfOthers graph.grammar asked_in first cost
+    cost_of cost is = record {
+      kernels = is.kernels;
+      scans = is.scans;
+      kernels_cost = record {
+        members = own_keys graph.kernels;
+        are_all =
+            own_so log graph first last is_log grown kernel graph.kernels kernels_once asked_in (λ key origin known. known) (λ key origin known. known)
+            (has_kernel (keys_in graph.kernels) (keys_in graph.scans));
+        is_sum = is.kernels_cost;
+      };
+      scans_cost = record {
+        members = own_keys graph.scans;
+        are_all =
+            own_so log graph first last is_log grown scan graph.scans scans_once asked_in (λ key origin known. known) (λ key origin known. known)
+            (has_scan (keys_in graph.kernels) (keys_in graph.scans));
+        is_sum = is.scans_cost;
+      };
+      sum = is.sum;
+    }
+
+    pub used : (before after cost : ℕ) → IsCostOf (means_shared graph) cost → after ≡ before + cost
+        → UsesGraph graph.basis.sizes graph.grammar asked_in first last (tallies_of graph) before after
+    used before after cost is rises = record {
+      kept = grown.kept;
+      only = λ row there. elim (grown.only row there) [
+        | inl old ↦ inl old
+        | inr (key, asked, is, room) ↦ inr (key, is_among key Made asked, is, room)
+      ];
+      stored = λ key there narrow. let (origin, asked) = came_by key there in grown.stored key origin asked narrow;
+      many = grown.many;
+      items_told =
+          tallied log graph first last is_log grown kernel graph.kernels kernels_once asked_in (λ key origin known. known) (λ key origin known. known)
+          (has_kernel (keys_in graph.kernels) (keys_in graph.scans));
+      scan_told =
+          tallied log graph first last is_log grown scan graph.scans scans_once asked_in (λ key origin known. known) (λ key origin known. known)
+          (has_scan (keys_in graph.kernels) (keys_in graph.scans));
+      cost = cost;
+      is_cost = cost_of cost is;
+      rises = rises;
+    }
+
+-- ---- a graph, whatever it was asked for
+
+pub rows_added : (graph : Shared) (first last : List (List ℕ)) → Grows graph first last → AddsRowsOf graph.grammar first last
+rows_added graph first last grown = record {
+  kept = grown.kept;
+  only = λ row there. elim (grown.only row there) [ inl old ↦ inl old | inr (key, asked, is, room) ↦ inr (key, is) ];
+}

@@ -4,15 +4,18 @@ use Rattle.forest.specs.declared.symbols.Token.{Token}
 use Rattle.forest.specs.Distinct.{IsDistinct, AreAll}
 use Rattle.edit_log.specs.History.{Grammar}
 use Rattle.edit_log.specs.Tokens.{tokens, Tokenizes}
+use Rattle.item_sets.specs.Expansions.{IsCost}
 use Rattle.isg_states.specs.declared.scan_key.ScanKey.{ScanKey}
+use Rattle.isg_states.specs.Expansion.{IsScanCost}
 use Rattle.isg_scan.specs.Reach.{ReachesScan}
 use Rattle.pin_rule.specs.declared.sizes.Sizes.{Sizes}
 use Rattle.pin_rule.specs.Lists.{In}
 use Rattle.row_coding.specs.Rows.{Key, kernel, scan}
 use Rattle.slot_store.specs.GraphAnswers.{HasRows}
-use Rattle.graph_content.specs.Rows.{IsRowOf}
+use Rattle.graph_content.specs.Rows.{IsRowOf, Fits}
 use Rattle.live_graph.specs.declared.tally.Tally.{Tally}
 use Rattle.live_graph.specs.declared.tally.Tallies.{Tallies}
+use Rattle.live_graph.specs.Cost.{IsSum}
 use Rattle.live_graph.specs.Showing.{IsNarrow}
 use Rattle.live_graph.specs.Tallying.{AddsUp}
 use Rattle.live_graph.specs.Growing.{HasRowOf, IsFull}
@@ -63,6 +66,20 @@ module _ (grammar : Grammar) (asked : List Key) (first last : List (List ℕ)) w
     pub raced : t.raced ≡ 0
     pub sum : AddsUp t
 
+-- so much the values with the property cost together: that is the sum over a list with exactly these, each once
+pub record IsCostOfAll {X : Type 0} (Costs : X → ℕ → Type 0) (P : X → Type 0) (cost : ℕ) : Type 0 where
+  pub members : List X
+  pub are_all : AreAll P members
+  pub is_sum : IsSum Costs members cost
+
+-- the cost of the keys that were asked for and whose row the graph has not
+pub record IsCostOfOthers (grammar : Grammar) (asked : List Key) (first : List (List ℕ)) (cost : ℕ) : Type 0 where
+  pub kernels : ℕ
+  pub scans : ℕ
+  pub kernels_cost : IsCostOfAll (IsCost grammar.rules) (λ items. Contains asked (kernel items) × (¬ (HasRowOf grammar (kernel items) first))) kernels
+  pub scans_cost : IsCostOfAll (IsScanCost grammar) (λ key. Contains asked (scan key) × (¬ (HasRowOf grammar (scan key) first))) scans
+  pub sum : cost ≡ scans + kernels
+
 -- ---- what becomes of the graph
 
 -- a row that has room is that of one of the keys
@@ -70,15 +87,23 @@ abbrev pub IsRowAmong : Sizes → Grammar → List Key → List ℕ → Type 0
 IsRowAmong z grammar asked row = (key : Key) × Contains asked key × IsRowOf grammar key row × (length row ≤ z.width)
 
 -- No row went, only rows of keys that were asked for came, and as many as the tallies say. Each of these keys whose row is not too wide is in the last graph,
--- or that is full.
-pub record UsesGraph (z : Sizes) (grammar : Grammar) (asked : List Key) (first last : List (List ℕ)) (tallies : Tallies) : Type 0 where
+-- or that is full. The steps rise by the cost of the keys whose row the first graph has not.
+pub record UsesGraph (z : Sizes) (grammar : Grammar) (asked : List Key) (first last : List (List ℕ)) (tallies : Tallies) (before after : ℕ) : Type 0 where
   pub kept : (row : List ℕ) → In row first → In row last
   pub only : (row : List ℕ) → In row last → In row first ⊎ IsRowAmong z grammar asked row
   pub stored : (key : Key) → Contains asked key → IsNarrow z grammar key → HasRowOf grammar key last ⊎ IsFull z last
   pub many : (count : ℕ) → HasRows first count → HasRows last (count + (tallies.items.made + tallies.scan.made))
   pub items_told : IsTallyOf grammar asked first last kernel tallies.items
   pub scan_told : IsTallyOf grammar asked first last scan tallies.scan
+  pub cost : ℕ
+  pub is_cost : IsCostOfOthers grammar asked first cost
+  pub rises : after ≡ before + cost
 
--- such keys were asked for, with these tallies
-abbrev pub UsesKeys : Sizes → Grammar → (List Key → Type 0) → Tallies → (first last : List (List ℕ)) → Type 0
-UsesKeys z grammar Asks tallies first last = (asked : List Key) × Asks asked × UsesGraph z grammar asked first last tallies
+-- such keys were asked for, with these tallies and these steps before and after
+abbrev pub UsesKeys : Sizes → Grammar → (List Key → Type 0) → Tallies → (before after : ℕ) → (first last : List (List ℕ)) → Type 0
+UsesKeys z grammar Asks tallies before after first last = (asked : List Key) × Asks asked × UsesGraph z grammar asked first last tallies before after
+
+-- no row went, and only rows of keys of the grammar came
+pub record AddsRowsOf (grammar : Grammar) (first last : List (List ℕ)) : Type 0 where
+  pub kept : (row : List ℕ) → In row first → In row last
+  pub only : (row : List ℕ) → In row last → In row first ⊎ Fits grammar row

@@ -10,6 +10,8 @@ ghost use Rattle.version_store.specs.Means.{bench_of};
 ghost use Rattle.sections.specs.Replies.{IsReply, grammar_after};
 ghost use Rattle.sections.specs.Commands.{IsProperCommand, pins_for};
 ghost use Rattle.sections.specs.Alone.{ServesNext, IsSpent};
+ghost use Rattle.sections.specs.Held.{AddsRowsOf};
+ghost use Rattle.sections.specs.Laziness.{none_tallied, EditsRows, ParsesOver, ScansOver, SharesRows, DropsFor, ComesBack};
 
 use crate::crew::Crew;
 use crate::editing::edit_bench;
@@ -47,7 +49,9 @@ pub enum AloneError {
 }
 
 /// A command that asked for no expansion.
-fn none_asked() -> Tallies {
+fn none_asked() -> Tallies
+    ensures { result ≡ none_tallied }
+{
     let none = Tally {
         reached: 0,
         made: 0,
@@ -77,6 +81,9 @@ fn edit_alone(
     ensures serves { IfOk result (λ alone. ServesNext (bench_of bench) (bench_of alone.bench) crew.new) }
     ensures back { IfErr result (λ refused. ServesNext (bench_of bench) (bench_of refused.0) crew.new) }
     ensures pins { IfOk result (λ alone. (bench_of alone.bench).pins_left ≡ (bench_of bench).pins_left) }
+    ensures edits { IfOk result (λ alone. EditsRows crew.old edit.now alone.tallies (bench_of bench).graph (bench_of alone.bench).graph) }
+    ensures drops { IfOk result (λ alone. DropsFor alone.reply alone.dropped) }
+    ensures untouched { IfErr result (λ refused. refused.0 ≡ bench) }
     ensures not_spent { IfErr result (λ refused. refused.1 ≡ AloneError.NoMemory) }
 {
     let mut bench = bench;
@@ -106,6 +113,11 @@ fn parse_alone<L: Ledger>(
     ensures serves { IfOk result (λ alone. ServesNext (bench_of bench) (bench_of alone.bench) crew.new) }
     ensures back { IfErr result (λ refused. ServesNext (bench_of bench) (bench_of refused.0) crew.new) }
     ensures pins { IfOk result (λ alone. (bench_of alone.bench).pins_left + 1 ≡ (bench_of bench).pins_left) }
+    ensures parses { IfOk result (λ alone. ParsesOver (bench_of bench).sizes crew.old text.now alone.reply alone.tallies steps.old steps.new
+        (bench_of bench).graph (bench_of alone.bench).graph) }
+    ensures drops { IfOk result (λ alone. DropsFor alone.reply alone.dropped) }
+    ensures untouched { IfErr result (λ refused. refused.1 ≡ AloneError.Spent → refused.0 ≡ bench) }
+    ensures rows { IfErr result (λ refused. AddsRowsOf crew.old (bench_of bench).graph (bench_of refused.0).graph) }
     ensures spent { IsSpent result ↔ ((bench_of bench).pins_left ≡ 0) }
 {
     let page = match bench.pin() {
@@ -148,6 +160,11 @@ fn scan_alone<L: Ledger>(
     ensures serves { IfOk result (λ alone. ServesNext (bench_of bench) (bench_of alone.bench) crew.new) }
     ensures back { IfErr result (λ refused. ServesNext (bench_of bench) (bench_of refused.0) crew.new) }
     ensures pins { IfOk result (λ alone. (bench_of alone.bench).pins_left + 1 ≡ (bench_of bench).pins_left) }
+    ensures scans { IfOk result (λ alone. ScansOver (bench_of bench).sizes crew.old text.now alone.tallies steps.old steps.new
+        (bench_of bench).graph (bench_of alone.bench).graph) }
+    ensures drops { IfOk result (λ alone. DropsFor alone.reply alone.dropped) }
+    ensures untouched { IfErr result (λ refused. refused.1 ≡ AloneError.Spent → refused.0 ≡ bench) }
+    ensures rows { IfErr result (λ refused. AddsRowsOf crew.old (bench_of bench).graph (bench_of refused.0).graph) }
     ensures spent { IsSpent result ↔ ((bench_of bench).pins_left ≡ 0) }
 {
     let page = match bench.pin() {
@@ -187,8 +204,13 @@ pub fn run_alone<L: Ledger>(
     ensures stays { OnErr result (crew.new ≡ crew.old) }
     ensures serves { IfOk result (λ alone. ServesNext (bench_of bench) (bench_of alone.bench) crew.new) }
     ensures back { IfErr result (λ refused. ServesNext (bench_of bench) (bench_of refused.0) crew.new) }
-    ensures pins { IfOk result (λ alone. (bench_of alone.bench).pins_left + pins_for command.now ≡ (bench_of bench).pins_left) }
-    ensures spent { IsSpent result ↔ ((bench_of bench).pins_left < pins_for command.now) }
+    ensures pins { IfOk result (λ alone. (bench_of alone.bench).pins_left + pins_of command.now ≡ (bench_of bench).pins_left) }
+    ensures shares { IfOk result (λ alone. SharesRows (bench_of bench).sizes crew.old command.now alone.reply alone.tallies steps.old steps.new
+        (bench_of bench).graph (bench_of alone.bench).graph) }
+    ensures drops { IfOk result (λ alone. DropsFor alone.reply alone.dropped) }
+    ensures untouched { IfErr result (λ refused. ComesBack command.now refused.1 bench refused.0) }
+    ensures rows { IfErr result (λ refused. AddsRowsOf crew.old (bench_of bench).graph (bench_of refused.0).graph) }
+    ensures spent { IsSpent result ↔ ((bench_of bench).pins_left < pins_of command.now) }
 {
     match command {
         Command::Edit(edit) => edit_alone(alloc, bench, crew, edit),

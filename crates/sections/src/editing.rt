@@ -9,6 +9,7 @@ ghost use Rattle.version_store.specs.Means.{bench_of};
 ghost use Rattle.sections.specs.Replies.{IsReply, grammar_after};
 ghost use Rattle.sections.specs.Editing.{LeavesRows};
 ghost use Rattle.sections.specs.Alone.{ServesNext};
+ghost use Rattle.sections.specs.Laziness.{DropsFor};
 
 use crate::reply::Reply;
 use edit_log::{Grammar, Refusal, may};
@@ -34,6 +35,7 @@ pub(crate) fn edit_bench(
     ensures serves { ServesNext (bench_of bench.old) (bench_of bench.new) grammar.new.grammar }
     ensures pins { (bench_of bench.new).pins_left ≡ (bench_of bench.old).pins_left }
     ensures kept { OnOk result (LeavesRows grammar.old.grammar edit.now (bench_of bench.old).graph (bench_of bench.new).graph) }
+    ensures drops { IfOk result (λ done. DropsFor done.0 done.1) }
     ensures bench_stays { OnErr result (bench.new ≡ bench.old) }
     ensures grammar_stays { OnErr result (grammar.new.grammar ≡ grammar.old.grammar) }
 {

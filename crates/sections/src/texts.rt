@@ -9,9 +9,10 @@ ghost use Rattle.isg_scan.specs.declared.scanning.TheConstants.{SCAN_LIMIT};
 ghost use Rattle.forest.specs.Distinct.{AreAll};
 ghost use Rattle.live_graph.specs.Showing.{HasStepped};
 ghost use Rattle.live_graph.specs.Growing.{WhereBothTold};
+ghost use Rattle.live_graph.specs.Cost.{RisesAsCost};
 ghost use Rattle.rekers.specs.Answers.{kinds_of};
 ghost use Rattle.sections.specs.Asked.{AsksAll, AsksText, AsksTokens};
-ghost use Rattle.sections.specs.Held.{ScansKey, AsksFor, UsesKeys};
+ghost use Rattle.sections.specs.Held.{ScansKey, AsksFor, UsesKeys, AddsRowsOf};
 ghost use Rattle.sections.specs.Replies.{IsParse, IsOutcome, IsResult};
 
 use crate::reply::{Outcome, TokenList};
@@ -36,6 +37,7 @@ fn scan_over<G: Graph, L: Ledger>(
     requires short { length text.now ≤ SCAN_LIMIT }
     ensures scanned { IfOk result (IsResult (G.means graph.old).grammar text.now) }
     ensures asks { OnOk result (AsksAll (ScansKey (G.means graph.old).grammar text.now) (G.means graph.old) (G.means graph.new)) }
+    ensures steps { OnOk result (RisesAsCost (G.means graph.old) (G.means graph.new) steps.old steps.new) }
     ensures grammar { (G.means graph.new).grammar ≡ (G.means graph.old).grammar }
     ensures base { (G.means graph.new).base ≡ (G.means graph.old).base }
 {
@@ -59,6 +61,7 @@ fn parse_tokens<G: Graph, L: Ledger>(
     ensures parsed { IfOk result (IsParse (G.means graph.old).grammar.rules (kinds_of tokens.now)) }
     ensures asks { IfOk result (λ outcome. AsksTokens (kinds_of tokens.now) outcome (G.means graph.old) (G.means graph.new)) }
     ensures scans { (G.means graph.new).scans ≡ (G.means graph.old).scans }
+    ensures steps { OnOk result (RisesAsCost (G.means graph.old) (G.means graph.new) steps.old steps.new) }
     ensures grammar { (G.means graph.new).grammar ≡ (G.means graph.old).grammar }
     ensures base { (G.means graph.new).base ≡ (G.means graph.old).base }
 {
@@ -81,6 +84,7 @@ fn parse_over<G: Graph, L: Ledger>(
     requires well_formed { IsWellFormed (G.means graph.old).grammar }
     ensures parsed { IfOk result (IsOutcome (G.means graph.old).grammar text.now) }
     ensures asks { IfOk result (λ outcome. AsksText (G.means graph.old).grammar text.now outcome (G.means graph.old) (G.means graph.new)) }
+    ensures steps { OnOk result (RisesAsCost (G.means graph.old) (G.means graph.new) steps.old steps.new) }
     ensures grammar { (G.means graph.new).grammar ≡ (G.means graph.old).grammar }
     ensures base { (G.means graph.new).base ≡ (G.means graph.old).base }
 {
@@ -107,9 +111,10 @@ pub(crate) fn parse_text<P: Page<GraphRows>, L: Ledger>(
     requires log { IsLogOfGrammar (P.means page).log grammar.now.grammar }
     ensures outcome { IfOk result (λ done. IsOutcome grammar.now.grammar text.now done.1) }
     ensures uses { IfOk result (λ done. WhereBothTold (P.means page).graph (P.means done.0).graph
-        (UsesKeys (P.means page).sizes grammar.now.grammar (AsksFor grammar.now.grammar text.now done.1) done.2)) }
+        (UsesKeys (P.means page).sizes grammar.now.grammar (AsksFor grammar.now.grammar text.now done.1) done.2 steps.old steps.new)) }
     ensures page { IfOk result (λ done. HasStepped (P.means page) (P.means done.0)) }
     ensures refused { IfErr result (λ refused. HasStepped (P.means page) (P.means refused.0)) }
+    ensures rows { IfErr result (λ refused. WhereBothTold (P.means page).graph (P.means refused.0).graph (AddsRowsOf grammar.now.grammar)) }
 {
     let mut graph = match SharedGraph::new(alloc, page, grammar) {
         Ok(graph) => graph,
@@ -136,9 +141,10 @@ pub(crate) fn scan_text<P: Page<GraphRows>, L: Ledger>(
     requires log { IsLogOfGrammar (P.means page).log grammar.now.grammar }
     ensures scanned { IfOk result (λ done. IsResult grammar.now.grammar text.now done.1) }
     ensures uses { IfOk result (λ done. WhereBothTold (P.means page).graph (P.means done.0).graph
-        (UsesKeys (P.means page).sizes grammar.now.grammar (AreAll (ScansKey grammar.now.grammar text.now)) done.2)) }
+        (UsesKeys (P.means page).sizes grammar.now.grammar (AreAll (ScansKey grammar.now.grammar text.now)) done.2 steps.old steps.new)) }
     ensures page { IfOk result (λ done. HasStepped (P.means page) (P.means done.0)) }
     ensures refused { IfErr result (λ refused. HasStepped (P.means page) (P.means refused.0)) }
+    ensures rows { IfErr result (λ refused. WhereBothTold (P.means page).graph (P.means refused.0).graph (AddsRowsOf grammar.now.grammar)) }
 {
     let mut graph = match SharedGraph::new(alloc, page, grammar) {
         Ok(graph) => graph,

@@ -3,6 +3,7 @@ use Rattle.forest.specs.Derivation.{AreTerminals}
 use Rattle.edit_log.specs.declared.limits.TheConstants.{TOKEN_LIMIT}
 use Rattle.edit_log.specs.History.{Grammar}
 use Rattle.isg_scan.specs.declared.scan_error.ScanError.TheVariants.{NoMemory}
+use Rattle.live_graph.proofs.Rises.{rise_join}
 use Rattle.rekers.specs.Answers.{kinds_of}
 use Rattle.sections.specs.Replies.{IsParse, scan, parse}
 use Rattle.sections.proofs.ReplySteps.{refused_for}
@@ -52,3 +53,8 @@ returns-clause-asks g c =
     text_asks graph.grammar c.args.text.now graph scanned c.in-Ok.ensures.kernels c.in-Ok.ensures.asked parsed c.in-Ok.tokens.items
     c.in-Ok.ensures.tokens c.in-Ok.ensures.grammar c.in_ok-outcome.ensures.scans c.in_ok-outcome.outcome
     (subst (λ found. AsksTokens (kinds_of found) c.in_ok-outcome.outcome scanned parsed) c.deref.ensures.value c.in_ok-outcome.ensures.asks)
+
+pub returns-clause-steps : goal.returns-clause-steps
+returns-clause-steps g c =
+    rise_join (g.G.Graph.means c.args.graph.now) (g.G.Graph.means c.scan.new.graph) (g.G.Graph.means c.parse_tokens.new.graph) c.args.steps.now
+    c.scan.new.steps c.parse_tokens.new.steps c.in-Ok.ensures.steps c.in_ok-outcome.ensures.steps

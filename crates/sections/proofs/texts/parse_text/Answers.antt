@@ -21,6 +21,7 @@ returns-in-Ok-parsed-clause-uses g c =
     let same : first.grammar ≡ c.args.grammar.now.grammar = ap (λ (shared : Shared). shared.grammar) c.in-Ok.ensures.graph in
     text_uses c.args.grammar.now.grammar page next first graph c.end-page.result.1 c.requires.log c.in-Ok.ensures.graph c.parse_over-parsed.ensures.base
     c.parse_over-parsed.ensures.grammar c.end-page.ensures.page c.end-page.ensures.tallies c.end-page.ensures.ends c.end-page.ensures.graph
+    c.args.steps.now c.parse_over-parsed.new.steps c.in-Ok-parsed.ensures.steps
     c.args.text.now c.in-Ok-parsed.outcome
     (subst (λ (rules : Grammar). AsksText rules c.args.text.now c.in-Ok-parsed.outcome (means_shared first) (means_shared graph)) same
     c.in-Ok-parsed.ensures.asks)

@@ -15,5 +15,6 @@ returns-in-Ok-scanned-clause-uses g c =
     let same : first.grammar ≡ c.args.grammar.now.grammar = ap (λ (shared : Shared). shared.grammar) c.in-Ok.ensures.graph in
     scan_uses c.args.grammar.now.grammar page next first graph c.end-page.result.1 c.requires.log c.in-Ok.ensures.graph c.scan_over-scanned.ensures.base
     c.scan_over-scanned.ensures.grammar c.end-page.ensures.page c.end-page.ensures.tallies c.end-page.ensures.ends c.end-page.ensures.graph
+    c.args.steps.now c.scan_over-scanned.new.steps c.in-Ok-scanned.ensures.steps
     (ScansKey c.args.grammar.now.grammar c.args.text.now)
     (subst (λ (rules : Grammar). AsksAll (ScansKey rules c.args.text.now) (means_shared first) (means_shared graph)) same c.in-Ok-scanned.ensures.asks)

@@ -1,0 +1,60 @@
+-- What a command asks of the graph of the bench that serves it alone, and which rows it leaves there.
+use Rattle.std.specs.Prelude.{◌≡◌, ℕ, List}
+use Rattle.grammar_text.specs.declared.edit.Edit.{Edit as AnEdit}
+use Rattle.forest.specs.Distinct.{AreAll}
+use Rattle.edit_log.specs.History.{Grammar}
+use Rattle.script_text.specs.declared.command.Command.{Command}
+use Rattle.script_text.specs.declared.command.Command.TheVariants.{Edit, Parse, Tokens, Stats}
+use Rattle.pin_rule.specs.declared.sizes.Sizes.{Sizes}
+use Rattle.live_graph.specs.declared.tally.Tallies.{Tallies}
+use Rattle.live_graph.specs.Tallying.{none_counted}
+use Rattle.sections.specs.declared.reply.Reply.{Reply}
+use Rattle.sections.specs.declared.reply.Reply.TheVariants.{Edited, Refused, Parse as Parsing, Tokens as Scanning}
+use Rattle.sections.specs.declared.alone.AloneError.{AloneError}
+use Rattle.sections.specs.declared.alone.AloneError.TheVariants.{Spent, NoMemory}
+use Rattle.sections.specs.Held.{ScansKey, AsksFor, UsesKeys}
+use Rattle.sections.specs.Editing.{LeavesRows}
+
+-- no key was asked for
+abbrev pub none_tallied : Tallies
+none_tallied = record { items = none_counted; scan = none_counted }
+
+-- an edit leaves exactly the rows that it does not touch, and asks for no key
+pub record EditsRows (grammar : Grammar) (edit : AnEdit) (tallies : Tallies) (first last : List (List ℕ)) : Type 0 where
+  pub leaves : LeavesRows grammar edit first last
+  pub asks_none : tallies ≡ none_tallied
+
+-- a text that is parsed asks for the keys that it reaches, by how the parse comes out; no other reply is told of a parse
+abbrev pub ParsesOver : Sizes → Grammar → List ℕ → Reply → Tallies → (before after : ℕ) → (first last : List (List ℕ)) → Type 0
+ParsesOver z grammar text (Parsing version outcome) tallies before after first last =
+    UsesKeys z grammar (AsksFor grammar text outcome) tallies before after first last
+ParsesOver z grammar text (Scanning version result) tallies before after first last = ⊥
+ParsesOver z grammar text (Edited version) tallies before after first last = ⊥
+ParsesOver z grammar text (Refused why) tallies before after first last = ⊥
+
+-- a text that is scanned asks for exactly the keys that its scan reaches
+abbrev pub ScansOver : Sizes → Grammar → List ℕ → Tallies → (before after : ℕ) → (first last : List (List ℕ)) → Type 0
+ScansOver z grammar text tallies before after first last = UsesKeys z grammar (AreAll (ScansKey grammar text)) tallies before after first last
+
+-- what a command that was answered so, with these tallies and these steps before and after, made of the graph; an edit takes no step
+abbrev pub SharesRows : Sizes → Grammar → Command → Reply → Tallies → (before after : ℕ) → (first last : List (List ℕ)) → Type 0
+SharesRows z grammar (Edit edit) reply tallies before after first last = EditsRows grammar edit tallies first last × (after ≡ before)
+SharesRows z grammar (Parse text) reply tallies before after first last = ParsesOver z grammar text reply tallies before after first last
+SharesRows z grammar (Tokens text) reply tallies before after first last = ScansOver z grammar text tallies before after first last
+SharesRows z grammar Stats reply tallies before after first last = ⊥
+
+-- but for an edit that was taken, no row was dropped
+abbrev pub DropsFor : Reply → ℕ × ℕ → Type 0
+DropsFor (Edited version) dropped = Unit {0}
+DropsFor (Refused why) dropped = dropped ≡ (0, 0)
+DropsFor (Parsing version outcome) dropped = dropped ≡ (0, 0)
+DropsFor (Scanning version result) dropped = dropped ≡ (0, 0)
+
+-- where a command is not answered, the bench comes back as it was, unless memory ran out over a text
+abbrev pub ComesBack : {Bench : Type 0} → Command → AloneError → (old new : Bench) → Type 0
+ComesBack (Edit edit) error old new = new ≡ old
+ComesBack (Parse text) Spent old new = new ≡ old
+ComesBack (Parse text) NoMemory old new = Unit {0}
+ComesBack (Tokens text) Spent old new = new ≡ old
+ComesBack (Tokens text) NoMemory old new = Unit {0}
+ComesBack Stats error old new = ⊥
