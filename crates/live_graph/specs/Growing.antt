@@ -57,7 +57,7 @@ IsAskedRow graph first row = In row first ⊎ ((key : Key) × IsAsked graph key 
 
 -- No row went, and only rows of keys that were made came, none of them too wide, as many as were made. Of the keys that were asked for, those were found of
 -- which there was a row at first, each came as the graphs say, and each has its row in the last graph, unless it is too wide or that graph is full.
-pub record Grows (graph : Shared) (first last : List (List ℕ)) : Type 0 where
+pub record GrowsByAsked (graph : Shared) (first last : List (List ℕ)) : Type 0 where
   pub kept : (row : List ℕ) → In row first → In row last
   pub only : (row : List ℕ) → In row last → IsAskedRow graph first row
   pub many : (count : ℕ) → HasRows first count → HasRows last (count + made_in graph)

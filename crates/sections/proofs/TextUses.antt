@@ -10,7 +10,7 @@ use Rattle.live_graph.specs.Cost.{IsCostOf, RisesAsCost}
 use Rattle.live_graph.specs.Sharing.{Shared, keys_in, means_shared}
 use Rattle.live_graph.specs.Tallying.{tallies_of}
 use Rattle.live_graph.specs.Ending.{EndsShown}
-use Rattle.live_graph.specs.Growing.{WhereBothTold, Grows, TellsGraph}
+use Rattle.live_graph.specs.Growing.{WhereBothTold, GrowsByAsked, TellsGraph}
 use Rattle.live_graph.proofs.ToldGraphs.{told_map, told_same}
 use Rattle.sections.specs.declared.reply.Outcome.{Outcome}
 use Rattle.sections.specs.Held.{AsksFor, UsesKeys, AddsRowsOf}
@@ -49,7 +49,7 @@ module _ (grammar : Grammar) (page next : PageMeaning) (first graph : Shared) (t
       (subst (λ (m : PageMeaning). WhereBothTold m.graph graph.page.graph (UsesKeys m.sizes grammar Asks tallies before after)) basis_is
       (subst (λ g. WhereBothTold graph.basis.graph graph.page.graph (UsesKeys graph.basis.sizes g Asks tallies before after)) grammar_is
       (subst (λ t. WhereBothTold graph.basis.graph graph.page.graph (UsesKeys graph.basis.sizes graph.grammar Asks t before after)) (sym counted)
-      (told_map (Grows graph) (UsesKeys graph.basis.sizes graph.grammar Asks (tallies_of graph) before after) graph.basis.graph graph.page.graph
+      (told_map (GrowsByAsked graph) (UsesKeys graph.basis.sizes graph.grammar Asks (tallies_of graph) before after) graph.basis.graph graph.page.graph
       (λ f l grown. (
         asked,
         are,
@@ -84,7 +84,7 @@ refused_adds grammar page next first graph starts basis rules page_is told =
     subst (λ (m : PageMeaning). WhereBothTold page.graph m.graph (AddsRowsOf grammar)) (sym page_is)
     (subst (λ (m : PageMeaning). WhereBothTold m.graph graph.page.graph (AddsRowsOf grammar)) basis_is
     (subst (λ g. WhereBothTold graph.basis.graph graph.page.graph (AddsRowsOf g)) grammar_is
-    (told_map (Grows graph) (AddsRowsOf graph.grammar) graph.basis.graph graph.page.graph (rows_added graph) told)))
+    (told_map (GrowsByAsked graph) (AddsRowsOf graph.grammar) graph.basis.graph graph.page.graph (rows_added graph) told)))
 
 -- no call was made
 pub nothing_added : (grammar : Grammar) (page next : PageMeaning) → next ≡ page → WhereBothTold page.graph next.graph (AddsRowsOf grammar)
