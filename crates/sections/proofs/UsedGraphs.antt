@@ -233,7 +233,7 @@ module _ (log : List Entry) (graph : Shared) (first last : List (List ℕ)) (is_
 
 -- ---- a graph, whatever it was asked for
 
-pub rows_added : (graph : Shared) (first last : List (List ℕ)) → Grows graph first last → AddsRowsOf graph.grammar first last
+pub rows_added : (graph : Shared) (first last : List (List ℕ)) → GrowsByAsked graph first last → AddsRowsOf graph.grammar first last
 rows_added graph first last grown = record {
   kept = grown.kept;
   only = λ row there. elim (grown.only row there) [ inl old ↦ inl old | inr (key, asked, is, room) ↦ inr (key, is) ];

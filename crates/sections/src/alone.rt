@@ -204,13 +204,13 @@ pub fn run_alone<L: Ledger>(
     ensures stays { OnErr result (crew.new ≡ crew.old) }
     ensures serves { IfOk result (λ alone. ServesNext (bench_of bench) (bench_of alone.bench) crew.new) }
     ensures back { IfErr result (λ refused. ServesNext (bench_of bench) (bench_of refused.0) crew.new) }
-    ensures pins { IfOk result (λ alone. (bench_of alone.bench).pins_left + pins_of command.now ≡ (bench_of bench).pins_left) }
+    ensures pins { IfOk result (λ alone. (bench_of alone.bench).pins_left + pins_for command.now ≡ (bench_of bench).pins_left) }
     ensures shares { IfOk result (λ alone. SharesRows (bench_of bench).sizes crew.old command.now alone.reply alone.tallies steps.old steps.new
         (bench_of bench).graph (bench_of alone.bench).graph) }
     ensures drops { IfOk result (λ alone. DropsFor alone.reply alone.dropped) }
     ensures untouched { IfErr result (λ refused. ComesBack command.now refused.1 bench refused.0) }
     ensures rows { IfErr result (λ refused. AddsRowsOf crew.old (bench_of bench).graph (bench_of refused.0).graph) }
-    ensures spent { IsSpent result ↔ ((bench_of bench).pins_left < pins_of command.now) }
+    ensures spent { IsSpent result ↔ ((bench_of bench).pins_left < pins_for command.now) }
 {
     match command {
         Command::Edit(edit) => edit_alone(alloc, bench, crew, edit),
