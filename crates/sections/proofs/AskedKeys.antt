@@ -1,6 +1,5 @@
 -- Which keys a text asks a graph for.
-use Rattle.std.proofs.Common.{◌≡◌, ◌⊎◌, ◌↔◌, inl, inr, ℕ, List, [], Contains, Result, Ok, Err, refl, sym, ap, ◌∙◌, subst, arith}
-use Rattle.forest.specs.declared.symbols.SymbolId.{SymbolId}
+use Rattle.std.proofs.Common.{◌≡◌, ◌⊎◌, ◌↔◌, inl, inr, ℕ, List, [], Contains, Result, Ok, Err, sym, subst, arith}
 use Rattle.forest.specs.declared.symbols.Token.{Token}
 use Rattle.forest.specs.Distinct.{IsDistinct, AreAll}
 use Rattle.edit_log.specs.History.{Grammar}
@@ -19,8 +18,8 @@ use Rattle.rekers.specs.Asked.{AsksStates, AsksSomeStates}
 use Rattle.sections.specs.declared.reply.Outcome.{Outcome}
 use Rattle.sections.specs.declared.reply.Outcome.TheVariants.{Parsed, Scan, TooLarge}
 use Rattle.sections.specs.Replies.{IsScanRefusedFor}
-use Rattle.sections.specs.Held.{ReachesKey, ScansKey, AreSome, AsksFor}
-use Rattle.sections.specs.Asked.{HasAsked, AsksAll, AsksMost, AsksText, AsksTokens}
+use Rattle.sections.specs.Held.{ReachesKey, ScansKey, AsksFor}
+use Rattle.sections.specs.Asked.{HasAsked, AsksAll, AsksText, AsksTokens}
 use Rattle.sections.proofs.OneReply.{one_list, not_refused}
 use Rattle.sections.proofs.UsedGraphs.{asked_keys, has_kernel, has_scan, asked_once}
 

@@ -1,26 +1,21 @@
 -- A graph that grew while keys were asked for was used by a text that asked for them.
-use Rattle.std.proofs.Common.{◌≡◌, ◌⊎◌, ◌↔◌, inl, inr, ℕ, ◌+◌, ◌≤◌, List, [], ◌∷◌, ◌++◌, length, map, Contains, refl, sym, ap, ◌∙◌, subst, arith}
+use Rattle.std.proofs.Common.{◌≡◌, ◌↔◌, inl, inr, ℕ, ◌+◌, List, [], ◌∷◌, ◌++◌, map, Contains, refl, sym, ap, ◌∙◌, subst}
 use Rattle.std.proofs.lemmas.List.Elements.{Contains-append_left, Contains-append_right, Contains-append_cases}
 use Rattle.forest.specs.Distinct.{IsDistinct, AreAll}
-use Rattle.edit_log.specs.History.{Grammar}
 use Rattle.edit_log.proofs.PlainLists.{contains_map, contains_map_from, distinct_map}
 use Rattle.item_sets.specs.declared.item.Item.{Item}
 use Rattle.item_sets.proofs.DistinctLists.{distinct_append}
 use Rattle.isg_states.specs.declared.scan_key.ScanKey.{ScanKey}
 use Rattle.pin_rule.specs.declared.content.Entry.{Entry}
-use Rattle.pin_rule.specs.Lists.{In}
-use Rattle.row_coding.specs.Rows.{Key, kernel, scan, key_words}
-use Rattle.slot_store.specs.GraphAnswers.{HasRowWith}
-use Rattle.graph_content.specs.Rows.{IsRowOf}
+use Rattle.row_coding.specs.Rows.{Key, kernel, scan}
 use Rattle.graph_content.specs.Contents.{IsLogOfGrammar}
 use Rattle.graph_content.proofs.RowKeys.{one_key_of}
 use Rattle.live_graph.specs.declared.origin.Origin.{Origin}
 use Rattle.live_graph.specs.declared.origin.Origin.TheVariants.{Found, Made, Raced, Alone}
 use Rattle.live_graph.specs.Sharing.{Shared, keys_in, own_keys, means_shared}
-use Rattle.live_graph.specs.Cost.{IsCostOf, RisesAsCost}
-use Rattle.live_graph.specs.Showing.{IsNarrow}
+use Rattle.live_graph.specs.Cost.{IsCostOf}
 use Rattle.live_graph.specs.Tallying.{tally_of, tallies_of}
-use Rattle.live_graph.specs.Growing.{IsAsked, HasRowOf, IsFull, Accords, IsAskedRow, Grows}
+use Rattle.live_graph.specs.Growing.{IsAsked, HasRowOf, Grows}
 use Rattle.live_graph.proofs.RowsOfKeys.{key_fits}
 use Rattle.sections.specs.Held.{IsTallyOf, IsCostOfOthers, UsesGraph, AddsRowsOf}
 use Rattle.sections.proofs.OriginCounts.{own_all, reached_count, found_count, made_count, none_raced, adds_up}

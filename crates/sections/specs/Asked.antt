@@ -1,9 +1,7 @@
 -- What a text asks a graph for: what the parts of the work on a text say to each other.
-use Rattle.std.specs.Prelude.{◌≡◌, ◌⊎◌, ◌↔◌, ℕ, List, Contains}
+use Rattle.std.specs.Prelude.{◌⊎◌, ◌↔◌, ℕ, List, Contains}
 use Rattle.forest.specs.declared.symbols.SymbolId.{SymbolId}
 use Rattle.edit_log.specs.History.{Grammar}
-use Rattle.isg_states.specs.declared.scan_key.ScanKey.{ScanKey}
-use Rattle.isg_scan.specs.Reach.{ReachesScan}
 use Rattle.row_coding.specs.Rows.{Key, kernel, scan}
 use Rattle.live_graph.specs.Meaning.{GraphMeaning}
 use Rattle.rekers.specs.Asked.{AsksStates, AsksSomeStates}

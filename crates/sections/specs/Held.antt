@@ -5,7 +5,6 @@ use Rattle.forest.specs.Distinct.{IsDistinct, AreAll}
 use Rattle.edit_log.specs.History.{Grammar}
 use Rattle.edit_log.specs.Tokens.{tokens, Tokenizes}
 use Rattle.item_sets.specs.Expansions.{IsCost}
-use Rattle.isg_states.specs.declared.scan_key.ScanKey.{ScanKey}
 use Rattle.isg_states.specs.Expansion.{IsScanCost}
 use Rattle.isg_scan.specs.Reach.{ReachesScan}
 use Rattle.pin_rule.specs.declared.sizes.Sizes.{Sizes}
