@@ -35,7 +35,8 @@ pub struct Alone {
     pub reply: Reply,
     /// How the expansions came that the command asked for.
     pub tallies: Tallies,
-    /// How many rows of item sets and of scanner states the command dropped.
+    /// How many rows of item sets and of scanner states the command dropped. An edit's counts are those of its chooser, and
+    /// no clause ties them to the rows that went.
     pub dropped: (u32, u32),
 }
 
@@ -186,6 +187,8 @@ fn scan_alone<L: Ledger>(
 }
 
 /// Answers a command. The bench comes back in any case, for the next command, and so does the crew.
+///
+/// A text finds the rows that the bench has, and leaves there what it makes. The steps count that and nothing else.
 ///
 /// A text takes a pin of the table, which lasts as long as its parse. Where memory runs out, the pin is dropped too, and
 /// counts as taken.
