@@ -15,7 +15,7 @@ use Rattle.live_graph.specs.declared.origin.Origin.TheVariants.{Found, Made, Rac
 use Rattle.live_graph.specs.Sharing.{Shared, keys_in, own_keys, means_shared}
 use Rattle.live_graph.specs.Cost.{IsCostOf}
 use Rattle.live_graph.specs.Tallying.{tally_of, tallies_of}
-use Rattle.live_graph.specs.Growing.{IsAsked, HasRowOf, Grows}
+use Rattle.live_graph.specs.Growing.{IsAsked, HasRowOf, GrowsByAsked}
 use Rattle.live_graph.proofs.RowsOfKeys.{key_fits}
 use Rattle.sections.specs.Held.{IsTallyOf, IsCostOfOthers, UsesGraph, AddsRowsOf}
 use Rattle.sections.proofs.OriginCounts.{own_all, reached_count, found_count, made_count, none_raced, adds_up}
