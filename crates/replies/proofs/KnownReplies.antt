@@ -10,14 +10,14 @@ use Rattle.edit_log.specs.Facts.{IsNamed, IsWellFormed}
 use Rattle.edit_log.specs.History.{Grammar}
 use Rattle.isg_scan.specs.declared.scan_error.ScanError.{ScanError}
 use Rattle.script_text.specs.declared.command.Command.{Command}
-use Rattle.sections.specs.declared.reply.Outcome.{Outcome}
-use Rattle.sections.specs.declared.reply.Reply.{Reply}
+use Rattle.replies.specs.declared.reply.Outcome.{Outcome}
+use Rattle.replies.specs.declared.reply.Reply.{Reply}
 use Rattle.replies.specs.Lines.{reply_text}
 use Rattle.rekers.specs.Answers.{kinds_of}
-use Rattle.sections.specs.Replies.{grammar_after, IsResult, IsParse, too_large, forest, no_sentence, IsOutcome, scan, parse, IsReply, taken, refused}
-use Rattle.sections.specs.Replies.{parsed, scanned}
+use Rattle.replies.specs.Replies.{grammar_after, IsResult, IsParse, too_large, forest, no_sentence, IsOutcome, scan, parse, IsReply, taken, refused}
+use Rattle.replies.specs.Replies.{parsed, scanned}
 use Rattle.replies.specs.Known.{AreKnownNodes, IsKnownOutcome, IsKnownResult, IsKnownReply}
-use Rattle.sections.proofs.TokenKinds.{known_tokens}
+use Rattle.replies.proofs.TokenKinds.{known_tokens}
 
 -- ---- nodes
 

@@ -1,1 +1,4 @@
+pub mod OneReply
+pub mod TokenKinds
 pub mod KnownReplies
+pub mod ReplySteps

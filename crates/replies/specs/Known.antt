@@ -5,11 +5,11 @@ use Rattle.forest.specs.declared.symbols.Token.{Token}
 use Rattle.forest.specs.declared.nodes.Node.{Node}
 use Rattle.edit_log.specs.Facts.{IsNamed}
 use Rattle.isg_scan.specs.declared.scan_error.ScanError.{ScanError}
-use Rattle.sections.specs.declared.reply.Outcome.{Outcome}
-use Rattle.sections.specs.declared.reply.Outcome.TheVariants.{Parsed, Scan, TooLarge}
+use Rattle.replies.specs.declared.reply.Outcome.{Outcome}
+use Rattle.replies.specs.declared.reply.Outcome.TheVariants.{Parsed, Scan, TooLarge}
 use Rattle.rekers.specs.declared.parsed.Parsed.TheVariants.{Forest as ForestOf, NoSentence}
-use Rattle.sections.specs.declared.reply.Reply.{Reply}
-use Rattle.sections.specs.declared.reply.Reply.TheVariants.{Edited, Refused, Parse, Tokens}
+use Rattle.replies.specs.declared.reply.Reply.{Reply}
+use Rattle.replies.specs.declared.reply.Reply.TheVariants.{Edited, Refused, Parse, Tokens}
 
 -- each node's symbol is a name
 abbrev pub AreKnownNodes : List Symbol → List Node → Type 0

@@ -13,11 +13,11 @@ use Rattle.script_text.specs.declared.bad_script.BadScript.{BadScript}
 use Rattle.script_text.specs.declared.bad_script.BadKind.{BadKind}
 use Rattle.script_text.specs.declared.bad_script.BadKind.TheVariants.{UnknownCommand, BadEdit, BadRegex, BadText, TextTooLong, UnclosedPar, StrayEnd, ParInPar}
 use Rattle.script_text.specs.declared.bad_script.BadKind.TheVariants.{TooManyCommands, SectionTooLong, StatsAfterPar}
-use Rattle.sections.specs.declared.reply.Outcome.{Outcome}
-use Rattle.sections.specs.declared.reply.Outcome.TheVariants.{Parsed, Scan, TooLarge}
+use Rattle.replies.specs.declared.reply.Outcome.{Outcome}
+use Rattle.replies.specs.declared.reply.Outcome.TheVariants.{Parsed, Scan, TooLarge}
 use Rattle.rekers.specs.declared.parsed.Parsed.TheVariants.{Forest as ForestOf, NoSentence}
-use Rattle.sections.specs.declared.reply.Reply.{Reply}
-use Rattle.sections.specs.declared.reply.Reply.TheVariants.{Edited, Refused, Parse, Tokens}
+use Rattle.replies.specs.declared.reply.Reply.{Reply}
+use Rattle.replies.specs.declared.reply.Reply.TheVariants.{Edited, Refused, Parse, Tokens}
 
 -- ---- edits
 

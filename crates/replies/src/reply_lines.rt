@@ -5,9 +5,9 @@ ghost use Rattle.replies.specs.Lines.{reply_text};
 ghost use Rattle.replies.specs.Known.{IsKnownReply};
 
 use crate::edit_lines::{put_refusal, put_version};
+use crate::reply::Reply;
 use crate::text_lines::{put_outcome, put_result};
 use edit_log::Grammar;
-use sections::Reply;
 use std::alloc::AllocError;
 
 /// Appends the lines of a reply. Its symbols are those of the grammar.

@@ -7,12 +7,12 @@ ghost use Rattle.replies.specs.Lines.{forest_text, outcome_text, token_lines, re
 ghost use Rattle.replies.specs.Known.{AreKnownNodes, AreKnownTokens, IsKnownOutcome, IsKnownResult};
 
 use crate::edit_lines::put_number;
+use crate::reply::{Outcome, TokenList};
 use edit_log::Grammar;
 use forest::{Forest, Token};
 use forest_print::{print, print_tokens};
 use isg_scan::ScanError;
 use rekers::Parsed;
-use sections::{Outcome, TokenList};
 use std::alloc::AllocError;
 
 /// Appends how each line begins that answers a text: the command's word and the version.

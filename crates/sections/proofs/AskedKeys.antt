@@ -15,12 +15,12 @@ use Rattle.live_graph.specs.Meaning.{Asked, GraphMeaning}
 use Rattle.rekers.specs.States.{IsStateReached}
 use Rattle.rekers.specs.Answers.{kinds_of}
 use Rattle.rekers.specs.Asked.{AsksStates, AsksSomeStates}
-use Rattle.sections.specs.declared.reply.Outcome.{Outcome}
-use Rattle.sections.specs.declared.reply.Outcome.TheVariants.{Parsed, Scan, TooLarge}
-use Rattle.sections.specs.Replies.{IsScanRefusedFor}
+use Rattle.replies.specs.declared.reply.Outcome.{Outcome}
+use Rattle.replies.specs.declared.reply.Outcome.TheVariants.{Parsed, Scan, TooLarge}
+use Rattle.replies.specs.Replies.{IsScanRefusedFor}
 use Rattle.sections.specs.Held.{ReachesKey, ScansKey, AsksFor}
 use Rattle.sections.specs.Asked.{HasAsked, AsksAll, AsksText, AsksTokens}
-use Rattle.sections.proofs.OneReply.{one_list, not_refused}
+use Rattle.replies.proofs.OneReply.{one_list, not_refused}
 use Rattle.sections.proofs.UsedGraphs.{asked_keys, has_kernel, has_scan, asked_once}
 
 pub unless_memory : {X : Type 0} (result : Result X ScanError) (error : ScanError) (P : Type 0) → result ≡ Err error → (error ≡ NoMemory → ⊥)

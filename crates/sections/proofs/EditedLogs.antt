@@ -18,7 +18,7 @@ use Rattle.graph_content.proofs.LogLaws.{log_push, grammar_push}
 use Rattle.version_store.specs.Meaning.{BenchMeaning}
 use Rattle.version_store.specs.Alone.{EditsAlone}
 use Rattle.version_store.proofs.GivenUp.{alike_all}
-use Rattle.sections.proofs.ReplySteps.{version_after}
+use Rattle.replies.proofs.ReplySteps.{version_after}
 
 -- ---- the grammar of a log
 

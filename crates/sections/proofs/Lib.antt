@@ -1,6 +1,3 @@
-pub mod OneReply
-pub mod ReplySteps
-pub mod TokenKinds
 pub mod EditedLogs
 pub mod EditedRows
 pub mod OriginCounts

@@ -12,7 +12,7 @@ use Rattle.live_graph.specs.Tallying.{tallies_of}
 use Rattle.live_graph.specs.Ending.{EndsShown}
 use Rattle.live_graph.specs.Growing.{WhereBothTold, GrowsByAsked, TellsGraph}
 use Rattle.live_graph.proofs.ToldGraphs.{told_map, told_same}
-use Rattle.sections.specs.declared.reply.Outcome.{Outcome}
+use Rattle.replies.specs.declared.reply.Outcome.{Outcome}
 use Rattle.sections.specs.Held.{AsksFor, UsesKeys, AddsRowsOf}
 use Rattle.sections.specs.Asked.{AsksAll, AsksText}
 use Rattle.sections.proofs.UsedGraphs.{asked_keys, used, rows_added}

@@ -5,8 +5,8 @@ use Rattle.edit_log.specs.History.{Grammar}
 use Rattle.row_coding.specs.Rows.{Key, kernel, scan}
 use Rattle.live_graph.specs.Meaning.{GraphMeaning}
 use Rattle.rekers.specs.Asked.{AsksStates, AsksSomeStates}
-use Rattle.sections.specs.declared.reply.Outcome.{Outcome}
-use Rattle.sections.specs.declared.reply.Outcome.TheVariants.{Parsed, Scan, TooLarge}
+use Rattle.replies.specs.declared.reply.Outcome.{Outcome}
+use Rattle.replies.specs.declared.reply.Outcome.TheVariants.{Parsed, Scan, TooLarge}
 use Rattle.sections.specs.Held.{ReachesKey, ScansKey}
 
 -- the graph was asked for the key

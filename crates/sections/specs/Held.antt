@@ -20,8 +20,8 @@ use Rattle.live_graph.specs.Tallying.{AddsUp}
 use Rattle.live_graph.specs.Growing.{HasRowOf, IsFull}
 use Rattle.rekers.specs.States.{IsStateReached}
 use Rattle.rekers.specs.Answers.{kinds_of}
-use Rattle.sections.specs.declared.reply.Outcome.{Outcome}
-use Rattle.sections.specs.declared.reply.Outcome.TheVariants.{Parsed, Scan, TooLarge}
+use Rattle.replies.specs.declared.reply.Outcome.{Outcome}
+use Rattle.replies.specs.declared.reply.Outcome.TheVariants.{Parsed, Scan, TooLarge}
 
 -- ---- which keys
 

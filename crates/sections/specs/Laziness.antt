@@ -8,8 +8,8 @@ use Rattle.script_text.specs.declared.command.Command.TheVariants.{Edit, Parse, 
 use Rattle.pin_rule.specs.declared.sizes.Sizes.{Sizes}
 use Rattle.live_graph.specs.declared.tally.Tallies.{Tallies}
 use Rattle.live_graph.specs.Tallying.{none_counted}
-use Rattle.sections.specs.declared.reply.Reply.{Reply}
-use Rattle.sections.specs.declared.reply.Reply.TheVariants.{Edited, Refused, Parse as Parsing, Tokens as Scanning}
+use Rattle.replies.specs.declared.reply.Reply.{Reply}
+use Rattle.replies.specs.declared.reply.Reply.TheVariants.{Edited, Refused, Parse as Parsing, Tokens as Scanning}
 use Rattle.sections.specs.declared.alone.AloneError.{AloneError}
 use Rattle.sections.specs.declared.alone.AloneError.TheVariants.{Spent, NoMemory}
 use Rattle.sections.specs.Held.{ScansKey, AsksFor, UsesKeys}

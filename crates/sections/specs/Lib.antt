@@ -1,5 +1,4 @@
 pub mod Commands
-pub mod Replies
 pub mod Held
 pub mod Asked
 pub mod Editing

@@ -6,16 +6,16 @@ ghost use Rattle.edit_log.specs.declared.limits.TheConstants.{LOG_LIMIT};
 ghost use Rattle.edit_log.specs.Verdict.{IsProper};
 ghost use Rattle.graph_content.specs.Contents.{IsLogOfGrammar};
 ghost use Rattle.version_store.specs.Means.{bench_of};
-ghost use Rattle.sections.specs.Replies.{IsReply, grammar_after};
+ghost use Rattle.replies.specs.Replies.{IsReply, grammar_after};
 ghost use Rattle.sections.specs.Editing.{LeavesRows};
 ghost use Rattle.sections.specs.Alone.{ServesNext};
 ghost use Rattle.sections.specs.Laziness.{DropsFor};
 
-use crate::reply::Reply;
 use edit_log::{Grammar, Refusal, may};
 use grammar_text::Edit;
 use graph_content::{GraphRows, Modify};
 use live_graph::NoMemory;
+use replies::Reply;
 use std::alloc::{AllocError, Global};
 use version_store::bench::Bench;
 

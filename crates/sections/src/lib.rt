@@ -2,17 +2,13 @@
 //!
 //! A [`Crew`] keeps what serves command after command: the editor's grammar and the parser's memory. [`run_alone`]
 //! answers one command while nobody else uses the table, and hands the table back, so that what one parse made, the
-//! next one finds. A [`Reply`] is data; its lines are told above.
+//! next one finds. Replies are those of the crate `replies`.
 #![tactic(auto)]
 
 mod alone;
 mod crew;
 mod editing;
-mod laws;
-mod reply;
 mod texts;
 
 pub use alone::{Alone, AloneError, run_alone};
 pub use crew::Crew;
-pub use laws::one_reply;
-pub use reply::{Outcome, Reply, TokenList};

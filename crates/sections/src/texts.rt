@@ -13,15 +13,15 @@ ghost use Rattle.live_graph.specs.Cost.{RisesAsCost};
 ghost use Rattle.rekers.specs.Answers.{kinds_of};
 ghost use Rattle.sections.specs.Asked.{AsksAll, AsksText, AsksTokens};
 ghost use Rattle.sections.specs.Held.{ScansKey, AsksFor, UsesKeys, AddsRowsOf};
-ghost use Rattle.sections.specs.Replies.{IsParse, IsOutcome, IsResult};
+ghost use Rattle.replies.specs.Replies.{IsParse, IsOutcome, IsResult};
 
-use crate::reply::{Outcome, TokenList};
 use edit_log::Grammar;
 use forest::Token;
 use graph_content::GraphRows;
 use isg_scan::{ScanError, scan};
 use live_graph::{Graph, NoMemory, SharedGraph, Tallies};
 use rekers::{ParseError, Parser};
+use replies::{Outcome, TokenList};
 use slot_store::page::Page;
 use std::alloc::{AllocError, Global};
 use std::sync::ledger::Ledger;

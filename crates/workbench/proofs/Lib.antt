@@ -1,6 +1,5 @@
 pub mod ScriptFacts
 pub mod RunSteps
-pub mod BenchSteps
 pub mod OneOutput
 pub mod RunEnds
 pub mod RunCauses

@@ -12,11 +12,10 @@ use Rattle.script_text.specs.declared.command.Script.{Script}
 use Rattle.script_text.proofs.ScriptLaws.{one_script, not_both, one_bad}
 use Rattle.workbench.specs.Pieces.{TakesPrefix, TakesProperPrefix}
 use Rattle.replies.specs.Lines.{bad_line, reply_text}
-use Rattle.sections.specs.Replies.{grammar_after}
-use Rattle.replies.specs.Replies.{AreReplies, none, more}
+use Rattle.replies.specs.Replies.{grammar_after, AreReplies, none, more}
 use Rattle.workbench.specs.Output.{IsOutput, replies, refusal}
 use Rattle.workbench.specs.Runs.{StopsInOutput, of_replies, of_refusal}
-use Rattle.sections.proofs.OneReply.{one_reply}
+use Rattle.replies.proofs.OneReply.{one_reply}
 
 -- ---- blocks have one list of replies
 

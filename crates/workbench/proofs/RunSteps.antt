@@ -12,11 +12,10 @@ use Rattle.script_text.specs.declared.command.Command.{Command}
 use Rattle.script_text.specs.declared.command.Block.{Block}
 use Rattle.script_text.specs.declared.command.Block.TheVariants.{Alone, Par}
 use Rattle.workbench.specs.Pieces.{TakesPrefix}
-use Rattle.sections.specs.declared.reply.Reply.{Reply}
+use Rattle.replies.specs.declared.reply.Reply.{Reply}
 use Rattle.replies.specs.Lines.{reply_text}
-use Rattle.sections.specs.Replies.{IsReply, grammar_after}
-use Rattle.replies.specs.Replies.{AreReplies, none, more}
-use Rattle.workbench.specs.Blocks.{grammar_behind, grammar_after_all, IsProperBlock, AnswersBlock}
+use Rattle.replies.specs.Replies.{IsReply, grammar_after, AreReplies, none, more}
+use Rattle.replies.specs.Blocks.{grammar_behind, grammar_after_all, IsProperBlock, AnswersBlock}
 use Rattle.workbench.specs.Runs.{AnswersAll, StopsInReplies}
 
 -- ---- replies one after the other

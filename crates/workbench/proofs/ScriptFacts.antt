@@ -1,8 +1,7 @@
 -- What a script asks for may be asked.
-use Rattle.std.proofs.Common.{◌≡◌, ℕ, ◌<◌, ◌≤◌, Bool, true, false, not, List, [], ◌∷◌, ◌++◌, length, length-append, cond, ◌==◌, refl, ap, arith}
+use Rattle.std.proofs.Common.{◌≡◌, ℕ, ◌<◌, Bool, true, false, not, List, [], ◌∷◌, ◌++◌, cond, ◌==◌, refl, ap}
 use Rattle.std.specs.List.{AllByRecursion, list_all}
 use Rattle.std.proofs.lemmas.Bool.{and_from}
-use Rattle.std.proofs.lemmas.List.Sums.{sum_by_push}
 use Rattle.grammar_text.specs.declared.edit.Edit.{Edit as AnEdit}
 use Rattle.grammar_text.specs.declared.edit.Edit.TheVariants.{AddRule, DropRule, AddToken, DropToken, AddSkip, DropSkip}
 use Rattle.grammar_text.specs.Pieces.{IsLine, AreBytes}
@@ -11,14 +10,12 @@ use Rattle.edit_log.specs.Verdict.{HasExpression as HasAdded}
 use Rattle.script_text.specs.declared.command.Command.{Command}
 use Rattle.script_text.specs.declared.command.Block.TheVariants.{Alone}
 use Rattle.script_text.specs.declared.command.Script.{Script}
-use Rattle.script_text.specs.declared.limits.TheConstants.{COMMAND_LIMIT}
 use Rattle.script_text.specs.Lines.{before_first_line, lines_of}
 use Rattle.script_text.specs.Forms.{Sort}
 use Rattle.script_text.specs.Expressions.{AddsExpression}
 use Rattle.script_text.specs.Commands.{SpellsAs, an_edit, a_text, a_scan}
-use Rattle.script_text.specs.Scripts.{Read, nothing, size_of, count_of, ReadsLine, passes, adds, TakesAll, none, more, SpellsScript}
-use Rattle.sections.specs.Commands.{IsProperCommand}
-use Rattle.workbench.specs.Blocks.{IsProperBlock}
+use Rattle.script_text.specs.Scripts.{Read, nothing, ReadsLine, passes, adds, TakesAll, none, more, SpellsScript}
+use Rattle.replies.specs.Blocks.{IsProperCommand, IsProperBlock}
 
 -- ---- lines
 
@@ -73,26 +70,3 @@ takes_all (line ∷ lines) old last are all (more {new = new} first others) = ta
 
 pub all_proper : (bytes : List ℕ) (script : Script) → AreBytes bytes → SpellsScript bytes script → AllByRecursion IsProperBlock script.blocks
 all_proper bytes script small spelled = takes_all (lines_of bytes) nothing (record { blocks = script.blocks }) (are_lines bytes small) tt spelled
-
--- ---- few commands
-
--- what was read has no more blocks than a script may have commands, each of which counts as one
-record IsFew (read : Read) : Type 0 where
-  counted : length read.blocks ≡ count_of read
-  few : length read.blocks ≤ COMMAND_LIMIT
-
-few_one : (old new : Read) (line : List ℕ) → IsFew old → ReadsLine old line new → IsFew new
-few_one old new line is (passes form) = is
-few_one old new line is (adds sort command form room spelled) =
-    let long = length-append old.blocks (Alone command ∷ []) in
-    let sum = sum_by_push size_of old.blocks (Alone command) in
-    record { counted = omega (arith, long, sum, is.counted); few = omega (arith, long, room, is.counted) }
-
-few_all : (lines : List (List ℕ)) (old last : Read) → IsFew old → TakesAll old lines last → IsFew last
-few_all [] old last is none = is
-few_all (line ∷ lines) old last is (more {new = new} first others) = few_all lines new last (few_one old new line is first) others
-
-pub few_commands : (bytes : List ℕ) (script : Script) → SpellsScript bytes script → length script.blocks ≤ COMMAND_LIMIT
-few_commands bytes script spelled =
-    let start : IsFew nothing = record { counted = refl; few = omega arith } in
-    (few_all (lines_of bytes) nothing (record { blocks = script.blocks }) start spelled).few

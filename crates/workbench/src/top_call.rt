@@ -1,30 +1,30 @@
 //! The top call: a script from a source, and the replies to a sink.
 
-ghost use Rattle.std.specs.Prelude.{◌≡◌, ◌≢◌, ◌≤◌, ◌<◌, ◌+◌, ◌↔◌, ◌⊎◌, ◌++◌, [], ℕ, List, length, Some, None, OnOk, OnErr, IfSome, IsTrue};
-ghost use Rattle.std.specs.Option.{is_some};
+ghost use Rattle.std.specs.Prelude.{◌≡◌, ◌≢◌, ◌≤◌, ◌<◌, ◌+◌, ◌↔◌, ◌⊎◌, ◌++◌, [], ℕ, List, length, Some, OnOk, OnErr, IfSome, IsErrOf};
+ghost use Rattle.std.specs.List.{AllByRecursion};
 ghost use Rattle.bench_io.specs.Faults.{HasRisen};
 ghost use Rattle.bench_io.specs.Known.{Takes};
 ghost use Rattle.script_text.specs.declared.command.Script.{Script as AScript};
 ghost use Rattle.script_text.specs.declared.bad_script.BadScript.{BadScript as ABadScript};
 ghost use Rattle.script_text.specs.declared.limits.TheConstants.{SCRIPT_LIMIT};
 ghost use Rattle.script_text.specs.Scripts.{SpellsScript, IsFirstBad};
-ghost use Rattle.version_store.specs.Means.{bench_of};
-ghost use Rattle.workbench.specs.Benches.{IsBenchAfter, IsBenchOfRun};
+ghost use Rattle.workbench.specs.declared.top_call.TheConstants.{WRITE_SIZE};
 ghost use Rattle.workbench.specs.Ends.{IsLate, IsFree, EndsBy, IsSilent, StopsBeforeEnd};
-ghost use Rattle.workbench.specs.Runs.{AnswersAll, StopsInOutput, RunsWhole, RunsBad, StopsEarly};
+ghost use Rattle.replies.specs.Blocks.{IsProperBlock};
+ghost use Rattle.workbench.specs.Runs.{AnswersAll, StopsInReplies, StopsInOutput, RunsWhole, RunsBad, StopsEarly};
 ghost use Rattle.workbench.specs.Output.{IsOutput, IsBadScript};
 ghost use Rattle.workbench.specs.Pieces.{TakesPrefix, TakesProperPrefix, GivesCount, TellsBytes};
 ghost use Rattle.replies.specs.Lines.{bad_line};
 
-use crate::answering::answer_all;
 use crate::sink_writing::write_all;
 use crate::source_reading::{ReadError, read_all};
 use bench_io::{Fault, Sink, Source};
-use graph_content::GraphRows;
-use replies::put_bad_script;
-use script_text::{BadScript, SCRIPT_LIMIT, ScriptError, read_script};
+use replies::{Session, put_bad_script};
+use script_text::{BadScript, Block, SCRIPT_LIMIT, ScriptError, read_script};
 use std::alloc::Global;
-use version_store::bench::Bench;
+
+/// How many bytes of replies are gathered before they are written.
+const WRITE_SIZE: usize = 65_536;
 
 /// How a run ended. The number is the program's exit status.
 #[derive(Clone, Copy, Debug, PartialEq, Eq)]
@@ -45,12 +45,39 @@ pub enum Status {
     ScriptTooLong = 7,
 }
 
-/// How a run ended, and the table that it leaves.
-#[derive(Drop)]
-pub struct Ended {
-    pub status: Status,
-    /// The table that served the commands. It is there exactly with [`Status::Done`].
-    pub bench: Option<Bench<GraphRows>>,
+/// Writes what was gathered, where it is much.
+fn flush_full<K: Sink>(sink: &mut K, out: &mut Vec<u8>) -> Result<(), Fault>
+    ensures written { OnOk result ((gone : List ℕ) × Takes (K.taken sink.old) (K.taken sink.new) gone
+        × (out.old.items ≡ gone ++ out.new.items)) }
+    ensures little { OnOk result (length out.new.items < WRITE_SIZE) }
+    ensures refused { OnErr result (TakesPrefix (K.taken sink.old) (K.taken sink.new) out.old.items) }
+    ensures counted { K.faults sink.old ≤ K.faults sink.new }
+    ensures failed { IsErrOf result Fault.Failed → HasRisen (K.faults sink.old) (K.faults sink.new) }
+{
+    if out.len() < WRITE_SIZE {
+        return Ok(());
+    }
+    write_all(sink, out)?;
+    out.clear();
+    Ok(())
+}
+
+/// Writes the replies to the blocks.
+fn answer_all<K: Sink>(alloc: Global, blocks: &[Block], sink: &mut K) -> Result<(), Fault>
+    requires { AllByRecursion IsProperBlock blocks.now }
+    ensures whole { OnOk result (AnswersAll (K.taken sink.old) (K.taken sink.new) blocks.now) }
+    ensures front { OnErr result (StopsInReplies (K.taken sink.old) (K.taken sink.new) blocks.now) }
+    ensures counted { K.faults sink.old ≤ K.faults sink.new }
+    ensures failed { IsErrOf result Fault.Failed → HasRisen (K.faults sink.old) (K.faults sink.new) }
+{
+    let mut session = Session::new(alloc)?;
+    let mut out = Vec::new(alloc);
+    for block in blocks {
+        session.answer_block(alloc, block, &mut out)?;
+        flush_full(sink, &mut out)?;
+    }
+    write_all(sink, &out)?;
+    Ok(())
 }
 
 /// Writes the line for a bad script.
@@ -66,72 +93,43 @@ fn refuse<K: Sink>(alloc: Global, bad: BadScript, sink: &mut K) -> Result<(), Fa
     Ok(())
 }
 
-/// The status of a run that ends at this fault.
-fn status_at(fault: Fault) -> Status
-    ensures failed { fault ≡ Fault.Failed → result ≡ Status.WriteFault }
-    ensures no_memory { fault ≡ Fault.NoMemory → result ≡ Status.NoMemory }
+/// The status with which the output of a script was written: this one, where no write failed.
+fn status_after(written: Result<(), Fault>, done: Status) -> Status
+    ensures ok { OnOk written (result ≡ done) }
+    ensures failed { IsErrOf written Fault.Failed → result ≡ Status.WriteFault }
+    ensures no_memory { IsErrOf written Fault.NoMemory → result ≡ Status.NoMemory }
 {
-    match fault {
-        Fault::Failed => Status::WriteFault,
-        Fault::NoMemory => Status::NoMemory,
-    }
-}
-
-/// The end of a run that answered no script whole.
-fn stopped(status: Status) -> Ended
-    ensures { result ≡ record { status = status; bench = None } }
-{
-    Ended {
-        status,
-        bench: None,
-    }
-}
-
-/// Writes the line for a bad script, and ends.
-fn refused<K: Sink>(alloc: Global, bad: BadScript, sink: &mut K) -> Ended
-    ensures none { result.bench ≡ None }
-    ensures late { IsLate result.status }
-    ensures not_done { result.status ≢ Status.Done }
-    ensures bad_script { result.status ≡ Status.BadScript → Takes (K.taken sink.old) (K.taken sink.new) (bad_line bad) }
-    ensures write_fault { result.status ≡ Status.WriteFault → HasRisen (K.faults sink.old) (K.faults sink.new) }
-    ensures front { StopsBeforeEnd result.status → TakesProperPrefix (K.taken sink.old) (K.taken sink.new) (bad_line bad) }
-    ensures counted { K.faults sink.old ≤ K.faults sink.new }
-{
-    match refuse(alloc, bad, sink) {
-        Ok(()) => stopped(Status::BadScript),
-        Err(fault) => stopped(status_at(fault)),
+    match written {
+        Ok(()) => done,
+        Err(Fault::Failed) => Status::WriteFault,
+        Err(Fault::NoMemory) => Status::NoMemory,
     }
 }
 
 /// Reads the script, and writes the replies to its commands or the line for its first bad line.
-fn run_script<K: Sink>(alloc: Global, script: &[u8], sink: &mut K) -> Ended
+fn run_script<K: Sink>(alloc: Global, script: &[u8], sink: &mut K) -> Status
     requires { length script.now ≤ SCRIPT_LIMIT }
-    ensures late { IsLate result.status }
-    ensures done { result.status ≡ Status.Done
-        → (read : AScript) × SpellsScript script.now read × AnswersAll (K.taken sink.old) (K.taken sink.new) read.blocks }
-    ensures has_bench { IsTrue (is_some result.bench) ↔ (result.status ≡ Status.Done) }
-    ensures bench { IfSome result.bench (λ bench. (read : AScript) × SpellsScript script.now read × IsBenchAfter read.blocks (bench_of bench)) }
-    ensures bad_script { result.status ≡ Status.BadScript → (bad : ABadScript) × IsFirstBad script.now bad
+    ensures late { IsLate result }
+    ensures done { result ≡ Status.Done → (read : AScript) × SpellsScript script.now read × AnswersAll (K.taken sink.old) (K.taken sink.new) read.blocks }
+    ensures bad_script { result ≡ Status.BadScript → (bad : ABadScript) × IsFirstBad script.now bad
         × Takes (K.taken sink.old) (K.taken sink.new) (bad_line bad) }
-    ensures write_fault { result.status ≡ Status.WriteFault
+    ensures write_fault { result ≡ Status.WriteFault
         → HasRisen (K.faults sink.old) (K.faults sink.new) }
-    ensures stopped { result.status ≡ Status.WriteFault → StopsInOutput (K.taken sink.old) (K.taken sink.new) script.now }
-    ensures no_memory { result.status ≡ Status.NoMemory → (K.taken sink.new ≡ K.taken sink.old)
+    ensures stopped { result ≡ Status.WriteFault → StopsInOutput (K.taken sink.old) (K.taken sink.new) script.now }
+    ensures no_memory { result ≡ Status.NoMemory → (K.taken sink.new ≡ K.taken sink.old)
         ⊎ StopsInOutput (K.taken sink.old) (K.taken sink.new) script.now }
     ensures counted { K.faults sink.old ≤ K.faults sink.new }
 {
     let read = match read_script(alloc, script) {
         Ok(read) => read,
-        Err(ScriptError::Bad(bad)) => return refused(alloc, bad, sink),
-        Err(ScriptError::NoMemory) => return stopped(Status::NoMemory),
+        Err(ScriptError::Bad(bad)) => {
+            let written = refuse(alloc, bad, sink);
+            return status_after(written, Status::BadScript);
+        }
+        Err(ScriptError::NoMemory) => return Status::NoMemory,
     };
-    match answer_all(alloc, read.blocks.as_slice(), sink) {
-        Ok(bench) => Ended {
-            status: Status::Done,
-            bench: Some(bench),
-        },
-        Err(fault) => stopped(status_at(fault)),
-    }
+    let written = answer_all(alloc, read.blocks.as_slice(), sink);
+    status_after(written, Status::Done)
 }
 
 /// Reads a script from the source and writes to the sink the replies to its commands, or one line where it has
@@ -140,60 +138,61 @@ fn run_script<K: Sink>(alloc: Global, script: &[u8], sink: &mut K) -> Ended
 /// The words are those of the command line, of which the first is the program's name. Nothing is written
 /// before the script has been read whole, and no command is run before all its lines were found good. Want of
 /// memory may end a run at any point.
-pub fn run<S: Source, K: Sink>(alloc: Global, words: &[&str], source: &mut S, sink: &mut K) -> Ended
+pub fn run<S: Source, K: Sink>(
+    alloc: Global,
+    words: &[&str],
+    source: &mut S,
+    sink: &mut K,
+) -> Status
     requires { 0 < length words.now }
 
     // Only the program's name may stand in the words.
-    ensures bad_words { (result.status ≡ Status.BadWords) ↔ (1 < length words.now) }
-    ensures unread { result.status ≡ Status.BadWords → source.new ≡ source.old }
+    ensures bad_words { (result ≡ Status.BadWords) ↔ (1 < length words.now) }
+    ensures unread { result ≡ Status.BadWords → source.new ≡ source.old }
 
     // A run to the end.
-    ensures done { result.status ≡ Status.Done
+    ensures done { result ≡ Status.Done
         → RunsWhole (S.left source.old) (S.left source.new) (K.taken sink.old) (K.taken sink.new) }
-    ensures bad_script { result.status ≡ Status.BadScript
+    ensures bad_script { result ≡ Status.BadScript
         → RunsBad (S.left source.old) (S.left source.new) (K.taken sink.old) (K.taken sink.new) }
-    ensures good_script { result.status ≡ Status.Done
+    ensures good_script { result ≡ Status.Done
         → IfSome (S.left source.old) (λ script. IsBadScript script → ⊥) }
-    ensures too_long { result.status ≡ Status.ScriptTooLong
+    ensures too_long { result ≡ Status.ScriptTooLong
         → GivesCount (S.left source.old) (S.left source.new) (SCRIPT_LIMIT + 1) }
-
-    // The table that served the commands is there exactly after such a run of a good script.
-    ensures has_bench { IsTrue (is_some result.bench) ↔ (result.status ≡ Status.Done) }
-    ensures bench { IfSome result.bench (λ bench. IsBenchOfRun (S.left source.old) (bench_of bench)) }
 
     // Where the bytes are told, a bad script and one that is too long are called so.
     ensures only_bad_script { TellsBytes (S.left source.old) → TellsBytes (K.taken sink.old)
-        → RunsBad (S.left source.old) (S.left source.new) (K.taken sink.old) (K.taken sink.new) → result.status ≡ Status.BadScript }
+        → RunsBad (S.left source.old) (S.left source.new) (K.taken sink.old) (K.taken sink.new) → result ≡ Status.BadScript }
     ensures only_too_long { TellsBytes (S.left source.old) → GivesCount (S.left source.old) (S.left source.new) (SCRIPT_LIMIT + 1)
-        → (result.status ≡ Status.ScriptTooLong) ⊎ (result.status ≡ Status.NoMemory) }
+        → (result ≡ Status.ScriptTooLong) ⊎ (result ≡ Status.NoMemory) }
 
     // A fault comes only where it was counted.
-    ensures read_fault { result.status ≡ Status.ReadFault
+    ensures read_fault { result ≡ Status.ReadFault
         → HasRisen (S.faults source.old) (S.faults source.new) }
-    ensures write_fault { result.status ≡ Status.WriteFault
+    ensures write_fault { result ≡ Status.WriteFault
         → HasRisen (K.faults sink.old) (K.faults sink.new) }
     ensures counted { (S.faults source.old ≤ S.faults source.new) × (K.faults sink.old ≤ K.faults sink.new) }
 
     // Where no fault was counted, the script decides.
     ensures complete { length words.now ≡ 1 → IsFree (S.faults source.old) (S.faults source.new) → IsFree (K.faults sink.old) (K.faults sink.new)
-        → (script : List ℕ) → S.left source.old ≡ Some script → EndsBy script result.status }
+        → (script : List ℕ) → S.left source.old ≡ Some script → EndsBy script result }
 
     // What the sink took where the run did not come to its end.
-    ensures silent { IsSilent result.status → K.taken sink.new ≡ K.taken sink.old }
-    ensures stopped { result.status ≡ Status.WriteFault
+    ensures silent { IsSilent result → K.taken sink.new ≡ K.taken sink.old }
+    ensures stopped { result ≡ Status.WriteFault
         → StopsEarly (S.left source.old) (S.left source.new) (K.taken sink.old) (K.taken sink.new) }
-    ensures no_memory { result.status ≡ Status.NoMemory → (K.taken sink.new ≡ K.taken sink.old)
+    ensures no_memory { result ≡ Status.NoMemory → (K.taken sink.new ≡ K.taken sink.old)
         ⊎ StopsEarly (S.left source.old) (S.left source.new) (K.taken sink.old) (K.taken sink.new) }
-    ensures front { StopsBeforeEnd result.status → IfSome (S.left source.old) (λ script. (output : List ℕ)
+    ensures front { StopsBeforeEnd result → IfSome (S.left source.old) (λ script. (output : List ℕ)
         → IsOutput script output → TakesPrefix (K.taken sink.old) (K.taken sink.new) output) }
 {
     if words.len() > 1 {
-        return stopped(Status::BadWords);
+        return Status::BadWords;
     }
     match read_all(alloc, source, SCRIPT_LIMIT) {
         Ok(script) => run_script(alloc, &script, sink),
-        Err(ReadError::Failed) => stopped(Status::ReadFault),
-        Err(ReadError::NoMemory) => stopped(Status::NoMemory),
-        Err(ReadError::TooLong) => stopped(Status::ScriptTooLong),
+        Err(ReadError::Failed) => Status::ReadFault,
+        Err(ReadError::NoMemory) => Status::NoMemory,
+        Err(ReadError::TooLong) => Status::ScriptTooLong,
     }
 }

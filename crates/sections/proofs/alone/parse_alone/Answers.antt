@@ -1,6 +1,6 @@
 use Rattle.std.proofs.Common.{refl}
 use Rattle.script_text.specs.declared.command.Command.TheVariants.{Parse}
-use Rattle.sections.proofs.ReplySteps.{parsed_reply}
+use Rattle.replies.proofs.ReplySteps.{parsed_reply}
 use Rattle.sections.proofs.alone.parse_alone.Goals as goal
 
 pub returns-clause-replied : goal.returns-clause-replied

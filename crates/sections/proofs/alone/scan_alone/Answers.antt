@@ -1,6 +1,6 @@
 use Rattle.std.proofs.Common.{refl}
 use Rattle.script_text.specs.declared.command.Command.TheVariants.{Tokens}
-use Rattle.sections.proofs.ReplySteps.{scanned_reply}
+use Rattle.replies.proofs.ReplySteps.{scanned_reply}
 use Rattle.sections.proofs.alone.scan_alone.Goals as goal
 
 pub returns-clause-replied : goal.returns-clause-replied

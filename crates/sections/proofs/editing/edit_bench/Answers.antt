@@ -6,9 +6,9 @@ use Rattle.graph_content.specs.Modifications.{Modification}
 use Rattle.graph_content.specs.Contents.{KeepsRow}
 use Rattle.script_text.specs.declared.command.Command.TheVariants.{Edit}
 use Rattle.version_store.specs.Means.{bench_of}
-use Rattle.sections.specs.declared.reply.Reply.TheVariants.{Edited}
-use Rattle.sections.specs.Replies.{IsReply, taken, refused}
-use Rattle.sections.proofs.ReplySteps.{refused_stays}
+use Rattle.replies.specs.declared.reply.Reply.TheVariants.{Edited}
+use Rattle.replies.specs.Replies.{IsReply, taken, refused}
+use Rattle.replies.proofs.ReplySteps.{refused_stays}
 use Rattle.sections.proofs.EditedLogs.{room_by_verdict, version_by_log, lawful_longer, log_longer, edited_log, edited_version}
 use Rattle.sections.proofs.EditedRows.{rows_refused, rows_taken}
 use Rattle.sections.proofs.editing.edit_bench.Goals as goal

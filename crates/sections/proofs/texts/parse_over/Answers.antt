@@ -5,10 +5,10 @@ use Rattle.edit_log.specs.History.{Grammar}
 use Rattle.isg_scan.specs.declared.scan_error.ScanError.TheVariants.{NoMemory}
 use Rattle.live_graph.proofs.Rises.{rise_join}
 use Rattle.rekers.specs.Answers.{kinds_of}
-use Rattle.sections.specs.Replies.{IsParse, scan, parse}
-use Rattle.sections.proofs.ReplySteps.{refused_for}
+use Rattle.replies.specs.Replies.{IsParse, scan, parse}
+use Rattle.replies.proofs.ReplySteps.{refused_for}
 use Rattle.sections.specs.Asked.{AsksTokens}
-use Rattle.sections.proofs.TokenKinds.{few_tokens, terminal_tokens}
+use Rattle.replies.proofs.TokenKinds.{few_tokens, terminal_tokens}
 use Rattle.sections.proofs.AskedKeys.{unless_memory, scan_refused, text_asks}
 use Rattle.sections.proofs.texts.parse_over.Goals as goal
 

@@ -1,8 +1,8 @@
 use Rattle.std.proofs.Common.{subst}
 use Rattle.rekers.specs.declared.parse_error.ParseError.TheVariants.{TooLarge}
 use Rattle.rekers.specs.Answers.{kinds_of, TellsTooLarge}
-use Rattle.sections.specs.Replies.{too_large}
-use Rattle.sections.proofs.ReplySteps.{parsed_so}
+use Rattle.replies.specs.Replies.{too_large}
+use Rattle.replies.proofs.ReplySteps.{parsed_so}
 use Rattle.sections.proofs.texts.parse_tokens.Goals as goal
 
 pub returns-in-Ok-clause-parsed : goal.returns-in-Ok-clause-parsed

@@ -1,6 +1,6 @@
 use Rattle.std.proofs.Common.{◌≡◌, rules}
 use Rattle.isg_scan.specs.declared.scan_error.ScanError.TheVariants.{NoMemory}
-use Rattle.sections.proofs.ReplySteps.{refused_for}
+use Rattle.replies.proofs.ReplySteps.{refused_for}
 use Rattle.sections.proofs.AskedKeys.{unless_memory, scans_keys}
 use Rattle.sections.proofs.texts.scan_over.Goals as goal
 

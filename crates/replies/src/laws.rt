@@ -3,8 +3,8 @@
 ghost use Rattle.std.specs.Prelude.{◌≡◌};
 ghost use Rattle.script_text.specs.declared.command.Command.{Command};
 ghost use Rattle.edit_log.specs.History.{Grammar};
-ghost use Rattle.sections.specs.declared.reply.Reply.{Reply};
-ghost use Rattle.sections.specs.Replies.{IsReply};
+ghost use Rattle.replies.specs.declared.reply.Reply.{Reply};
+ghost use Rattle.replies.specs.Replies.{IsReply};
 
 /// A command has at most one reply under a grammar.
 pub fn one_reply()

@@ -1,15 +1,23 @@
--- How the blocks of a script are answered.
-use Rattle.std.specs.Prelude.{◌≡◌, ℕ, List, [], ◌∷◌, ◌++◌}
+-- How a session answers the blocks of a script.
+use Rattle.std.specs.Prelude.{◌≡◌, ◌≤◌, ℕ, List, [], ◌∷◌, ◌++◌, length}
 use Rattle.edit_log.specs.History.{Grammar}
+use Rattle.edit_log.specs.Verdict.{IsProper}
 use Rattle.script_text.specs.declared.command.Command.{Command}
+use Rattle.script_text.specs.declared.command.Command.TheVariants.{Edit, Parse, Tokens, Stats}
 use Rattle.script_text.specs.declared.command.Block.{Block}
 use Rattle.script_text.specs.declared.command.Block.TheVariants.{Alone, Par}
-use Rattle.sections.specs.declared.reply.Reply.{Reply}
+use Rattle.script_text.specs.declared.limits.TheConstants.{TEXT_LIMIT}
+use Rattle.replies.specs.declared.reply.Reply.{Reply}
 use Rattle.replies.specs.Lines.{reply_text}
-use Rattle.sections.specs.Commands.{IsProperCommand}
-use Rattle.sections.specs.Replies.{IsReply, grammar_after}
+use Rattle.replies.specs.Replies.{IsReply, grammar_after}
 
--- a command that may be asked for
+-- an edit that may be asked for, or a text that is not too long
+abbrev pub IsProperCommand : Command → Type 0
+IsProperCommand (Edit edit) = IsProper edit
+IsProperCommand (Parse text) = length text ≤ TEXT_LIMIT
+IsProperCommand (Tokens text) = length text ≤ TEXT_LIMIT
+IsProperCommand Stats = ⊥
+
 abbrev pub IsProperBlock : Block → Type 0
 IsProperBlock (Alone command) = IsProperCommand command
 IsProperBlock (Par commands) = ⊥

@@ -20,6 +20,7 @@ use Rattle.edit_log.specs.History.{Definition, Grammar}
 use Rattle.edit_log.specs.Live.{is_literal, is_live_literal, kind_of, kind_of_definition, definition_of}
 use Rattle.edit_log.specs.Facts.{IsNamed, IsWellFormed}
 use Rattle.edit_log.specs.Tokens.{Scan, tokens, no_token, too_many, before, token_at, TokenizesFrom, end, none, skipped, full, more, Tokenizes}
+use Rattle.replies.specs.Known.{AreKnownTokens}
 use Rattle.rekers.specs.Answers.{kinds_of}
 
 -- ---- what holds of each token
@@ -160,7 +161,7 @@ no_left_side grammar kind formed (named number, is) left = name_has grammar (λ 
 -- ---- lists of tokens
 
 pub known_tokens : (grammar : Grammar) (text : List ℕ) (found : List Token) → IsWellFormed grammar → Tokenizes grammar text (tokens found)
-    → (token : Token) → Contains found token → token.kind.0 < length grammar.symbols
+    → AreKnownTokens grammar.symbols found
 known_tokens grammar text found formed is token has =
     known_kind grammar token.kind formed (at_each (λ t. HasDefinition grammar t.kind) found token (are_defined grammar 0 TOKEN_LIMIT text
     (tokens found) is) has)

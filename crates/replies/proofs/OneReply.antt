@@ -16,18 +16,18 @@ use Rattle.isg_scan.specs.declared.scan_error.ScanError.{ScanError}
 use Rattle.isg_scan.specs.declared.scan_error.ScanError.TheVariants.{NoToken, TooManyTokens, NoMemory}
 use Rattle.script_text.specs.declared.command.Command.{Command}
 use Rattle.script_text.specs.declared.command.Command.TheVariants.{Edit, Parse, Tokens, Stats}
-use Rattle.sections.specs.declared.reply.Outcome.{Outcome}
-use Rattle.sections.specs.declared.reply.Outcome.TheVariants.{Parsed, Scan}
+use Rattle.replies.specs.declared.reply.Outcome.{Outcome}
+use Rattle.replies.specs.declared.reply.Outcome.TheVariants.{Parsed, Scan}
 use Rattle.rekers.specs.declared.parsed.Parsed.TheVariants.{Forest as ForestOf, NoSentence}
 use Rattle.rekers.specs.declared.limits.TheConstants.{SIZE_LIMIT}
 use Rattle.rekers.specs.States.{IsLastViable}
 use Rattle.rekers.specs.Size.{IsAbove}
 use Rattle.rekers.specs.Answers.{kinds_of, IsWithin}
 use Rattle.rekers.proofs.Sizes.{size_above}
-use Rattle.sections.specs.declared.reply.Reply.{Reply}
-use Rattle.sections.specs.declared.reply.Reply.TheVariants.{Refused, Parse as Parsing, Tokens as Scanning}
-use Rattle.sections.specs.Replies.{IsScanRefusedFor, IsResult, IsParse, too_large, forest, no_sentence, IsOutcome, scan, parse, IsReply, taken, refused}
-use Rattle.sections.specs.Replies.{parsed, scanned}
+use Rattle.replies.specs.declared.reply.Reply.{Reply}
+use Rattle.replies.specs.declared.reply.Reply.TheVariants.{Refused, Parse as Parsing, Tokens as Scanning}
+use Rattle.replies.specs.Replies.{IsScanRefusedFor, IsResult, IsParse, too_large, forest, no_sentence, IsOutcome, scan, parse, IsReply, taken, refused}
+use Rattle.replies.specs.Replies.{parsed, scanned}
 use Rattle.isg_scan.proofs.OneScan.{one_scan}
 
 -- ---- forests are told by their nodes

@@ -1,5 +1,6 @@
 -- How a command's reply is made.
-use Rattle.std.proofs.Common.{◌≡◌, ◌+◌, ℕ, Result, Some, None, List, refl, ap, sym, ◌∙◌, subst}
+use Rattle.std.proofs.Common.{◌≡◌, ◌≤◌, ◌<◌, ◌+◌, ◌↔◌, ℕ, Result, Ok, Err, Some, None, List, refl, inl, inr, ap, sym, ◌∙◌, subst}
+use Rattle.std.proofs.lemmas.Bool.{cases_lt}
 use Rattle.grammar_text.specs.declared.edit.Edit.{Edit as AnEdit}
 use Rattle.edit_log.specs.declared.refusal.Refusal.{Refusal}
 use Rattle.edit_log.specs.History.{Grammar, after_edit}
@@ -15,10 +16,10 @@ use Rattle.script_text.specs.declared.command.Command.TheVariants.{Parse, Tokens
 use Rattle.rekers.specs.declared.parsed.Parsed.{Parsed as Found}
 use Rattle.rekers.specs.declared.parsed.Parsed.TheVariants.{Forest, NoSentence}
 use Rattle.rekers.specs.Answers.{TellsForest, TellsNoSentence, IsWithin}
-use Rattle.sections.specs.declared.reply.Outcome.{Outcome}
-use Rattle.sections.specs.declared.reply.Outcome.TheVariants.{Parsed}
-use Rattle.sections.specs.declared.reply.Reply.TheVariants.{Parse as Parsing, Tokens as Scanning}
-use Rattle.sections.specs.Replies.{IsScanRefusedFor, IsResult, IsParse, forest, no_sentence, IsOutcome, IsReply, parsed, scanned, unless_refused}
+use Rattle.replies.specs.declared.reply.Outcome.{Outcome}
+use Rattle.replies.specs.declared.reply.Outcome.TheVariants.{Parsed}
+use Rattle.replies.specs.declared.reply.Reply.TheVariants.{Parse as Parsing, Tokens as Scanning}
+use Rattle.replies.specs.Replies.{IsScanRefusedFor, IsResult, IsParse, forest, no_sentence, IsOutcome, IsReply, parsed, scanned, unless_refused}
 
 -- ---- parses
 
