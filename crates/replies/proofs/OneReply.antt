@@ -70,7 +70,7 @@ one_parse rules kinds a b (no_sentence {at = i} within not last) (no_sentence {a
 
 -- ---- a text is scanned in one way
 
-one_list : (grammar : Grammar) (text : List ℕ) (a b : List Token) → Tokenizes grammar text (tokens a) → Tokenizes grammar text (tokens b) → a ≡ b
+pub one_list : (grammar : Grammar) (text : List ℕ) (a b : List Token) → Tokenizes grammar text (tokens a) → Tokenizes grammar text (tokens b) → a ≡ b
 one_list grammar text a b e f = let same : tokens a ≡ tokens b = one_scan grammar text (tokens a) (tokens b) e f in cc same
 
 one_error : (grammar : Grammar) (text : List ℕ) (a b : ScanError) → IsScanRefusedFor grammar text a → IsScanRefusedFor grammar text b → a ≡ b
@@ -83,7 +83,7 @@ one_error grammar text NoMemory b e f = absurd e
 one_error grammar text (NoToken o) NoMemory e f = absurd f
 one_error grammar text (TooManyTokens o) NoMemory e f = absurd f
 
-not_refused : (grammar : Grammar) (text : List ℕ) (found : List Token) (error : ScanError) → Tokenizes grammar text (tokens found)
+pub not_refused : (grammar : Grammar) (text : List ℕ) (found : List Token) (error : ScanError) → Tokenizes grammar text (tokens found)
     → IsScanRefusedFor grammar text error → ⊥
 not_refused grammar text found (NoToken o) e f = let same = one_scan grammar text (tokens found) (no_token o) e f in cc same
 not_refused grammar text found (TooManyTokens o) e f = let same = one_scan grammar text (tokens found) (too_many o) e f in cc same
