@@ -1,4 +1,4 @@
--- How a session answers the blocks of a script.
+-- How the blocks of a script are answered.
 use Rattle.std.specs.Prelude.{◌≡◌, ◌≤◌, ℕ, List, [], ◌∷◌, ◌++◌, length}
 use Rattle.edit_log.specs.History.{Grammar}
 use Rattle.edit_log.specs.Verdict.{IsProper}

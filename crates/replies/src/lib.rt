@@ -1,7 +1,7 @@
-//! The replies to the commands of a script, and the session that answers them.
+//! The replies to the commands of a script, and their lines.
 //!
-//! A [`Session`] has the grammar that the commands so far made. It answers an edit by the grammar's verdict, and
-//! a text by its tokens or its forest. A [`Reply`] is data; [`put_reply`] appends its lines to a buffer.
+//! A [`Reply`] is data. Which reply a command has is defined here, by the grammar that the commands before it made, and
+//! the crates above answer by it. [`put_reply`] appends a reply's lines to a buffer.
 #![tactic(auto)]
 
 mod edit_lines;
@@ -9,12 +9,9 @@ mod laws;
 mod reply;
 mod reply_lines;
 mod script_lines;
-mod session;
 mod text_lines;
-mod texts;
 
 pub use laws::one_reply;
 pub use reply::{Outcome, Reply, TokenList};
 pub use reply_lines::put_reply;
 pub use script_lines::put_bad_script;
-pub use session::Session;

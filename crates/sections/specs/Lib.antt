@@ -4,3 +4,4 @@ pub mod Asked
 pub mod Editing
 pub mod Alone
 pub mod Laziness
+pub mod Shared

@@ -1,4 +1,5 @@
 pub mod Pieces
 pub mod Output
 pub mod Runs
+pub mod Benches
 pub mod Ends

@@ -4,10 +4,11 @@
 //! or the reason why there is none. For a script with a bad line one line is written.
 #![tactic(auto)]
 
+mod answering;
 mod laws;
 mod sink_writing;
 mod source_reading;
 mod top_call;
 
 pub use laws::{good_or_bad, one_output};
-pub use top_call::{Status, run};
+pub use top_call::{Ended, Status, run};

@@ -1,27 +1,34 @@
 //! The top call: a script from a source, and the replies to a sink.
 
-ghost use Rattle.std.specs.Prelude.{◌≡◌, ◌≢◌, ◌≤◌, ◌<◌, ◌+◌, ◌↔◌, ◌⊎◌, ◌++◌, [], ℕ, List, length, Some, OnOk, OnErr, IfSome, IsErrOf};
+ghost use Rattle.std.specs.Prelude.{◌≡◌, ◌≢◌, ◌≤◌, ◌<◌, ◌+◌, ◌↔◌, ◌⊎◌, ◌++◌, [], ℕ, List, length, Some, None, OnOk, OnErr, IfOk, IfSome, IsErrOf};
 ghost use Rattle.std.specs.List.{AllByRecursion};
 ghost use Rattle.bench_io.specs.Faults.{HasRisen};
 ghost use Rattle.bench_io.specs.Known.{Takes};
 ghost use Rattle.script_text.specs.declared.command.Script.{Script as AScript};
 ghost use Rattle.script_text.specs.declared.bad_script.BadScript.{BadScript as ABadScript};
-ghost use Rattle.script_text.specs.declared.limits.TheConstants.{SCRIPT_LIMIT};
+ghost use Rattle.script_text.specs.declared.limits.TheConstants.{SCRIPT_LIMIT, COMMAND_LIMIT};
 ghost use Rattle.script_text.specs.Scripts.{SpellsScript, IsFirstBad};
 ghost use Rattle.workbench.specs.declared.top_call.TheConstants.{WRITE_SIZE};
 ghost use Rattle.workbench.specs.Ends.{IsLate, IsFree, EndsBy, IsSilent, StopsBeforeEnd};
 ghost use Rattle.replies.specs.Blocks.{IsProperBlock};
+ghost use Rattle.version_store.specs.Means.{bench_of};
+ghost use Rattle.workbench.specs.Benches.{IsBenchBehind, HasBenchBehind, RunsOverBench};
 ghost use Rattle.workbench.specs.Runs.{AnswersAll, StopsInReplies, StopsInOutput, RunsWhole, RunsBad, StopsEarly};
 ghost use Rattle.workbench.specs.Output.{IsOutput, IsBadScript};
 ghost use Rattle.workbench.specs.Pieces.{TakesPrefix, TakesProperPrefix, GivesCount, TellsBytes};
 ghost use Rattle.replies.specs.Lines.{bad_line};
 
+use crate::answering::answer_block;
 use crate::sink_writing::write_all;
 use crate::source_reading::{ReadError, read_all};
 use bench_io::{Fault, Sink, Source};
-use replies::{Session, put_bad_script};
+use graph_content::GraphRows;
+use pin_rule::sizes::Sizes;
+use replies::put_bad_script;
 use script_text::{BadScript, Block, SCRIPT_LIMIT, ScriptError, read_script};
+use sections::Crew;
 use std::alloc::Global;
+use version_store::bench::Bench;
 
 /// How many bytes of replies are gathered before they are written.
 const WRITE_SIZE: usize = 65_536;
@@ -45,6 +52,26 @@ pub enum Status {
     ScriptTooLong = 7,
 }
 
+/// How a run ended, and what is left of it.
+#[derive(Drop)]
+pub struct Ended {
+    /// How it ended.
+    pub status: Status,
+    /// The bench over which all commands ran. It is there exactly with [`Status::Done`].
+    pub bench: Option<Bench<GraphRows>>,
+}
+
+/// A run that ended so, before its last command was answered.
+fn without_bench(status: Status) -> Ended
+    ensures status { result.status ≡ status }
+    ensures bench { result.bench ≡ None }
+{
+    Ended {
+        status,
+        bench: None,
+    }
+}
+
 /// Writes what was gathered, where it is much.
 fn flush_full<K: Sink>(sink: &mut K, out: &mut Vec<u8>) -> Result<(), Fault>
     ensures written { OnOk result ((gone : List ℕ) × Takes (K.taken sink.old) (K.taken sink.new) gone
@@ -62,22 +89,29 @@ fn flush_full<K: Sink>(sink: &mut K, out: &mut Vec<u8>) -> Result<(), Fault>
     Ok(())
 }
 
-/// Writes the replies to the blocks.
-fn answer_all<K: Sink>(alloc: Global, blocks: &[Block], sink: &mut K) -> Result<(), Fault>
-    requires { AllByRecursion IsProperBlock blocks.now }
+/// Writes the replies to the blocks, which run over one new bench of the largest sizes. Told is the bench behind them.
+fn answer_all<K: Sink>(
+    alloc: Global,
+    blocks: &[Block],
+    sink: &mut K,
+) -> Result<Bench<GraphRows>, Fault>
+    requires proper { AllByRecursion IsProperBlock blocks.now }
+    requires few { length blocks.now ≤ COMMAND_LIMIT }
     ensures whole { OnOk result (AnswersAll (K.taken sink.old) (K.taken sink.new) blocks.now) }
+    ensures bench { IfOk result (λ bench. IsBenchBehind blocks.now (bench_of bench)) }
     ensures front { OnErr result (StopsInReplies (K.taken sink.old) (K.taken sink.new) blocks.now) }
     ensures counted { K.faults sink.old ≤ K.faults sink.new }
     ensures failed { IsErrOf result Fault.Failed → HasRisen (K.faults sink.old) (K.faults sink.new) }
 {
-    let mut session = Session::new(alloc)?;
+    let mut crew = Crew::new(alloc)?;
+    let mut bench = Bench::make(alloc, Sizes::full())?;
     let mut out = Vec::new(alloc);
     for block in blocks {
-        session.answer_block(alloc, block, &mut out)?;
+        bench = answer_block(alloc, bench, &mut crew, block, &mut out)?;
         flush_full(sink, &mut out)?;
     }
     write_all(sink, &out)?;
-    Ok(())
+    Ok(bench)
 }
 
 /// Writes the line for a bad script.
@@ -93,43 +127,51 @@ fn refuse<K: Sink>(alloc: Global, bad: BadScript, sink: &mut K) -> Result<(), Fa
     Ok(())
 }
 
-/// The status with which the output of a script was written: this one, where no write failed.
-fn status_after(written: Result<(), Fault>, done: Status) -> Status
-    ensures ok { OnOk written (result ≡ done) }
-    ensures failed { IsErrOf written Fault.Failed → result ≡ Status.WriteFault }
-    ensures no_memory { IsErrOf written Fault.NoMemory → result ≡ Status.NoMemory }
+/// The status of a run whose write failed so.
+fn status_of(fault: Fault) -> Status
+    ensures failed { fault ≡ Fault.Failed → result ≡ Status.WriteFault }
+    ensures no_memory { fault ≡ Fault.NoMemory → result ≡ Status.NoMemory }
 {
-    match written {
-        Ok(()) => done,
-        Err(Fault::Failed) => Status::WriteFault,
-        Err(Fault::NoMemory) => Status::NoMemory,
+    match fault {
+        Fault::Failed => Status::WriteFault,
+        Fault::NoMemory => Status::NoMemory,
     }
 }
 
 /// Reads the script, and writes the replies to its commands or the line for its first bad line.
-fn run_script<K: Sink>(alloc: Global, script: &[u8], sink: &mut K) -> Status
+fn run_script<K: Sink>(alloc: Global, script: &[u8], sink: &mut K) -> Ended
     requires { length script.now ≤ SCRIPT_LIMIT }
-    ensures late { IsLate result }
-    ensures done { result ≡ Status.Done → (read : AScript) × SpellsScript script.now read × AnswersAll (K.taken sink.old) (K.taken sink.new) read.blocks }
-    ensures bad_script { result ≡ Status.BadScript → (bad : ABadScript) × IsFirstBad script.now bad
+    ensures late { IsLate result.status }
+    ensures done { result.status ≡ Status.Done
+        → (read : AScript) × SpellsScript script.now read × AnswersAll (K.taken sink.old) (K.taken sink.new) read.blocks }
+    ensures bench { result.status ≡ Status.Done → (read : AScript) × SpellsScript script.now read × HasBenchBehind read.blocks result.bench }
+    ensures no_bench { result.status ≢ Status.Done → result.bench ≡ None }
+    ensures bad_script { result.status ≡ Status.BadScript → (bad : ABadScript) × IsFirstBad script.now bad
         × Takes (K.taken sink.old) (K.taken sink.new) (bad_line bad) }
-    ensures write_fault { result ≡ Status.WriteFault
+    ensures write_fault { result.status ≡ Status.WriteFault
         → HasRisen (K.faults sink.old) (K.faults sink.new) }
-    ensures stopped { result ≡ Status.WriteFault → StopsInOutput (K.taken sink.old) (K.taken sink.new) script.now }
-    ensures no_memory { result ≡ Status.NoMemory → (K.taken sink.new ≡ K.taken sink.old)
+    ensures stopped { result.status ≡ Status.WriteFault → StopsInOutput (K.taken sink.old) (K.taken sink.new) script.now }
+    ensures no_memory { result.status ≡ Status.NoMemory → (K.taken sink.new ≡ K.taken sink.old)
         ⊎ StopsInOutput (K.taken sink.old) (K.taken sink.new) script.now }
     ensures counted { K.faults sink.old ≤ K.faults sink.new }
 {
     let read = match read_script(alloc, script) {
         Ok(read) => read,
         Err(ScriptError::Bad(bad)) => {
-            let written = refuse(alloc, bad, sink);
-            return status_after(written, Status::BadScript);
+            return match refuse(alloc, bad, sink) {
+                Ok(()) => without_bench(Status::BadScript),
+                Err(fault) => without_bench(status_of(fault)),
+            };
         }
-        Err(ScriptError::NoMemory) => return Status::NoMemory,
+        Err(ScriptError::NoMemory) => return without_bench(Status::NoMemory),
     };
-    let written = answer_all(alloc, read.blocks.as_slice(), sink);
-    status_after(written, Status::Done)
+    match answer_all(alloc, read.blocks.as_slice(), sink) {
+        Ok(bench) => Ended {
+            status: Status::Done,
+            bench: Some(bench),
+        },
+        Err(fault) => without_bench(status_of(fault)),
+    }
 }
 
 /// Reads a script from the source and writes to the sink the replies to its commands, or one line where it has
@@ -143,56 +185,58 @@ pub fn run<S: Source, K: Sink>(
     words: &[&str],
     source: &mut S,
     sink: &mut K,
-) -> Status
+) -> Ended
     requires { 0 < length words.now }
 
     // Only the program's name may stand in the words.
-    ensures bad_words { (result ≡ Status.BadWords) ↔ (1 < length words.now) }
-    ensures unread { result ≡ Status.BadWords → source.new ≡ source.old }
+    ensures bad_words { (result.status ≡ Status.BadWords) ↔ (1 < length words.now) }
+    ensures unread { result.status ≡ Status.BadWords → source.new ≡ source.old }
 
     // A run to the end.
-    ensures done { result ≡ Status.Done
+    ensures done { result.status ≡ Status.Done
         → RunsWhole (S.left source.old) (S.left source.new) (K.taken sink.old) (K.taken sink.new) }
-    ensures bad_script { result ≡ Status.BadScript
+    ensures bench { result.status ≡ Status.Done → RunsOverBench (S.left source.old) result.bench }
+    ensures no_bench { result.status ≢ Status.Done → result.bench ≡ None }
+    ensures bad_script { result.status ≡ Status.BadScript
         → RunsBad (S.left source.old) (S.left source.new) (K.taken sink.old) (K.taken sink.new) }
-    ensures good_script { result ≡ Status.Done
+    ensures good_script { result.status ≡ Status.Done
         → IfSome (S.left source.old) (λ script. IsBadScript script → ⊥) }
-    ensures too_long { result ≡ Status.ScriptTooLong
+    ensures too_long { result.status ≡ Status.ScriptTooLong
         → GivesCount (S.left source.old) (S.left source.new) (SCRIPT_LIMIT + 1) }
 
     // Where the bytes are told, a bad script and one that is too long are called so.
     ensures only_bad_script { TellsBytes (S.left source.old) → TellsBytes (K.taken sink.old)
-        → RunsBad (S.left source.old) (S.left source.new) (K.taken sink.old) (K.taken sink.new) → result ≡ Status.BadScript }
+        → RunsBad (S.left source.old) (S.left source.new) (K.taken sink.old) (K.taken sink.new) → result.status ≡ Status.BadScript }
     ensures only_too_long { TellsBytes (S.left source.old) → GivesCount (S.left source.old) (S.left source.new) (SCRIPT_LIMIT + 1)
-        → (result ≡ Status.ScriptTooLong) ⊎ (result ≡ Status.NoMemory) }
+        → (result.status ≡ Status.ScriptTooLong) ⊎ (result.status ≡ Status.NoMemory) }
 
     // A fault comes only where it was counted.
-    ensures read_fault { result ≡ Status.ReadFault
+    ensures read_fault { result.status ≡ Status.ReadFault
         → HasRisen (S.faults source.old) (S.faults source.new) }
-    ensures write_fault { result ≡ Status.WriteFault
+    ensures write_fault { result.status ≡ Status.WriteFault
         → HasRisen (K.faults sink.old) (K.faults sink.new) }
     ensures counted { (S.faults source.old ≤ S.faults source.new) × (K.faults sink.old ≤ K.faults sink.new) }
 
     // Where no fault was counted, the script decides.
     ensures complete { length words.now ≡ 1 → IsFree (S.faults source.old) (S.faults source.new) → IsFree (K.faults sink.old) (K.faults sink.new)
-        → (script : List ℕ) → S.left source.old ≡ Some script → EndsBy script result }
+        → (script : List ℕ) → S.left source.old ≡ Some script → EndsBy script result.status }
 
     // What the sink took where the run did not come to its end.
-    ensures silent { IsSilent result → K.taken sink.new ≡ K.taken sink.old }
-    ensures stopped { result ≡ Status.WriteFault
+    ensures silent { IsSilent result.status → K.taken sink.new ≡ K.taken sink.old }
+    ensures stopped { result.status ≡ Status.WriteFault
         → StopsEarly (S.left source.old) (S.left source.new) (K.taken sink.old) (K.taken sink.new) }
-    ensures no_memory { result ≡ Status.NoMemory → (K.taken sink.new ≡ K.taken sink.old)
+    ensures no_memory { result.status ≡ Status.NoMemory → (K.taken sink.new ≡ K.taken sink.old)
         ⊎ StopsEarly (S.left source.old) (S.left source.new) (K.taken sink.old) (K.taken sink.new) }
-    ensures front { StopsBeforeEnd result → IfSome (S.left source.old) (λ script. (output : List ℕ)
+    ensures front { StopsBeforeEnd result.status → IfSome (S.left source.old) (λ script. (output : List ℕ)
         → IsOutput script output → TakesPrefix (K.taken sink.old) (K.taken sink.new) output) }
 {
     if words.len() > 1 {
-        return Status::BadWords;
+        return without_bench(Status::BadWords);
     }
     match read_all(alloc, source, SCRIPT_LIMIT) {
         Ok(script) => run_script(alloc, &script, sink),
-        Err(ReadError::Failed) => Status::ReadFault,
-        Err(ReadError::NoMemory) => Status::NoMemory,
-        Err(ReadError::TooLong) => Status::ScriptTooLong,
+        Err(ReadError::Failed) => without_bench(Status::ReadFault),
+        Err(ReadError::NoMemory) => without_bench(Status::NoMemory),
+        Err(ReadError::TooLong) => without_bench(Status::ScriptTooLong),
     }
 }

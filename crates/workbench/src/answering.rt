@@ -1,0 +1,91 @@
+//! Answering the blocks of a script over one bench.
+
+ghost use Rattle.std.specs.Prelude.{◌≡◌, ◌<◌, IfOk, OnOk};
+ghost use Rattle.edit_log.specs.declared.limits.TheConstants.{LOG_LIMIT};
+ghost use Rattle.graph_content.specs.Contents.{IsLogOfGrammar};
+ghost use Rattle.version_store.specs.Means.{bench_of};
+ghost use Rattle.replies.specs.Replies.{grammar_after};
+ghost use Rattle.replies.specs.Blocks.{IsProperCommand, IsProperBlock, grammar_behind, AnswersBlock, RepliesWith};
+ghost use Rattle.workbench.specs.Benches.{ServesCommand, ServesBlock};
+
+use graph_content::GraphRows;
+use replies::put_reply;
+use script_text::{Block, Command};
+use sections::{Alone, AloneError, Crew, run_alone};
+use std::alloc::{AllocError, Global};
+use std::marker::Brand;
+use std::sync::ledger::{Blank, Ledger};
+use steps::Steps;
+use version_store::bench::Bench;
+
+/// Answers a command: the lines of its reply are appended. Its steps are counted in the ledger of this blank.
+fn answer_with<L: Ledger>(
+    alloc: Global,
+    bench: Bench<GraphRows>,
+    crew: &mut Crew,
+    command: &Command,
+    out: &mut Vec<u8>,
+    blank: Blank,
+) -> Result<Bench<GraphRows>, AllocError>
+    requires name { blank.name ≡ L.name }
+    requires parts { blank.parts ≡ L.parts }
+    requires some { 0 < L.parts }
+    requires proper { IsProperCommand command.now }
+    requires log { IsLogOfGrammar (bench_of bench).log crew.old }
+    requires full { (bench_of bench).sizes.log ≡ LOG_LIMIT }
+    requires pins { 0 < (bench_of bench).pins_left }
+    ensures next { OnOk result (crew.new ≡ grammar_after crew.old command.now) }
+    ensures replied { OnOk result (RepliesWith crew.old command.now out.old.items out.new.items) }
+    ensures serves { IfOk result (λ next. ServesCommand crew.old command.now (bench_of bench) (bench_of next)) }
+{
+    let mut steps = Steps::<L>::new(blank);
+    let alone = match run_alone(alloc, bench, crew, command, &mut steps) {
+        Ok(alone) => alone,
+        Err((_, AloneError::NoMemory)) => return Err(AllocError),
+        Err((_, AloneError::Spent)) => unreachable!(),
+    };
+    let Alone { bench, reply, .. } = alone;
+    put_reply(crew.grammar(), &reply, out)?;
+    Ok(bench)
+}
+
+/// Answers a command: the lines of its reply are appended. Nobody reads the count of steps.
+fn answer(
+    alloc: Global,
+    bench: Bench<GraphRows>,
+    crew: &mut Crew,
+    command: &Command,
+    out: &mut Vec<u8>,
+) -> Result<Bench<GraphRows>, AllocError>
+    requires proper { IsProperCommand command.now }
+    requires log { IsLogOfGrammar (bench_of bench).log crew.old }
+    requires full { (bench_of bench).sizes.log ≡ LOG_LIMIT }
+    requires pins { 0 < (bench_of bench).pins_left }
+    ensures next { OnOk result (crew.new ≡ grammar_after crew.old command.now) }
+    ensures replied { OnOk result (RepliesWith crew.old command.now out.old.items out.new.items) }
+    ensures serves { IfOk result (λ next. ServesCommand crew.old command.now (bench_of bench) (bench_of next)) }
+{
+    answer_with::<Brand>(alloc, bench, crew, command, out, Blank::new(1))
+}
+
+/// Answers a block: the lines of the reply are appended, and the bench is the one behind the block.
+pub(crate) fn answer_block(
+    alloc: Global,
+    bench: Bench<GraphRows>,
+    crew: &mut Crew,
+    block: &Block,
+    out: &mut Vec<u8>,
+) -> Result<Bench<GraphRows>, AllocError>
+    requires proper { IsProperBlock block.now }
+    requires log { IsLogOfGrammar (bench_of bench).log crew.old }
+    requires full { (bench_of bench).sizes.log ≡ LOG_LIMIT }
+    requires pins { 0 < (bench_of bench).pins_left }
+    ensures next { OnOk result (crew.new ≡ grammar_behind crew.old block.now) }
+    ensures replied { OnOk result (AnswersBlock crew.old block.now out.old.items out.new.items) }
+    ensures serves { IfOk result (λ next. ServesBlock crew.old block.now (bench_of bench) (bench_of next)) }
+{
+    match block {
+        Block::Alone(command) => answer(alloc, bench, crew, command, out),
+        Block::Par(_) => unreachable!(),
+    }
+}
