@@ -21,9 +21,9 @@ fn faulty(
 {
     let mut source = MemSource::new(script.to_vec(alloc)?, most, reads.to_vec(alloc)?);
     let mut sink = MemSink::new(alloc, most, writes.to_vec(alloc)?)?;
-    let status = run(alloc, &["workbench"], &mut source, &mut sink);
+    let ended = run(alloc, &["workbench"], &mut source, &mut sink);
     Ok(Outcome {
-        status,
+        status: ended.status,
         written: sink.taken().to_vec(alloc)?,
     })
 }

@@ -22,9 +22,9 @@ fn outcome_with(alloc: Global, words: &[&str], script: &[u8]) -> Result<Outcome,
 {
     let mut source = PlainSource::new(script.to_vec(alloc)?);
     let mut sink = PlainSink::new(alloc)?;
-    let status = run(alloc, words, &mut source, &mut sink);
+    let ended = run(alloc, words, &mut source, &mut sink);
     Ok(Outcome {
-        status,
+        status: ended.status,
         written: sink.taken().to_vec(alloc)?,
     })
 }

@@ -1,5 +1,6 @@
 pub mod ScriptFacts
 pub mod RunSteps
+pub mod BenchSteps
 pub mod OneOutput
 pub mod RunEnds
 pub mod RunCauses

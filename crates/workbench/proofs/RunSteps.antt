@@ -32,7 +32,7 @@ AreReplies-push grammar (Alone first ∷ blocks) command _ reply (more {reply = 
     (sym (append_assoc (reply_text grammar.symbols one) rest (reply_text (grammar_after_all (grammar_after grammar first) blocks).symbols reply)))
     (more said (AreReplies-push (grammar_after grammar first) blocks command rest reply others is))
 
-grammar_after_all-push : (grammar : Grammar) (blocks : List Block) (block : Block) → grammar_after_all grammar (blocks ++ block ∷ []) ≡ grammar_behind
+pub grammar_after_all-push : (grammar : Grammar) (blocks : List Block) (block : Block) → grammar_after_all grammar (blocks ++ block ∷ []) ≡ grammar_behind
     (grammar_after_all grammar blocks) block
 grammar_after_all-push grammar [] block = refl
 grammar_after_all-push grammar (first ∷ blocks) block = grammar_after_all-push (grammar_behind grammar first) blocks block

@@ -1,5 +1,6 @@
 -- What a script asks for may be asked.
-use Rattle.std.proofs.Common.{◌≡◌, ℕ, ◌<◌, Bool, true, false, not, List, [], ◌∷◌, ◌++◌, cond, ◌==◌, refl, ap}
+use Rattle.std.proofs.Common.{◌≡◌, ℕ, ◌<◌, ◌≤◌, Bool, true, false, not, List, [], ◌∷◌, ◌++◌, length, cond, ◌==◌, refl, ap, arith, length-append}
+use Rattle.std.specs.Prelude.{sum_by}
 use Rattle.std.specs.List.{AllByRecursion, list_all}
 use Rattle.std.proofs.lemmas.Bool.{and_from}
 use Rattle.grammar_text.specs.declared.edit.Edit.{Edit as AnEdit}
@@ -8,13 +9,15 @@ use Rattle.grammar_text.specs.Pieces.{IsLine, AreBytes}
 use Rattle.grammar_text.proofs.Soundness.{is_sound}
 use Rattle.edit_log.specs.Verdict.{HasExpression as HasAdded}
 use Rattle.script_text.specs.declared.command.Command.{Command}
-use Rattle.script_text.specs.declared.command.Block.TheVariants.{Alone}
+use Rattle.script_text.specs.declared.command.Block.{Block}
+use Rattle.script_text.specs.declared.command.Block.TheVariants.{Alone, Par}
 use Rattle.script_text.specs.declared.command.Script.{Script}
+use Rattle.script_text.specs.declared.limits.TheConstants.{COMMAND_LIMIT}
 use Rattle.script_text.specs.Lines.{before_first_line, lines_of}
 use Rattle.script_text.specs.Forms.{Sort}
 use Rattle.script_text.specs.Expressions.{AddsExpression}
 use Rattle.script_text.specs.Commands.{SpellsAs, an_edit, a_text, a_scan}
-use Rattle.script_text.specs.Scripts.{Read, nothing, ReadsLine, passes, adds, TakesAll, none, more, SpellsScript}
+use Rattle.script_text.specs.Scripts.{Read, nothing, size_of, ReadsLine, passes, adds, TakesAll, none, more, SpellsScript}
 use Rattle.replies.specs.Blocks.{IsProperCommand, IsProperBlock}
 
 -- ---- lines
@@ -70,3 +73,26 @@ takes_all (line ∷ lines) old last are all (more {new = new} first others) = ta
 
 pub all_proper : (bytes : List ℕ) (script : Script) → AreBytes bytes → SpellsScript bytes script → AllByRecursion IsProperBlock script.blocks
 all_proper bytes script small spelled = takes_all (lines_of bytes) nothing (record { blocks = script.blocks }) (are_lines bytes small) tt spelled
+
+-- ---- how many commands
+
+count_all : (blocks : List Block) → AllByRecursion IsProperBlock blocks → sum_by size_of blocks ≡ length blocks
+count_all [] all = refl
+count_all (Alone command ∷ blocks) all = omega (arith, count_all blocks all.1)
+count_all (Par commands ∷ blocks) all = absurd all.0
+
+few_one : (old new : Read) (line : List ℕ) → AllByRecursion IsProperBlock old.blocks → length old.blocks ≤ COMMAND_LIMIT → ReadsLine old line new
+    → length new.blocks ≤ COMMAND_LIMIT
+few_one old new line all few (passes form) = few
+few_one old new line all few (adds sort command form room spelled) =
+    omega (arith, room, count_all old.blocks all, length-append old.blocks (Alone command ∷ []))
+
+few_all : (lines : List (List ℕ)) (old last : Read) → AllByRecursion IsByteLine lines → AllByRecursion IsProperBlock old.blocks
+    → length old.blocks ≤ COMMAND_LIMIT → TakesAll old lines last → length last.blocks ≤ COMMAND_LIMIT
+few_all [] old last are all few none = few
+few_all (line ∷ lines) old last are all few (more {new = new} first others) =
+    few_all lines new last are.1 (takes_one old new line are.0 all first) (few_one old new line all few first) others
+
+pub few_blocks : (bytes : List ℕ) (script : Script) → AreBytes bytes → SpellsScript bytes script → length script.blocks ≤ COMMAND_LIMIT
+few_blocks bytes script small spelled =
+    few_all (lines_of bytes) nothing (record { blocks = script.blocks }) (are_lines bytes small) tt (omega arith) spelled

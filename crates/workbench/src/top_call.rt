@@ -131,10 +131,23 @@ fn refuse<K: Sink>(alloc: Global, bad: BadScript, sink: &mut K) -> Result<(), Fa
 fn status_of(fault: Fault) -> Status
     ensures failed { fault ≡ Fault.Failed → result ≡ Status.WriteFault }
     ensures no_memory { fault ≡ Fault.NoMemory → result ≡ Status.NoMemory }
+    ensures stops { StopsBeforeEnd result }
 {
     match fault {
         Fault::Failed => Status::WriteFault,
         Fault::NoMemory => Status::NoMemory,
+    }
+}
+
+/// The status with which the line for a bad script was written.
+fn status_after(written: Result<(), Fault>) -> Status
+    ensures ok { OnOk written (result ≡ Status.BadScript) }
+    ensures failed { IsErrOf written Fault.Failed → result ≡ Status.WriteFault }
+    ensures no_memory { IsErrOf written Fault.NoMemory → result ≡ Status.NoMemory }
+{
+    match written {
+        Ok(()) => Status::BadScript,
+        Err(fault) => status_of(fault),
     }
 }
 
@@ -158,19 +171,18 @@ fn run_script<K: Sink>(alloc: Global, script: &[u8], sink: &mut K) -> Ended
     let read = match read_script(alloc, script) {
         Ok(read) => read,
         Err(ScriptError::Bad(bad)) => {
-            return match refuse(alloc, bad, sink) {
-                Ok(()) => without_bench(Status::BadScript),
-                Err(fault) => without_bench(status_of(fault)),
-            };
+            let written = refuse(alloc, bad, sink);
+            return without_bench(status_after(written));
         }
         Err(ScriptError::NoMemory) => return without_bench(Status::NoMemory),
     };
-    match answer_all(alloc, read.blocks.as_slice(), sink) {
-        Ok(bench) => Ended {
-            status: Status::Done,
-            bench: Some(bench),
-        },
-        Err(fault) => without_bench(status_of(fault)),
+    let bench = match answer_all(alloc, read.blocks.as_slice(), sink) {
+        Ok(bench) => bench,
+        Err(fault) => return without_bench(status_of(fault)),
+    };
+    Ended {
+        status: Status::Done,
+        bench: Some(bench),
     }
 }
 

@@ -23,7 +23,8 @@ fn start(rt: &HostRuntime) -> io::Result<Status> {
     }
     let mut source = StdSource::new(rt.stdin());
     let mut sink = StdSink::new(rt.stdout());
-    Ok(run(rt.alloc(), &words, &mut source, &mut sink))
+    let ended = run(rt.alloc(), &words, &mut source, &mut sink);
+    Ok(ended.status)
 }
 
 /// The status where the words of the command line could not be read: one of them is no text, or there was
