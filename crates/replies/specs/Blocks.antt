@@ -1,5 +1,5 @@
--- How the blocks of a script are answered.
-use Rattle.std.specs.Prelude.{◌≡◌, ◌≤◌, ℕ, List, [], ◌∷◌, ◌++◌, length}
+-- Commands that may be asked for, and the grammars behind the blocks of a script.
+use Rattle.std.specs.Prelude.{◌≤◌, List, [], ◌∷◌, length}
 use Rattle.edit_log.specs.History.{Grammar}
 use Rattle.edit_log.specs.Verdict.{IsProper}
 use Rattle.script_text.specs.declared.command.Command.{Command}
@@ -7,9 +7,7 @@ use Rattle.script_text.specs.declared.command.Command.TheVariants.{Edit, Parse, 
 use Rattle.script_text.specs.declared.command.Block.{Block}
 use Rattle.script_text.specs.declared.command.Block.TheVariants.{Alone, Par}
 use Rattle.script_text.specs.declared.limits.TheConstants.{TEXT_LIMIT}
-use Rattle.replies.specs.declared.reply.Reply.{Reply}
-use Rattle.replies.specs.Lines.{reply_text}
-use Rattle.replies.specs.Replies.{IsReply, grammar_after}
+use Rattle.replies.specs.Replies.{grammar_after}
 
 -- an edit that may be asked for, or a text that is not too long
 abbrev pub IsProperCommand : Command → Type 0
@@ -31,14 +29,3 @@ grammar_behind grammar (Par commands) = grammar
 abbrev pub grammar_after_all : Grammar → List Block → Grammar
 grammar_after_all grammar [] = grammar
 grammar_after_all grammar (block ∷ blocks) = grammar_after_all (grammar_behind grammar block) blocks
-
--- the lines of the reply to the command were appended
-pub record RepliesWith (grammar : Grammar) (command : Command) (old new : List ℕ) : Type 0 where
-  pub reply : Reply
-  pub is : IsReply grammar command reply
-  pub appended : new ≡ old ++ reply_text grammar.symbols reply
-
--- the lines of the reply to the block were appended
-abbrev pub AnswersBlock : Grammar → Block → List ℕ → List ℕ → Type 0
-AnswersBlock grammar (Alone command) old new = RepliesWith grammar command old new
-AnswersBlock grammar (Par commands) old new = ⊥

@@ -1,5 +1,5 @@
 -- The replies to commands.
-use Rattle.std.specs.Prelude.{◌≡◌, ℕ, ◌+◌, List, [], ◌∷◌, ◌++◌, Option, Some, None, Result, Ok, Err}
+use Rattle.std.specs.Prelude.{◌≡◌, ℕ, ◌+◌, List, Option, Some, None, Result, Ok, Err}
 use Rattle.grammar_text.specs.declared.edit.Edit.{Edit as AnEdit}
 use Rattle.forest.specs.declared.symbols.SymbolId.{SymbolId}
 use Rattle.forest.specs.declared.symbols.Token.{Token}
@@ -20,13 +20,10 @@ use Rattle.rekers.specs.Size.{IsAbove}
 use Rattle.rekers.specs.Answers.{kinds_of, IsWithin}
 use Rattle.script_text.specs.declared.command.Command.{Command}
 use Rattle.script_text.specs.declared.command.Command.TheVariants.{Edit, Parse, Tokens, Stats}
-use Rattle.script_text.specs.declared.command.Block.{Block}
-use Rattle.script_text.specs.declared.command.Block.TheVariants.{Alone}
 use Rattle.replies.specs.declared.reply.Outcome.{Outcome}
 use Rattle.replies.specs.declared.reply.Outcome.TheVariants.{Parsed, Scan, TooLarge}
 use Rattle.replies.specs.declared.reply.Reply.{Reply}
 use Rattle.replies.specs.declared.reply.Reply.TheVariants.{Edited, Refused, Parse as Parsing, Tokens as Scanning}
-use Rattle.replies.specs.Lines.{reply_text}
 
 -- ---- texts
 
@@ -74,10 +71,3 @@ grammar_after grammar (Edit edit) = unless_refused (verdict grammar edit) gramma
 grammar_after grammar (Parse text) = grammar
 grammar_after grammar (Tokens text) = grammar
 grammar_after grammar Stats = grammar
-
--- the lines of the replies to the commands, one after the other, from this grammar on
-pub data AreReplies : Grammar → List Block → List ℕ → Type 0 where
-  none : {grammar : Grammar} → AreReplies grammar [] []
-  more : {grammar : Grammar} {command : Command} {blocks : List Block} {reply : Reply} {replies : List ℕ} →
-      IsReply grammar command reply → AreReplies (grammar_after grammar command) blocks replies
-      → AreReplies grammar (Alone command ∷ blocks) (reply_text grammar.symbols reply ++ replies)

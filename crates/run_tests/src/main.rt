@@ -5,6 +5,7 @@
 //! wanted was worked out from the definitions.
 #![tactic(auto)]
 
+mod benches;
 mod faults;
 mod rows;
 mod runs;

@@ -1,5 +1,6 @@
 //! The words of rows.
 
+use crate::benches::told_bench;
 use crate::faults::{told_each_read, told_each_size, told_each_write, told_faulty};
 use crate::runs::{told_end, told_letters, told_run, told_words};
 use crate::scripts::{long_of, script_of};
@@ -39,6 +40,7 @@ fn answer_faulty(alloc: Global, word: &str, rest: &str) -> Result<String, AllocE
 /// - `long COUNT;FRONT;PART;END`: the same for the front, as many times the part, and the end.
 /// - `end COUNT;FRONT;PART;END`: the same with the last three lines alone, and how many there are.
 /// - `words WORD ..;SCRIPT`: the same with more words of the command line.
+/// - `bench SCRIPT`: the version, the pins left and the rows of the bench that is handed back.
 /// - `letters COUNT`: whether the tokens of so many letters are told as they are worked out line by line.
 /// - `faulty SIZE;READS;WRITES;SCRIPT`: the same where the source and the sink move so many bytes at most at a
 ///   time, and fail at the calls with these numbers.
@@ -64,6 +66,7 @@ pub(crate) fn answer(alloc: Global, row: &str) -> Result<String, AllocError> {
         "long" => told_run(alloc, &long_of(alloc, rest)?),
         "end" => told_end(alloc, &long_of(alloc, rest)?),
         "words" => told_words(alloc, rest),
+        "bench" => told_bench(alloc, &script_of(alloc, rest)?),
         "letters" => told_letters(alloc, rest),
         _ => answer_faulty(alloc, word, rest),
     }

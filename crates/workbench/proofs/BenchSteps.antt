@@ -1,5 +1,5 @@
 -- What the blocks make of a bench, one after the other.
-use Rattle.std.proofs.Common.{◌≡◌, ℕ, ◌+◌, ◌≤◌, ◌<◌, List, [], ◌∷◌, ◌++◌, length, take, Option, Some, refl, ap, sym, ◌∙◌, subst, arith, length-take}
+use Rattle.std.proofs.Common.{◌≡◌, ℕ, ◌+◌, ◌≤◌, ◌<◌, List, [], ◌∷◌, ◌++◌, length, take, refl, ap, sym, ◌∙◌, subst, arith, length-take}
 use Rattle.edit_log.specs.declared.limits.TheConstants.{LOG_LIMIT}
 use Rattle.edit_log.specs.History.{Grammar, empty_grammar}
 use Rattle.script_text.specs.declared.command.Command.{Command}
@@ -16,8 +16,7 @@ use Rattle.graph_content.specs.Contents.{IsLogOfGrammar}
 use Rattle.replies.specs.Replies.{grammar_after}
 use Rattle.replies.specs.Blocks.{grammar_behind, grammar_after_all}
 use Rattle.sections.specs.Commands.{pins_for}
-use Rattle.sections.specs.Shared.{SharesFor, AreShared, none_shared, more_shared}
-use Rattle.workbench.specs.Benches.{ServesCommand, ServesBlock, pins_for_all, IsBenchBehind}
+use Rattle.workbench.specs.Benches.{AnswersCommand, AnswersBlock, pins_for_all, IsBenchBehind}
 use Rattle.workbench.proofs.RunSteps.{grammar_after_all-push}
 
 -- ---- before the first block
@@ -32,39 +31,28 @@ bench_none bench is =
       log = subst (λ (log : List Entry). IsLogOfGrammar log empty_grammar) (sym is.log) log_none;
       sizes = is.sizes;
       pins = omega (arith, pins);
-      rows = subst (AreShared full_sizes empty_grammar [] []) (sym is.graph) none_shared;
     }
 
 -- ---- a block more
-
-shared_push : (z : Sizes) (grammar : Grammar) (blocks : List Block) (command : Command) (first next last : List (List ℕ))
-    → AreShared z grammar blocks first next → SharesFor z (grammar_after_all grammar blocks) command next last
-    → AreShared z grammar (blocks ++ Alone command ∷ []) first last
-shared_push z grammar [] command first _ last none_shared shares = more_shared shares none_shared
-shared_push z grammar (Par commands ∷ blocks) command first next last shared shares = elim shared [ ]
-shared_push z grammar (Alone one ∷ blocks) command first next last (more_shared {next = between} by others) shares =
-    more_shared by (shared_push z (grammar_after grammar one) blocks command between next last others shares)
 
 pins_push : (blocks : List Block) (command : Command) → pins_for_all (blocks ++ Alone command ∷ []) ≡ pins_for_all blocks + pins_for command
 pins_push [] command = omega arith
 pins_push (Alone one ∷ blocks) command = omega (arith, pins_push blocks command)
 pins_push (Par commands ∷ blocks) command = pins_push blocks command
 
-pub bench_more : (blocks : List Block) (block : Block) (grammar : Grammar) (old new : BenchMeaning) → IsBenchBehind blocks old
-    → grammar ≡ grammar_after_all empty_grammar blocks → ServesBlock grammar block old new → IsBenchBehind (blocks ++ block ∷ []) new
-bench_more blocks (Par commands) grammar old new behind same serves = absurd serves
-bench_more blocks (Alone command) grammar old new behind same serves =
-    let made : ServesCommand (grammar_after_all empty_grammar blocks) command old new = subst (λ g. ServesCommand g command old new) same serves in
-    let shares : SharesFor full_sizes (grammar_after_all empty_grammar blocks) command old.graph new.graph =
-    subst (λ z. SharesFor z (grammar_after_all empty_grammar blocks) command old.graph new.graph) behind.sizes made.rows in
+pub bench_more : (blocks : List Block) (block : Block) (grammar : Grammar) (old new : BenchMeaning) (out appended : List ℕ) → IsBenchBehind blocks old
+    → grammar ≡ grammar_after_all empty_grammar blocks → AnswersBlock grammar block old new out appended → IsBenchBehind (blocks ++ block ∷ []) new
+bench_more blocks (Par commands) grammar old new out appended behind same answers = absurd answers
+bench_more blocks (Alone command) grammar old new out appended behind same answers =
+    let log : IsLogOfGrammar new.log (grammar_after (grammar_after_all empty_grammar blocks) command) =
+    subst (λ g. IsLogOfGrammar new.log (grammar_after g command)) same answers.log in
     let before = behind.pins in
-    let taken = made.pins in
+    let taken = answers.pins in
     let pushed = pins_push blocks command in
     record {
-      log = subst (IsLogOfGrammar new.log) (sym (grammar_after_all-push empty_grammar blocks (Alone command))) made.log;
-      sizes = made.sizes ∙ behind.sizes;
+      log = subst (IsLogOfGrammar new.log) (sym (grammar_after_all-push empty_grammar blocks (Alone command))) log;
+      sizes = answers.sizes ∙ behind.sizes;
       pins = omega (arith, before, taken, pushed);
-      rows = shared_push full_sizes empty_grammar blocks command [] old.graph new.graph behind.rows shares;
     }
 
 -- ---- what the bench has for the next block

@@ -5,6 +5,8 @@ use Rattle.std.proofs.lemmas.List.{take-append-le}
 use Rattle.bench_io.specs.Known.{Takes, IsKnownAs}
 use Rattle.bench_io.proofs.Chains.{Takes-none}
 use Rattle.edit_log.specs.History.{Grammar, empty_grammar}
+use Rattle.pin_rule.specs.declared.sizes.Sizes.{Sizes}
+use Rattle.pin_rule.specs.Layout.{full_sizes}
 use Rattle.script_text.specs.declared.command.Command.{Command}
 use Rattle.script_text.specs.declared.command.Block.{Block}
 use Rattle.script_text.specs.declared.command.Block.TheVariants.{Alone, Par}
@@ -12,41 +14,46 @@ use Rattle.script_text.specs.declared.command.Script.{Script}
 use Rattle.script_text.proofs.ScriptLaws.{one_script, not_both, one_bad}
 use Rattle.workbench.specs.Pieces.{TakesPrefix, TakesProperPrefix}
 use Rattle.replies.specs.Lines.{bad_line, reply_text}
-use Rattle.replies.specs.Replies.{grammar_after, AreReplies, none, more}
+use Rattle.replies.specs.Replies.{grammar_after}
+use Rattle.workbench.specs.Benches.{AreAnswers, none, more}
 use Rattle.workbench.specs.Output.{IsOutput, replies, refusal}
 use Rattle.workbench.specs.Runs.{StopsInOutput, of_replies, of_refusal}
 use Rattle.replies.proofs.OneReply.{one_reply}
 
--- ---- blocks have one list of replies
+-- ---- blocks have one list of lines
 
-same_replies : (grammar : Grammar) (blocks : List Block) (a b : List ℕ) → AreReplies grammar blocks a → AreReplies grammar blocks b → a ≡ b
-same_replies grammar [] _ _ none none = refl
-same_replies grammar (Par commands ∷ blocks) a b e f = elim e [ ]
-same_replies grammar (Alone command ∷ blocks) _ _ (more {reply = r} {replies = rs} one others) (more {reply = s} {replies = ss} one' others') =
-    let first : reply_text grammar.symbols r ≡ reply_text grammar.symbols s = ap (reply_text grammar.symbols) (one_reply grammar command r s one one') in
-    let rest : rs ≡ ss = same_replies (grammar_after grammar command) blocks rs ss others others' in
-    (λ i. first i ++ rest i)
+same_lines : (z : Sizes) (grammar : Grammar) (blocks : List Block) (first last others ends : List (List ℕ)) (a b : List ℕ)
+    → AreAnswers z grammar blocks first last a → AreAnswers z grammar blocks others ends b → a ≡ b
+same_lines z grammar [] _ _ _ _ _ _ none none = refl
+same_lines z grammar (Par commands ∷ blocks) first last others ends a b e f = elim e [ ]
+same_lines z grammar (Alone command ∷ blocks) first last others ends _ _ (more {reply = r} {next = next} {lines = rs} one left rest)
+    (more {reply = s} {next = next'} {lines = ss} one' left' rest') =
+    let same : reply_text grammar.symbols r ≡ reply_text grammar.symbols s = ap (reply_text grammar.symbols) (one_reply grammar command r s one one') in
+    let further : rs ≡ ss = same_lines z (grammar_after grammar command) blocks next last next' ends rs ss rest rest' in
+    (λ i. same i ++ further i)
 
--- the replies to the first blocks are a prefix of the replies to all
+-- the lines for the first blocks are a prefix of those for all
 record GoesOn (output whole : List ℕ) : Type 0 where
   behind : List ℕ
   is : whole ≡ output ++ behind
 
-front : (grammar : Grammar) (first others : List Block) (output whole : List ℕ) → AreReplies grammar first output → AreReplies grammar (first ++ others) whole
-    → GoesOn output whole
-front grammar [] others _ whole none all = record { behind = whole; is = refl }
-front grammar (Par commands ∷ first) others output whole part all = elim part [ ]
-front grammar (Alone command ∷ first) others _ _ (more {reply = r} {replies = rs} one rest) (more {reply = s} {replies = ss} one' rest') =
+front : (z : Sizes) (grammar : Grammar) (part others : List Block) (first last begins ends : List (List ℕ)) (output whole : List ℕ)
+    → AreAnswers z grammar part first last output → AreAnswers z grammar (part ++ others) begins ends whole → GoesOn output whole
+front z grammar [] others _ _ begins ends _ whole none all = record { behind = whole; is = refl }
+front z grammar (Par commands ∷ part) others first last begins ends output whole some all = elim some [ ]
+front z grammar (Alone command ∷ part) others first last begins ends _ _ (more {reply = r} {next = next} {lines = rs} one left rest)
+    (more {reply = s} {next = next'} {lines = ss} one' left' rest') =
     let same : reply_text grammar.symbols s ≡ reply_text grammar.symbols r = ap (reply_text grammar.symbols) (one_reply grammar command s r one' one) in
-    let further = front (grammar_after grammar command) first others rs ss rest rest' in
+    let further = front z (grammar_after grammar command) part others next last next' ends rs ss rest rest' in
     record { behind = further.behind; is = (λ i. same i ++ further.is i) ∙ sym (append_assoc (reply_text grammar.symbols r) rs further.behind) }
 
 -- ---- a script has one output
 
 pub one_output : (script a b : List ℕ) → IsOutput script a → IsOutput script b → a ≡ b
-one_output script a b (replies read short spelled are) (replies other short' spelled' are') =
+one_output script a b (replies {last = last} read short spelled are) (replies {last = ends} other short' spelled' are') =
     let same = one_script script other read spelled' spelled in
-    same_replies empty_grammar read.blocks a b are (subst (λ (r : Script). AreReplies empty_grammar r.blocks b) same are')
+    same_lines full_sizes empty_grammar read.blocks [] last [] ends a b are
+    (subst (λ (r : Script). AreAnswers full_sizes empty_grammar r.blocks [] ends b) same are')
 one_output script a b (replies read short spelled are) (refusal bad short' first) = absurd (not_both script read bad spelled first)
 one_output script a b (refusal bad short first) (replies read short' spelled are) = absurd (not_both script read bad spelled first)
 one_output script _ _ (refusal bad short first) (refusal other short' first') = ap bad_line (one_bad script bad other first first')
@@ -67,10 +74,11 @@ part_is_front old new bytes part = let less = part.1 in (part.0, omega (arith, l
 
 pub front_of_output : (script : List ℕ) (old new : Option (List ℕ)) → StopsInOutput old new script → (output : List ℕ) → IsOutput script output
     → TakesPrefix old new output
-front_of_output script old new (of_replies read spelled first) output (replies other short spelled' are) =
+front_of_output script old new (of_replies read spelled first) output (replies {last = ends} other short spelled' are) =
     let same = one_script script other read spelled' spelled in
     let blocks : other.blocks ≡ first.first ++ first.others = ap (λ (r : Script). r.blocks) same ∙ first.parts in
-    let whole = front empty_grammar first.first first.others first.output output first.replies (subst (λ bs. AreReplies empty_grammar bs output) blocks are) in
+    let whole = front full_sizes empty_grammar first.first first.others [] first.last [] ends first.output output first.answers
+    (subst (λ bs. AreAnswers full_sizes empty_grammar bs [] ends output) blocks are) in
     front_of_part old new first.output output whole first.taken
 front_of_output script old new (of_replies read spelled first) output (refusal bad short is) = absurd (not_both script read bad spelled is)
 front_of_output script old new (of_refusal bad is part) output (replies read short spelled are) = absurd (not_both script read bad spelled is)

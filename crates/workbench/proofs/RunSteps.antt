@@ -12,25 +12,29 @@ use Rattle.script_text.specs.declared.command.Command.{Command}
 use Rattle.script_text.specs.declared.command.Block.{Block}
 use Rattle.script_text.specs.declared.command.Block.TheVariants.{Alone, Par}
 use Rattle.workbench.specs.Pieces.{TakesPrefix}
+use Rattle.pin_rule.specs.Layout.{full_sizes}
+use Rattle.pin_rule.specs.declared.sizes.Sizes.{Sizes}
+use Rattle.version_store.specs.Meaning.{BenchMeaning}
 use Rattle.replies.specs.declared.reply.Reply.{Reply}
 use Rattle.replies.specs.Lines.{reply_text}
-use Rattle.replies.specs.Replies.{IsReply, grammar_after, AreReplies, none, more}
-use Rattle.replies.specs.Blocks.{grammar_behind, grammar_after_all, IsProperBlock, AnswersBlock}
+use Rattle.replies.specs.Replies.{IsReply, grammar_after}
+use Rattle.replies.specs.Blocks.{grammar_behind, grammar_after_all, IsProperBlock}
+use Rattle.workbench.specs.Benches.{LeavesGraph, AnswersCommand, AnswersBlock, AreAnswers, none, more, IsBenchBehind}
 use Rattle.workbench.specs.Runs.{AnswersAll, StopsInReplies}
 
--- ---- replies one after the other
+-- ---- answers one after the other
 
-AreReplies-push : (grammar : Grammar) (blocks : List Block) (command : Command) (output : List ℕ) (reply : Reply) → AreReplies grammar blocks output
-    → IsReply (grammar_after_all grammar blocks) command reply
-    → AreReplies grammar (blocks ++ Alone command ∷ []) (output ++ reply_text (grammar_after_all grammar blocks).symbols reply)
-AreReplies-push grammar [] command [] reply none is = subst (AreReplies grammar (Alone command ∷ [])) (append-nil (reply_text grammar.symbols reply))
-    (more is none)
-AreReplies-push grammar [] command (byte ∷ output) reply replies is = elim replies [ ]
-AreReplies-push grammar (Par commands ∷ blocks) command output reply replies is = elim replies [ ]
-AreReplies-push grammar (Alone first ∷ blocks) command _ reply (more {reply = one} {replies = rest} said others) is =
-    subst (AreReplies grammar (Alone first ∷ (blocks ++ Alone command ∷ [])))
-    (sym (append_assoc (reply_text grammar.symbols one) rest (reply_text (grammar_after_all (grammar_after grammar first) blocks).symbols reply)))
-    (more said (AreReplies-push (grammar_after grammar first) blocks command rest reply others is))
+answers_push : (z : Sizes) (grammar : Grammar) (blocks : List Block) (command : Command) (first next last : List (List ℕ)) (lines : List ℕ) (reply : Reply)
+    → AreAnswers z grammar blocks first next lines → IsReply (grammar_after_all grammar blocks) command reply
+    → LeavesGraph z (grammar_after_all grammar blocks) command reply next last
+    → AreAnswers z grammar (blocks ++ Alone command ∷ []) first last (lines ++ reply_text (grammar_after_all grammar blocks).symbols reply)
+answers_push z grammar [] command first _ last _ reply none is leaves =
+    subst (AreAnswers z grammar (Alone command ∷ []) first last) (append-nil (reply_text grammar.symbols reply)) (more is leaves none)
+answers_push z grammar (Par commands ∷ blocks) command first next last lines reply answers is leaves = elim answers [ ]
+answers_push z grammar (Alone one ∷ blocks) command first next last _ reply (more {reply = said} {next = between} {lines = rest} by left others) is leaves =
+    subst (AreAnswers z grammar (Alone one ∷ (blocks ++ Alone command ∷ [])) first last)
+    (sym (append_assoc (reply_text grammar.symbols said) rest (reply_text (grammar_after_all (grammar_after grammar one) blocks).symbols reply)))
+    (more by left (answers_push z (grammar_after grammar one) blocks command between next last rest reply others is leaves))
 
 pub grammar_after_all-push : (grammar : Grammar) (blocks : List Block) (block : Block) → grammar_after_all grammar (blocks ++ block ∷ []) ≡ grammar_behind
     (grammar_after_all grammar blocks) block
@@ -39,63 +43,73 @@ grammar_after_all-push grammar (first ∷ blocks) block = grammar_after_all-push
 
 -- ---- up to here the blocks are answered
 
-pub record IsAnswered (old new : Option (List ℕ)) (first : List Block) (grammar : Grammar) (out : List ℕ) : Type 0 where
+-- the sink took the lines of the replies to the blocks but for those that are gathered, and the graph is what the blocks left
+pub record IsAnswered (old new : Option (List ℕ)) (first : List Block) (grammar : Grammar) (graph : List (List ℕ)) (out : List ℕ) : Type 0 where
   pub written : List ℕ
   pub taken : Takes old new written
-  pub replies : AreReplies empty_grammar first (written ++ out)
+  pub answers : AreAnswers full_sizes empty_grammar first [] graph (written ++ out)
   pub same : grammar ≡ grammar_after_all empty_grammar first
 
-pub answered_none : (taken : Option (List ℕ)) (grammar : Grammar) → grammar ≡ empty_grammar → IsAnswered taken taken [] grammar []
-answered_none known grammar e = record { written = []; taken = Takes-none known; replies = none; same = e }
+pub answered_none : (taken : Option (List ℕ)) (grammar : Grammar) (graph : List (List ℕ)) → grammar ≡ empty_grammar → graph ≡ []
+    → IsAnswered taken taken [] grammar graph []
+answered_none known grammar graph e no_row =
+    record { written = []; taken = Takes-none known; answers = subst (λ rows. AreAnswers full_sizes empty_grammar [] [] rows []) (sym no_row) none; same = e }
 
-pub answered_more : (old new : Option (List ℕ)) (first : List Block) (block : Block) (grammar next : Grammar) (out appended : List ℕ)
-    → IsAnswered old new first grammar out
-    → AnswersBlock grammar block out appended → next ≡ grammar_behind grammar block → IsAnswered old new (first ++ block ∷ []) next appended
-answered_more old new first (Par commands) grammar next out appended so_far answers next-is = absurd answers
-answered_more old new first (Alone command) grammar next out appended so_far answers next-is = record {
+pub answered_more : (old new : Option (List ℕ)) (first : List Block) (block : Block) (grammar next : Grammar) (before after : BenchMeaning)
+    (out appended : List ℕ)
+    → IsAnswered old new first grammar before.graph out → before.sizes ≡ full_sizes
+    → AnswersBlock grammar block before after out appended → next ≡ grammar_behind grammar block
+    → IsAnswered old new (first ++ block ∷ []) next after.graph appended
+answered_more old new first (Par commands) grammar next before after out appended so_far full answers next-is = absurd answers
+answered_more old new first (Alone command) grammar next before after out appended so_far full answers next-is = record {
   written = so_far.written;
   taken = so_far.taken;
-  replies =
-      let all = AreReplies-push empty_grammar first command (so_far.written ++ out) answers.reply so_far.replies
-      (subst (λ g. IsReply g command answers.reply) so_far.same answers.is) in
+  answers =
+      let leaves : LeavesGraph full_sizes grammar command answers.reply before.graph after.graph =
+      subst (λ z. LeavesGraph z grammar command answers.reply before.graph after.graph) full answers.graph in
+      let all = answers_push full_sizes empty_grammar first command [] before.graph after.graph (so_far.written ++ out) answers.reply so_far.answers
+      (subst (λ g. IsReply g command answers.reply) so_far.same answers.is)
+      (subst (λ g. LeavesGraph full_sizes g command answers.reply before.graph after.graph) so_far.same leaves) in
       let text : reply_text (grammar_after_all empty_grammar first).symbols answers.reply ≡ reply_text grammar.symbols answers.reply =
       ap (λ (g : Grammar). reply_text g.symbols answers.reply) (sym so_far.same) in
-      subst (AreReplies empty_grammar (first ++ Alone command ∷ []))
+      subst (AreAnswers full_sizes empty_grammar (first ++ Alone command ∷ []) [] after.graph)
       (ap (λ t. (so_far.written ++ out) ++ t) text ∙ append_assoc so_far.written out (reply_text grammar.symbols answers.reply) ∙ ap (λ bytes. so_far.written
       ++ bytes) (sym answers.appended)) all;
   same = next-is ∙ ap (λ g. grammar_after g command) so_far.same ∙ sym (grammar_after_all-push empty_grammar first (Alone command));
 }
 
-pub answered_flushed : (old between new : Option (List ℕ)) (first : List Block) (grammar : Grammar) (out gone left : List ℕ)
-    → IsAnswered old between first grammar out
-    → Takes between new gone → out ≡ gone ++ left → IsAnswered old new first grammar left
-answered_flushed old between new first grammar out gone left so_far takes parts = record {
+pub answered_flushed : (old between new : Option (List ℕ)) (first : List Block) (grammar : Grammar) (graph : List (List ℕ)) (out gone left : List ℕ)
+    → IsAnswered old between first grammar graph out
+    → Takes between new gone → out ≡ gone ++ left → IsAnswered old new first grammar graph left
+answered_flushed old between new first grammar graph out gone left so_far takes parts = record {
   written = so_far.written ++ gone;
   taken = Takes-append old between new so_far.written gone so_far.taken takes;
-  replies = subst (AreReplies empty_grammar first) (ap (λ bytes. so_far.written ++ bytes) parts ∙ sym (append_assoc so_far.written gone left)) so_far.replies;
+  answers = subst (AreAnswers full_sizes empty_grammar first [] graph) (ap (λ bytes. so_far.written ++ bytes) parts
+  ∙ sym (append_assoc so_far.written gone left)) so_far.answers;
   same = so_far.same;
 }
 
-pub answered_stop : (old new : Option (List ℕ)) (blocks : List Block) (i : ℕ) (grammar : Grammar) (out : List ℕ)
-    → IsAnswered old new (take i blocks) grammar out → StopsInReplies old new blocks
-answered_stop old new blocks i grammar out so_far = record {
+pub answered_stop : (old new : Option (List ℕ)) (blocks : List Block) (i : ℕ) (grammar : Grammar) (graph : List (List ℕ)) (out : List ℕ)
+    → IsAnswered old new (take i blocks) grammar graph out → StopsInReplies old new blocks
+answered_stop old new blocks i grammar graph out so_far = record {
   first = take i blocks;
   others = drop i blocks;
   parts = sym (take-append-drop i blocks);
+  last = graph;
   output = so_far.written ++ out;
-  replies = so_far.replies;
+  answers = so_far.answers;
   taken = (length so_far.written, omega (arith, length-append so_far.written out), rw (take-append_seam so_far.written out) so_far.taken);
 }
 
-pub answered_refused : (old between new : Option (List ℕ)) (blocks first others : List Block) (grammar : Grammar) (out : List ℕ) → blocks ≡ first ++ others
-    → IsAnswered old between first grammar out
-    → TakesPrefix between new out → StopsInReplies old new blocks
-answered_refused old between new blocks first others grammar out parts so_far prefix = record {
+pub answered_refused : (old between new : Option (List ℕ)) (blocks first others : List Block) (grammar : Grammar) (graph : List (List ℕ)) (out : List ℕ)
+    → blocks ≡ first ++ others → IsAnswered old between first grammar graph out → TakesPrefix between new out → StopsInReplies old new blocks
+answered_refused old between new blocks first others grammar graph out parts so_far prefix = record {
   first = first;
   others = others;
   parts = parts;
+  last = graph;
   output = so_far.written ++ out;
-  replies = so_far.replies;
+  answers = so_far.answers;
   taken = (
     length so_far.written + prefix.0,
     omega (arith, length-append so_far.written out, prefix.1),
@@ -103,12 +117,16 @@ answered_refused old between new blocks first others grammar out parts so_far pr
   );
 }
 
-pub answered_whole : (old between new : Option (List ℕ)) (blocks : List Block) (i : ℕ) (grammar : Grammar) (out : List ℕ) → length blocks ≤ i
-    → IsAnswered old between (take i blocks) grammar out
-    → Takes between new out → AnswersAll old new blocks
-answered_whole old between new blocks i grammar out all so_far takes = record {
+pub answered_whole : (old between new : Option (List ℕ)) (blocks : List Block) (i : ℕ) (grammar : Grammar) (bench : BenchMeaning) (out : List ℕ)
+    → length blocks ≤ i
+    → IsAnswered old between (take i blocks) grammar bench.graph out → IsBenchBehind (take i blocks) bench → Takes between new out
+    → AnswersAll old new blocks bench
+answered_whole old between new blocks i grammar bench out all so_far behind takes = record {
   output = so_far.written ++ out;
-  replies = subst (λ bs. AreReplies empty_grammar bs (so_far.written ++ out)) (take_all i blocks all) so_far.replies;
+  over = record {
+    behind = subst (λ bs. IsBenchBehind bs bench) (take_all i blocks all) behind;
+    answers = subst (λ bs. AreAnswers full_sizes empty_grammar bs [] bench.graph (so_far.written ++ out)) (take_all i blocks all) so_far.answers;
+  };
   taken = Takes-append old between new so_far.written out so_far.taken takes;
 }
 

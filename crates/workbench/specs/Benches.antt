@@ -1,37 +1,57 @@
--- What commands make of the bench over which they run, one after the other.
-use Rattle.std.specs.Prelude.{◌≡◌, ◌+◌, ℕ, List, [], ◌∷◌, Option, Some, None}
-use Rattle.bench_io.specs.Known.{IsKnownAs}
+-- How commands are answered over one bench, one after the other, and what they make of it.
+use Rattle.std.specs.Prelude.{◌≡◌, ◌+◌, ℕ, List, [], ◌∷◌, ◌++◌, Option, Some, None}
 use Rattle.edit_log.specs.History.{Grammar, empty_grammar}
 use Rattle.script_text.specs.declared.command.Command.{Command}
 use Rattle.script_text.specs.declared.command.Block.{Block}
 use Rattle.script_text.specs.declared.command.Block.TheVariants.{Alone, Par}
-use Rattle.script_text.specs.declared.command.Script.{Script}
-use Rattle.script_text.specs.Scripts.{SpellsScript}
 use Rattle.pin_rule.specs.declared.limits.TheConstants.{MOST_PINS}
+use Rattle.pin_rule.specs.declared.sizes.Sizes.{Sizes}
 use Rattle.pin_rule.specs.Layout.{full_sizes}
 use Rattle.version_store.specs.declared.bench.Bench.{Bench}
 use Rattle.version_store.specs.Meaning.{BenchMeaning}
 use Rattle.version_store.specs.Means.{bench_of}
 use Rattle.graph_content.specs.Contents.{IsLogOfGrammar}
-use Rattle.replies.specs.Replies.{grammar_after}
+use Rattle.live_graph.specs.declared.tally.Tallies.{Tallies}
+use Rattle.replies.specs.declared.reply.Reply.{Reply}
+use Rattle.replies.specs.Lines.{reply_text}
+use Rattle.replies.specs.Replies.{IsReply, grammar_after}
 use Rattle.replies.specs.Blocks.{grammar_after_all}
 use Rattle.sections.specs.Commands.{pins_for}
-use Rattle.sections.specs.Shared.{SharesFor, AreShared}
+use Rattle.sections.specs.Laziness.{SharesRows}
 
 -- ---- one command
 
--- the bench after a command that was answered, under the grammar that the commands before it made
-pub record ServesCommand (grammar : Grammar) (command : Command) (old new : BenchMeaning) : Type 0 where
+-- the graph after a command that was answered so, by what it asked the graph before it for
+pub record LeavesGraph (z : Sizes) (grammar : Grammar) (command : Command) (reply : Reply) (first last : List (List ℕ)) : Type 0 where
+  pub tallies : Tallies
+  pub before : ℕ
+  pub after : ℕ
+  pub shares : SharesRows z grammar command reply tallies before after first last
+
+-- The command was answered under the grammar that those before it made: the lines of its reply were appended, and the bench serves the next one. Its log is that
+-- of the next grammar, and it lacks the pins that the command took.
+pub record AnswersCommand (grammar : Grammar) (command : Command) (old new : BenchMeaning) (out_old out_new : List ℕ) : Type 0 where
+  pub reply : Reply
+  pub is : IsReply grammar command reply
+  pub appended : out_new ≡ out_old ++ reply_text grammar.symbols reply
   pub log : IsLogOfGrammar new.log (grammar_after grammar command)
   pub sizes : new.sizes ≡ old.sizes
   pub pins : new.pins_left + pins_for command ≡ old.pins_left
-  pub rows : SharesFor old.sizes grammar command old.graph new.graph
+  pub graph : LeavesGraph old.sizes grammar command reply old.graph new.graph
 
-abbrev pub ServesBlock : Grammar → Block → (old new : BenchMeaning) → Type 0
-ServesBlock grammar (Alone command) old new = ServesCommand grammar command old new
-ServesBlock grammar (Par commands) old new = ⊥
+abbrev pub AnswersBlock : Grammar → Block → (old new : BenchMeaning) → (out_old out_new : List ℕ) → Type 0
+AnswersBlock grammar (Alone command) old new out_old out_new = AnswersCommand grammar command old new out_old out_new
+AnswersBlock grammar (Par commands) old new out_old out_new = ⊥
 
 -- ---- all commands
+
+-- The lines of the replies to the commands, one after the other: each is answered under the grammar that those before it made, and over the graph that they
+-- left. The graph is this at first, and that at last.
+pub data AreAnswers (z : Sizes) : Grammar → List Block → (first last : List (List ℕ)) → List ℕ → Type 0 where
+  none : {grammar : Grammar} {rows : List (List ℕ)} → AreAnswers z grammar [] rows rows []
+  more : {grammar : Grammar} {command : Command} {blocks : List Block} {reply : Reply} {first next last : List (List ℕ)} {lines : List ℕ} →
+      IsReply grammar command reply → LeavesGraph z grammar command reply first next → AreAnswers z (grammar_after grammar command) blocks next last lines
+      → AreAnswers z grammar (Alone command ∷ blocks) first last (reply_text grammar.symbols reply ++ lines)
 
 -- how many pins the blocks take
 abbrev pub pins_for_all : List Block → ℕ
@@ -39,25 +59,19 @@ pins_for_all [] = 0
 pins_for_all (Alone command ∷ blocks) = pins_for command + pins_for_all blocks
 pins_for_all (Par commands ∷ blocks) = pins_for_all blocks
 
--- The bench of the largest sizes that was new before the first block, and has served all of them: its log is that of the grammar behind them, it lacks a pin
--- for each text, and its graph is what the commands left.
+-- The bench of the largest sizes that was new before the first block, and has served all of them: its log is that of the grammar behind them, and it lacks a pin
+-- for each text.
 pub record IsBenchBehind (blocks : List Block) (bench : BenchMeaning) : Type 0 where
   pub log : IsLogOfGrammar bench.log (grammar_after_all empty_grammar blocks)
   pub sizes : bench.sizes ≡ full_sizes
   pub pins : bench.pins_left + pins_for_all blocks ≡ MOST_PINS
-  pub rows : AreShared full_sizes empty_grammar blocks [] bench.graph
 
--- ---- a run
+-- these are the lines of the replies to the blocks, which ran over this new bench
+pub record AnswersOver (blocks : List Block) (bench : BenchMeaning) (lines : List ℕ) : Type 0 where
+  pub behind : IsBenchBehind blocks bench
+  pub answers : AreAnswers full_sizes empty_grammar blocks [] bench.graph lines
 
--- there is a bench, and it is the one behind these blocks
-abbrev pub HasBenchBehind : {C : Type 0} → List Block → Option (Bench C) → Type 0
-HasBenchBehind blocks None = ⊥
-HasBenchBehind blocks (Some bench) = IsBenchBehind blocks (bench_of bench)
-
--- the source gave this script, which is good, and there is the bench behind its blocks
-pub record RunsOverBench {C : Type 0} (left : Option (List ℕ)) (bench : Option (Bench C)) : Type 0 where
-  pub script : List ℕ
-  pub given : IsKnownAs left script
-  pub read : Script
-  pub good : SpellsScript script read
-  pub behind : HasBenchBehind read.blocks bench
+-- there is a bench, and these are the lines of the replies to the blocks, which ran over it
+abbrev pub RanOver : {C : Type 0} → List Block → Option (Bench C) → List ℕ → Type 0
+RanOver blocks None lines = ⊥
+RanOver blocks (Some bench) lines = AnswersOver blocks (bench_of bench) lines

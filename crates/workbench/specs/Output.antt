@@ -1,17 +1,19 @@
 -- What the workbench writes for a script.
-use Rattle.std.specs.Prelude.{◌<◌, ◌≤◌, ℕ, List, length}
+use Rattle.std.specs.Prelude.{◌<◌, ◌≤◌, ℕ, List, [], length}
 use Rattle.edit_log.specs.History.{empty_grammar}
+use Rattle.pin_rule.specs.Layout.{full_sizes}
 use Rattle.script_text.specs.declared.command.Script.{Script}
 use Rattle.script_text.specs.declared.bad_script.BadScript.{BadScript}
 use Rattle.script_text.specs.declared.limits.TheConstants.{SCRIPT_LIMIT}
 use Rattle.script_text.specs.Scripts.{SpellsScript, IsFirstBad}
 use Rattle.replies.specs.Lines.{bad_line}
-use Rattle.replies.specs.Replies.{AreReplies}
+use Rattle.workbench.specs.Benches.{AreAnswers}
 
--- the output of a script that is not too long: the replies to its commands, or the line for its first bad line
+-- The output of a script that is not too long: the replies to its commands, which run over one new bench of the largest sizes, or the line for its first bad
+-- line.
 pub data IsOutput (script : List ℕ) : List ℕ → Type 0 where
-  replies : {output : List ℕ} (read : Script) → length script ≤ SCRIPT_LIMIT → SpellsScript script read → AreReplies empty_grammar read.blocks output
-      → IsOutput script output
+  replies : {output : List ℕ} {last : List (List ℕ)} (read : Script) → length script ≤ SCRIPT_LIMIT → SpellsScript script read
+      → AreAnswers full_sizes empty_grammar read.blocks [] last output → IsOutput script output
   refusal : (bad : BadScript) → length script ≤ SCRIPT_LIMIT → IsFirstBad script bad → IsOutput script (bad_line bad)
 
 -- the script is too long or has a bad line

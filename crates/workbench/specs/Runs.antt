@@ -2,20 +2,29 @@
 use Rattle.std.specs.Prelude.{◌≡◌, ◌≤◌, ℕ, List, [], ◌++◌, length, Option}
 use Rattle.bench_io.specs.Known.{Takes, IsKnownAs}
 use Rattle.edit_log.specs.History.{empty_grammar}
+use Rattle.pin_rule.specs.Layout.{full_sizes}
+use Rattle.version_store.specs.declared.bench.Bench.{Bench}
+use Rattle.version_store.specs.Meaning.{BenchMeaning}
 use Rattle.script_text.specs.declared.command.Block.{Block}
 use Rattle.script_text.specs.declared.command.Script.{Script}
 use Rattle.script_text.specs.declared.bad_script.BadScript.{BadScript}
 use Rattle.script_text.specs.declared.limits.TheConstants.{SCRIPT_LIMIT}
 use Rattle.script_text.specs.Scripts.{SpellsScript, IsFirstBad}
 use Rattle.replies.specs.Lines.{bad_line}
-use Rattle.replies.specs.Replies.{AreReplies}
 use Rattle.workbench.specs.Pieces.{TakesPrefix, TakesProperPrefix}
+use Rattle.workbench.specs.Benches.{AreAnswers, AnswersOver, RanOver}
 use Rattle.workbench.specs.Output.{IsOutput}
 
--- the sink took all the replies to these blocks
-pub record AnswersAll (old new : Option (List ℕ)) (blocks : List Block) : Type 0 where
+-- the sink took all the replies to these blocks, which ran over this bench
+pub record AnswersAll (old new : Option (List ℕ)) (blocks : List Block) (bench : BenchMeaning) : Type 0 where
   pub output : List ℕ
-  pub replies : AreReplies empty_grammar blocks output
+  pub over : AnswersOver blocks bench output
+  pub taken : Takes old new output
+
+-- the sink took all the replies to these blocks, which ran over the bench that is there
+pub record WritesAll {C : Type 0} (old new : Option (List ℕ)) (blocks : List Block) (bench : Option (Bench C)) : Type 0 where
+  pub output : List ℕ
+  pub over : RanOver blocks bench output
   pub taken : Takes old new output
 
 -- the sink took a prefix of the replies to these blocks, at least up to where it stopped: a prefix of the replies to the first of them
@@ -23,8 +32,9 @@ pub record StopsInReplies (old new : Option (List ℕ)) (blocks : List Block) : 
   pub first : List Block
   pub others : List Block
   pub parts : blocks ≡ first ++ others
+  pub last : List (List ℕ)
   pub output : List ℕ
-  pub replies : AreReplies empty_grammar first output
+  pub answers : AreAnswers full_sizes empty_grammar first [] last output
   pub taken : TakesPrefix old new output
 
 -- the sink took a prefix of the script's output, and of the line for a first bad line not all
@@ -38,14 +48,15 @@ pub record IsSourceRead (left_old left_new : Option (List ℕ)) (script : List �
   pub ended : IsKnownAs left_new []
   pub short : length script ≤ SCRIPT_LIMIT
 
--- the source was read to its end, its script is good, and the sink took exactly its output
-pub record RunsWhole (left_old left_new taken_old taken_new : Option (List ℕ)) : Type 0 where
+-- the source was read to its end, its script is good, and the sink took exactly its output; its commands ran over the bench that is there
+pub record RunsWhole {C : Type 0} (left_old left_new taken_old taken_new : Option (List ℕ)) (bench : Option (Bench C)) : Type 0 where
   pub script : List ℕ
   pub is_read : IsSourceRead left_old left_new script
   pub read : Script
   pub good : SpellsScript script read
   pub output : List ℕ
   pub is : IsOutput script output
+  pub over : RanOver read.blocks bench output
   pub taken : Takes taken_old taken_new output
 
 -- the source was read to its end, its script has a first bad line, and the sink took exactly the line for it

@@ -5,8 +5,8 @@ ghost use Rattle.edit_log.specs.declared.limits.TheConstants.{LOG_LIMIT};
 ghost use Rattle.graph_content.specs.Contents.{IsLogOfGrammar};
 ghost use Rattle.version_store.specs.Means.{bench_of};
 ghost use Rattle.replies.specs.Replies.{grammar_after};
-ghost use Rattle.replies.specs.Blocks.{IsProperCommand, IsProperBlock, grammar_behind, AnswersBlock, RepliesWith};
-ghost use Rattle.workbench.specs.Benches.{ServesCommand, ServesBlock};
+ghost use Rattle.replies.specs.Blocks.{IsProperCommand, IsProperBlock, grammar_behind};
+ghost use Rattle.workbench.specs.Benches.{AnswersCommand, AnswersBlock};
 
 use graph_content::GraphRows;
 use replies::put_reply;
@@ -35,8 +35,7 @@ fn answer_with<L: Ledger>(
     requires full { (bench_of bench).sizes.log ≡ LOG_LIMIT }
     requires pins { 0 < (bench_of bench).pins_left }
     ensures next { OnOk result (crew.new ≡ grammar_after crew.old command.now) }
-    ensures replied { OnOk result (RepliesWith crew.old command.now out.old.items out.new.items) }
-    ensures serves { IfOk result (λ next. ServesCommand crew.old command.now (bench_of bench) (bench_of next)) }
+    ensures answers { IfOk result (λ next. AnswersCommand crew.old command.now (bench_of bench) (bench_of next) out.old.items out.new.items) }
 {
     let mut steps = Steps::<L>::new(blank);
     let alone = match run_alone(alloc, bench, crew, command, &mut steps) {
@@ -62,8 +61,7 @@ fn answer(
     requires full { (bench_of bench).sizes.log ≡ LOG_LIMIT }
     requires pins { 0 < (bench_of bench).pins_left }
     ensures next { OnOk result (crew.new ≡ grammar_after crew.old command.now) }
-    ensures replied { OnOk result (RepliesWith crew.old command.now out.old.items out.new.items) }
-    ensures serves { IfOk result (λ next. ServesCommand crew.old command.now (bench_of bench) (bench_of next)) }
+    ensures answers { IfOk result (λ next. AnswersCommand crew.old command.now (bench_of bench) (bench_of next) out.old.items out.new.items) }
 {
     answer_with::<Brand>(alloc, bench, crew, command, out, Blank::new(1))
 }
@@ -81,8 +79,7 @@ pub(crate) fn answer_block(
     requires full { (bench_of bench).sizes.log ≡ LOG_LIMIT }
     requires pins { 0 < (bench_of bench).pins_left }
     ensures next { OnOk result (crew.new ≡ grammar_behind crew.old block.now) }
-    ensures replied { OnOk result (AnswersBlock crew.old block.now out.old.items out.new.items) }
-    ensures serves { IfOk result (λ next. ServesBlock crew.old block.now (bench_of bench) (bench_of next)) }
+    ensures answers { IfOk result (λ next. AnswersBlock crew.old block.now (bench_of bench) (bench_of next) out.old.items out.new.items) }
 {
     match block {
         Block::Alone(command) => answer(alloc, bench, crew, command, out),

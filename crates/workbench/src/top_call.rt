@@ -12,8 +12,7 @@ ghost use Rattle.workbench.specs.declared.top_call.TheConstants.{WRITE_SIZE};
 ghost use Rattle.workbench.specs.Ends.{IsLate, IsFree, EndsBy, IsSilent, StopsBeforeEnd};
 ghost use Rattle.replies.specs.Blocks.{IsProperBlock};
 ghost use Rattle.version_store.specs.Means.{bench_of};
-ghost use Rattle.workbench.specs.Benches.{IsBenchBehind, HasBenchBehind, RunsOverBench};
-ghost use Rattle.workbench.specs.Runs.{AnswersAll, StopsInReplies, StopsInOutput, RunsWhole, RunsBad, StopsEarly};
+ghost use Rattle.workbench.specs.Runs.{AnswersAll, WritesAll, StopsInReplies, StopsInOutput, RunsWhole, RunsBad, StopsEarly};
 ghost use Rattle.workbench.specs.Output.{IsOutput, IsBadScript};
 ghost use Rattle.workbench.specs.Pieces.{TakesPrefix, TakesProperPrefix, GivesCount, TellsBytes};
 ghost use Rattle.replies.specs.Lines.{bad_line};
@@ -97,8 +96,7 @@ fn answer_all<K: Sink>(
 ) -> Result<Bench<GraphRows>, Fault>
     requires proper { AllByRecursion IsProperBlock blocks.now }
     requires few { length blocks.now ≤ COMMAND_LIMIT }
-    ensures whole { OnOk result (AnswersAll (K.taken sink.old) (K.taken sink.new) blocks.now) }
-    ensures bench { IfOk result (λ bench. IsBenchBehind blocks.now (bench_of bench)) }
+    ensures whole { IfOk result (λ bench. AnswersAll (K.taken sink.old) (K.taken sink.new) blocks.now (bench_of bench)) }
     ensures front { OnErr result (StopsInReplies (K.taken sink.old) (K.taken sink.new) blocks.now) }
     ensures counted { K.faults sink.old ≤ K.faults sink.new }
     ensures failed { IsErrOf result Fault.Failed → HasRisen (K.faults sink.old) (K.faults sink.new) }
@@ -155,9 +153,8 @@ fn status_after(written: Result<(), Fault>) -> Status
 fn run_script<K: Sink>(alloc: Global, script: &[u8], sink: &mut K) -> Ended
     requires { length script.now ≤ SCRIPT_LIMIT }
     ensures late { IsLate result.status }
-    ensures done { result.status ≡ Status.Done
-        → (read : AScript) × SpellsScript script.now read × AnswersAll (K.taken sink.old) (K.taken sink.new) read.blocks }
-    ensures bench { result.status ≡ Status.Done → (read : AScript) × SpellsScript script.now read × HasBenchBehind read.blocks result.bench }
+    ensures done { result.status ≡ Status.Done → (read : AScript) × SpellsScript script.now read
+        × WritesAll (K.taken sink.old) (K.taken sink.new) read.blocks result.bench }
     ensures no_bench { result.status ≢ Status.Done → result.bench ≡ None }
     ensures bad_script { result.status ≡ Status.BadScript → (bad : ABadScript) × IsFirstBad script.now bad
         × Takes (K.taken sink.old) (K.taken sink.new) (bad_line bad) }
@@ -206,8 +203,7 @@ pub fn run<S: Source, K: Sink>(
 
     // A run to the end.
     ensures done { result.status ≡ Status.Done
-        → RunsWhole (S.left source.old) (S.left source.new) (K.taken sink.old) (K.taken sink.new) }
-    ensures bench { result.status ≡ Status.Done → RunsOverBench (S.left source.old) result.bench }
+        → RunsWhole (S.left source.old) (S.left source.new) (K.taken sink.old) (K.taken sink.new) result.bench }
     ensures no_bench { result.status ≢ Status.Done → result.bench ≡ None }
     ensures bad_script { result.status ≡ Status.BadScript
         → RunsBad (S.left source.old) (S.left source.new) (K.taken sink.old) (K.taken sink.new) }

@@ -6,7 +6,7 @@ use Rattle.workbench.proofs.top_call.answer_all.Given as goal
 
 abbrev pub invariant-loop-block : goal.invariant-loop-block
 invariant-loop-block g l = record {
-  answered : IsAnswered (g.K.Sink.taken l.initial.sink) (g.K.Sink.taken l.sink) (take l.block-index l.blocks) l.crew l.out.items;
-  bench : IsBenchBehind (take l.block-index l.blocks) (bench_of l.bench);
+  answered : IsAnswered (g.K.Sink.taken l.initial.sink) (g.K.Sink.taken l.sink) (take l.block-index l.blocks) l.crew (bench_of l.bench).graph l.out.items;
+  behind : IsBenchBehind (take l.block-index l.blocks) (bench_of l.bench);
   counted : g.K.Sink.faults l.initial.sink ≤ g.K.Sink.faults l.sink;
 }
