@@ -4,3 +4,7 @@ pub mod OriginCounts
 pub mod UsedGraphs
 pub mod AskedKeys
 pub mod TextUses
+pub mod RowCounts
+pub mod RowsHeld
+pub mod KeysFollow
+pub mod RoomyLists

@@ -5,3 +5,4 @@ pub mod Editing
 pub mod Alone
 pub mod Laziness
 pub mod Shared
+pub mod HeldKeys

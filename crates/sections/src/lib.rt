@@ -8,7 +8,9 @@
 mod alone;
 mod crew;
 mod editing;
+mod laws;
 mod texts;
 
 pub use alone::{Alone, AloneError, run_alone};
 pub use crew::Crew;
+pub use laws::{keys_follow, roomy_is_exact};
