@@ -35,7 +35,8 @@ use Rattle.sections.proofs.RowsHeld.{one_key_for, narrow_by, fills}
 
 -- ---- texts
 
-module _ (z : Sizes) (log : List Entry) (grammar : Grammar) (is_log : IsLogOfGrammar log grammar) (first last : List (List ℕ)) (fit : AllFit grammar first) where
+module _ (z : Sizes) (log : List Entry) (grammar : Grammar) (is_log : IsLogOfGrammar log grammar) (first last : List (List ℕ))
+    (fit : AllFit grammar first) where
   module _ (asked : List Key) (tallies : Tallies) (before after : ℕ) (uses : UsesGraph z grammar asked first last tallies before after) where
     used_fit : AllFit grammar last
     used_fit row there = elim (uses.only row there) [ inl old ↦ fit row old | inr (key, among, is, room) ↦ (key, is) ]
