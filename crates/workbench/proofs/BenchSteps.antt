@@ -1,5 +1,7 @@
 -- What the blocks make of a bench, one after the other.
-use Rattle.std.proofs.Common.{◌≡◌, ℕ, ◌+◌, ◌≤◌, ◌<◌, List, [], ◌∷◌, ◌++◌, length, take, refl, ap, sym, ◌∙◌, subst, arith, length-take}
+use Rattle.std.proofs.Common.{◌≡◌, ℕ, ◌+◌, ◌≤◌, ◌<◌, List, [], ◌∷◌, ◌++◌, length, take, Option, Some, None, refl, ap, sym, ◌∙◌, subst, arith}
+use Rattle.std.proofs.Common.{length-take}
+use Rattle.bench_io.specs.Known.{Takes}
 use Rattle.edit_log.specs.declared.limits.TheConstants.{LOG_LIMIT}
 use Rattle.edit_log.specs.History.{Grammar, empty_grammar}
 use Rattle.script_text.specs.declared.command.Command.{Command}
@@ -17,7 +19,11 @@ use Rattle.replies.specs.Replies.{grammar_after}
 use Rattle.replies.specs.Blocks.{grammar_behind, grammar_after_all}
 use Rattle.sections.specs.Commands.{pins_for}
 use Rattle.workbench.specs.Benches.{AnswersCommand, AnswersBlock, pins_for_all, IsBenchBehind}
-use Rattle.workbench.proofs.RunSteps.{grammar_after_all-push}
+use Rattle.workbench.specs.Pieces.{TakesPrefix}
+use Rattle.workbench.specs.Runs.{AnswersAll, StopsInReplies}
+use Rattle.workbench.specs.Serving.{HasBench}
+use Rattle.workbench.proofs.RunSteps.{grammar_after_all-push, IsAnswered, answered_none, answered_more, answered_flushed, answered_stop, answered_refused}
+use Rattle.workbench.proofs.RunSteps.{answered_whole}
 
 -- ---- before the first block
 
@@ -88,3 +94,80 @@ log_for blocks bench grammar behind same = subst (IsLogOfGrammar bench.log) (sym
 -- a command finds a pin, where there is one
 pub not_spent : (command : Command) (left : ℕ) → 0 < left → left < pins_for command → ⊥
 not_spent command left some less = omega (arith, pins_one command, some, less)
+
+-- ---- what serves the blocks
+
+-- the blocks are answered, and the bench is the one behind them
+pub record IsServed (old new : Option (List ℕ)) (first : List Block) (grammar : Grammar) (out : List ℕ) (bench : BenchMeaning) : Type 0 where
+  pub answered : IsAnswered old new first grammar bench.graph out
+  pub behind : IsBenchBehind first bench
+
+-- what follows for a bench follows for the one that is there
+has : (P Q : BenchMeaning → Type 0) (bench : Option BenchMeaning) → ((b : BenchMeaning) → P b → Q b) → HasBench bench P → HasBench bench Q
+has P Q None each there = there
+has P Q (Some b) each there = each b there
+
+-- what follows for any bench follows where there is one
+from_bench : (P : BenchMeaning → Type 0) {Q : Type 0} (bench : Option BenchMeaning) → ((b : BenchMeaning) → P b → Q) → HasBench bench P → Q
+from_bench P None each there = absurd there
+from_bench P (Some b) each there = each b there
+
+pub served_none : (taken : Option (List ℕ)) (grammar : Grammar) (bench : Option BenchMeaning) → grammar ≡ empty_grammar → HasBench bench (IsNewBench full_sizes)
+    → HasBench bench (IsServed taken taken [] grammar [])
+served_none taken grammar bench same = has (IsNewBench full_sizes) (IsServed taken taken [] grammar []) bench
+    (λ b is. record { answered = answered_none taken grammar b.graph same is.graph; behind = bench_none b is })
+
+pub served_more : (old new : Option (List ℕ)) (first : List Block) (block : Block) (grammar next : Grammar) (before after : Option BenchMeaning)
+    (out appended : List ℕ) → HasBench before (IsServed old new first grammar out)
+    → HasBench before (λ b. HasBench after (λ a. AnswersBlock grammar block b a out appended)) → next ≡ grammar_behind grammar block
+    → HasBench after (IsServed old new (first ++ block ∷ []) next appended)
+served_more old new first block grammar next None after out appended served answers is = absurd served
+served_more old new first block grammar next (Some b) None out appended served answers is = absurd answers
+served_more old new first block grammar next (Some b) (Some a) out appended served answers is = record {
+  answered = answered_more old new first block grammar next b a out appended served.answered served.behind.sizes answers is;
+  behind = bench_more first block grammar b a out appended served.behind served.answered.same answers;
+}
+
+pub served_flushed : (old between new : Option (List ℕ)) (first : List Block) (grammar : Grammar) (bench : Option BenchMeaning) (out gone left : List ℕ)
+    → HasBench bench (IsServed old between first grammar out) → Takes between new gone → out ≡ gone ++ left
+    → HasBench bench (IsServed old new first grammar left)
+served_flushed old between new first grammar bench out gone left served takes parts =
+    has (IsServed old between first grammar out) (IsServed old new first grammar left) bench
+    (λ b so_far. record {
+      answered = answered_flushed old between new first grammar b.graph out gone left so_far.answered takes parts;
+      behind = so_far.behind;
+    }) served
+
+pub served_stop : (old new : Option (List ℕ)) (blocks : List Block) (i : ℕ) (grammar : Grammar) (bench : Option BenchMeaning) (out : List ℕ)
+    → HasBench bench (IsServed old new (take i blocks) grammar out) → StopsInReplies old new blocks
+served_stop old new blocks i grammar bench out =
+    from_bench (IsServed old new (take i blocks) grammar out) bench (λ b so_far. answered_stop old new blocks i grammar b.graph out so_far.answered)
+
+pub served_refused : (old between new : Option (List ℕ)) (blocks first others : List Block) (grammar : Grammar) (bench : Option BenchMeaning) (out : List ℕ)
+    → blocks ≡ first ++ others → HasBench bench (IsServed old between first grammar out) → TakesPrefix between new out → StopsInReplies old new blocks
+served_refused old between new blocks first others grammar bench out parts served prefix =
+    from_bench (IsServed old between first grammar out) bench
+    (λ b so_far. answered_refused old between new blocks first others grammar b.graph out parts so_far.answered prefix) served
+
+pub served_whole : (old between new : Option (List ℕ)) (blocks : List Block) (i : ℕ) (grammar : Grammar) (bench : Option BenchMeaning) (out : List ℕ)
+    → length blocks ≤ i → HasBench bench (IsServed old between (take i blocks) grammar out) → Takes between new out
+    → HasBench bench (AnswersAll old new blocks)
+served_whole old between new blocks i grammar bench out all served takes =
+    has (IsServed old between (take i blocks) grammar out) (AnswersAll old new blocks) bench
+    (λ b so_far. answered_whole old between new blocks i grammar b out all so_far.answered so_far.behind takes) served
+
+-- ---- what the next block asks for
+
+module _ (old new : Option (List ℕ)) (blocks : List Block) (i : ℕ) (grammar : Grammar) (bench : Option BenchMeaning) (out : List ℕ)
+    (served : HasBench bench (IsServed old new (take i blocks) grammar out)) where
+  pub served_log : HasBench bench (λ b. IsLogOfGrammar b.log grammar)
+  served_log = has (IsServed old new (take i blocks) grammar out) (λ b. IsLogOfGrammar b.log grammar) bench
+      (λ b so_far. log_for (take i blocks) b grammar so_far.behind so_far.answered.same) served
+
+  pub served_full : HasBench bench (λ b. b.sizes.log ≡ LOG_LIMIT)
+  served_full = has (IsServed old new (take i blocks) grammar out) (λ b. b.sizes.log ≡ LOG_LIMIT) bench
+      (λ b so_far. log_is_full (take i blocks) b so_far.behind) served
+
+  pub served_pins : i < length blocks → length blocks ≤ COMMAND_LIMIT → HasBench bench (λ b. 0 < b.pins_left)
+  served_pins less few = has (IsServed old new (take i blocks) grammar out) (λ b. 0 < b.pins_left) bench
+      (λ b so_far. pins_there blocks i b less few so_far.behind) served

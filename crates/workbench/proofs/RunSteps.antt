@@ -85,7 +85,7 @@ answered_flushed old between new first grammar graph out gone left so_far takes 
   written = so_far.written ++ gone;
   taken = Takes-append old between new so_far.written gone so_far.taken takes;
   answers = subst (AreAnswers full_sizes empty_grammar first [] graph) (ap (λ bytes. so_far.written ++ bytes) parts
-  ∙ sym (append_assoc so_far.written gone left)) so_far.answers;
+      ∙ sym (append_assoc so_far.written gone left)) so_far.answers;
   same = so_far.same;
 }
 

@@ -6,6 +6,7 @@
 
 mod answering;
 mod laws;
+mod server;
 mod sink_writing;
 mod source_reading;
 mod top_call;

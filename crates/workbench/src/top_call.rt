@@ -11,21 +11,22 @@ ghost use Rattle.script_text.specs.Scripts.{SpellsScript, IsFirstBad};
 ghost use Rattle.workbench.specs.declared.top_call.TheConstants.{WRITE_SIZE};
 ghost use Rattle.workbench.specs.Ends.{IsLate, IsFree, EndsBy, IsSilent, StopsBeforeEnd};
 ghost use Rattle.replies.specs.Blocks.{IsProperBlock};
-ghost use Rattle.version_store.specs.Means.{bench_of};
+ghost use Rattle.edit_log.specs.History.{empty_grammar};
+ghost use Rattle.pin_rule.specs.Layout.{full_sizes};
+ghost use Rattle.version_store.specs.Meaning.{IsNewBench};
+ghost use Rattle.workbench.specs.Serving.{HasBench, bench_in};
 ghost use Rattle.workbench.specs.Runs.{AnswersAll, WritesAll, StopsInReplies, StopsInOutput, RunsWhole, RunsBad, StopsEarly};
 ghost use Rattle.workbench.specs.Output.{IsOutput, IsBadScript};
 ghost use Rattle.workbench.specs.Pieces.{TakesPrefix, TakesProperPrefix, GivesCount, TellsBytes};
 ghost use Rattle.replies.specs.Lines.{bad_line};
 
-use crate::answering::answer_block;
+use crate::server::Server;
 use crate::sink_writing::write_all;
 use crate::source_reading::{ReadError, read_all};
 use bench_io::{Fault, Sink, Source};
 use graph_content::GraphRows;
-use pin_rule::sizes::Sizes;
 use replies::put_bad_script;
 use script_text::{BadScript, Block, SCRIPT_LIMIT, ScriptError, read_script};
-use sections::Crew;
 use std::alloc::Global;
 use version_store::bench::Bench;
 
@@ -71,6 +72,17 @@ fn without_bench(status: Status) -> Ended
     }
 }
 
+/// A run that answered all its commands.
+fn with_bench(server: Server) -> Ended
+    ensures status { result.status ≡ Status.Done }
+    ensures bench { bench_in result.bench ≡ server.bench }
+{
+    Ended {
+        status: Status::Done,
+        bench: server.into_bench(),
+    }
+}
+
 /// Writes what was gathered, where it is much.
 fn flush_full<K: Sink>(sink: &mut K, out: &mut Vec<u8>) -> Result<(), Fault>
     ensures written { OnOk result ((gone : List ℕ) × Takes (K.taken sink.old) (K.taken sink.new) gone
@@ -88,28 +100,43 @@ fn flush_full<K: Sink>(sink: &mut K, out: &mut Vec<u8>) -> Result<(), Fault>
     Ok(())
 }
 
-/// Writes the replies to the blocks, which run over one new bench of the largest sizes. Told is the bench behind them.
-fn answer_all<K: Sink>(
+/// Writes the replies to the blocks, which this server of no command so far answers.
+fn answer_each<K: Sink>(
     alloc: Global,
     blocks: &[Block],
+    server: &mut Server,
     sink: &mut K,
-) -> Result<Bench<GraphRows>, Fault>
+) -> Result<(), Fault>
     requires proper { AllByRecursion IsProperBlock blocks.now }
     requires few { length blocks.now ≤ COMMAND_LIMIT }
-    ensures whole { IfOk result (λ bench. AnswersAll (K.taken sink.old) (K.taken sink.new) blocks.now (bench_of bench)) }
+    requires grammar { server.old.grammar ≡ empty_grammar }
+    requires bench { HasBench server.old.bench (IsNewBench full_sizes) }
+    ensures whole { OnOk result (HasBench server.new.bench (AnswersAll (K.taken sink.old) (K.taken sink.new) blocks.now)) }
     ensures front { OnErr result (StopsInReplies (K.taken sink.old) (K.taken sink.new) blocks.now) }
     ensures counted { K.faults sink.old ≤ K.faults sink.new }
     ensures failed { IsErrOf result Fault.Failed → HasRisen (K.faults sink.old) (K.faults sink.new) }
 {
-    let mut crew = Crew::new(alloc)?;
-    let mut bench = Bench::make(alloc, Sizes::full())?;
     let mut out = Vec::new(alloc);
     for block in blocks {
-        bench = answer_block(alloc, bench, &mut crew, block, &mut out)?;
+        server.answer(alloc, block, &mut out)?;
         flush_full(sink, &mut out)?;
     }
     write_all(sink, &out)?;
-    Ok(bench)
+    Ok(())
+}
+
+/// Writes the replies to the blocks, which run over one new bench of the largest sizes.
+fn answer_all<K: Sink>(alloc: Global, blocks: &[Block], sink: &mut K) -> Result<Server, Fault>
+    requires proper { AllByRecursion IsProperBlock blocks.now }
+    requires few { length blocks.now ≤ COMMAND_LIMIT }
+    ensures whole { IfOk result (λ server. HasBench server.bench (AnswersAll (K.taken sink.old) (K.taken sink.new) blocks.now)) }
+    ensures front { OnErr result (StopsInReplies (K.taken sink.old) (K.taken sink.new) blocks.now) }
+    ensures counted { K.faults sink.old ≤ K.faults sink.new }
+    ensures failed { IsErrOf result Fault.Failed → HasRisen (K.faults sink.old) (K.faults sink.new) }
+{
+    let mut server = Server::open(alloc)?;
+    answer_each(alloc, blocks, &mut server, sink)?;
+    Ok(server)
 }
 
 /// Writes the line for a bad script.
@@ -173,14 +200,11 @@ fn run_script<K: Sink>(alloc: Global, script: &[u8], sink: &mut K) -> Ended
         }
         Err(ScriptError::NoMemory) => return without_bench(Status::NoMemory),
     };
-    let bench = match answer_all(alloc, read.blocks.as_slice(), sink) {
-        Ok(bench) => bench,
+    let server = match answer_all(alloc, read.blocks.as_slice(), sink) {
+        Ok(server) => server,
         Err(fault) => return without_bench(status_of(fault)),
     };
-    Ended {
-        status: Status::Done,
-        bench: Some(bench),
-    }
+    with_bench(server)
 }
 
 /// Reads a script from the source and writes to the sink the replies to its commands, or one line where it has
@@ -189,12 +213,7 @@ fn run_script<K: Sink>(alloc: Global, script: &[u8], sink: &mut K) -> Ended
 /// The words are those of the command line, of which the first is the program's name. Nothing is written
 /// before the script has been read whole, and no command is run before all its lines were found good. Want of
 /// memory may end a run at any point.
-pub fn run<S: Source, K: Sink>(
-    alloc: Global,
-    words: &[&str],
-    source: &mut S,
-    sink: &mut K,
-) -> Ended
+pub fn run<S: Source, K: Sink>(alloc: Global, words: &[&str], source: &mut S, sink: &mut K) -> Ended
     requires { 0 < length words.now }
 
     // Only the program's name may stand in the words.
