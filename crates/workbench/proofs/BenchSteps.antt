@@ -13,15 +13,17 @@ use Rattle.pin_rule.specs.declared.limits.TheConstants.{MOST_PINS}
 use Rattle.pin_rule.specs.declared.content.Entry.{Entry}
 use Rattle.pin_rule.specs.declared.sizes.Sizes.{Sizes}
 use Rattle.pin_rule.specs.Layout.{full_sizes}
+use Rattle.version_store.specs.declared.bench.Bench.{Bench}
 use Rattle.version_store.specs.Meaning.{BenchMeaning, IsNewBench}
+use Rattle.version_store.specs.Means.{bench_of}
 use Rattle.graph_content.specs.Contents.{IsLogOfGrammar}
 use Rattle.replies.specs.Replies.{grammar_after}
 use Rattle.replies.specs.Blocks.{grammar_behind, grammar_after_all}
 use Rattle.sections.specs.Commands.{pins_for}
 use Rattle.workbench.specs.Benches.{AnswersCommand, AnswersBlock, pins_for_all, IsBenchBehind}
 use Rattle.workbench.specs.Pieces.{TakesPrefix}
-use Rattle.workbench.specs.Runs.{AnswersAll, StopsInReplies}
-use Rattle.workbench.specs.Serving.{HasBench}
+use Rattle.workbench.specs.Runs.{AnswersAll, WritesAll, StopsInReplies}
+use Rattle.workbench.specs.Serving.{HasBench, bench_in}
 use Rattle.workbench.proofs.RunSteps.{grammar_after_all-push, IsAnswered, answered_none, answered_more, answered_flushed, answered_stop, answered_refused}
 use Rattle.workbench.proofs.RunSteps.{answered_whole}
 
@@ -155,6 +157,14 @@ pub served_whole : (old between new : Option (List ℕ)) (blocks : List Block) (
 served_whole old between new blocks i grammar bench out all served takes =
     has (IsServed old between (take i blocks) grammar out) (AnswersAll old new blocks) bench
     (λ b so_far. answered_whole old between new blocks i grammar b out all so_far.answered so_far.behind takes) served
+
+-- all blocks were answered over the bench that is handed back
+pub written_all : {C : Type 0} (old new : Option (List ℕ)) (blocks : List Block) (bench : Option (Bench C)) (meant : Option BenchMeaning)
+    → bench_in bench ≡ meant → HasBench meant (AnswersAll old new blocks) → WritesAll old new blocks bench
+written_all old new blocks None meant is all = absurd (subst (λ m. HasBench m (AnswersAll old new blocks)) (sym is) all)
+written_all old new blocks (Some bench) meant is all =
+    let whole : AnswersAll old new blocks (bench_of bench) = subst (λ m. HasBench m (AnswersAll old new blocks)) (sym is) all in
+    record { output = whole.output; over = whole.over; taken = whole.taken }
 
 -- ---- what the next block asks for
 

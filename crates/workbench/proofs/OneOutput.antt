@@ -15,7 +15,10 @@ use Rattle.script_text.proofs.ScriptLaws.{one_script, not_both, one_bad}
 use Rattle.workbench.specs.Pieces.{TakesPrefix, TakesProperPrefix}
 use Rattle.replies.specs.Lines.{bad_line, reply_text}
 use Rattle.replies.specs.Replies.{grammar_after}
-use Rattle.workbench.specs.Benches.{AreAnswers, none, more}
+use Rattle.version_store.specs.declared.bench.Bench.{Bench}
+use Rattle.script_text.specs.declared.limits.TheConstants.{SCRIPT_LIMIT}
+use Rattle.script_text.specs.Scripts.{SpellsScript}
+use Rattle.workbench.specs.Benches.{AreAnswers, none, more, RanOver}
 use Rattle.workbench.specs.Output.{IsOutput, replies, refusal}
 use Rattle.workbench.specs.Runs.{StopsInOutput, of_replies, of_refusal}
 use Rattle.replies.proofs.OneReply.{one_reply}
@@ -57,6 +60,12 @@ one_output script a b (replies {last = last} read short spelled are) (replies {l
 one_output script a b (replies read short spelled are) (refusal bad short' first) = absurd (not_both script read bad spelled first)
 one_output script a b (refusal bad short first) (replies read short' spelled are) = absurd (not_both script read bad spelled first)
 one_output script _ _ (refusal bad short first) (refusal other short' first') = ap bad_line (one_bad script bad other first first')
+
+-- the lines of a run over a bench are the output
+pub output_of : {C : Type 0} (script : List ℕ) (read : Script) → length script ≤ SCRIPT_LIMIT → SpellsScript script read → (bench : Option (Bench C))
+    (lines : List ℕ) → RanOver read.blocks bench lines → IsOutput script lines
+output_of script read short spelled None lines over = absurd over
+output_of script read short spelled (Some bench) lines over = replies read short spelled over.answers
 
 -- ---- what was taken is a prefix of the output
 

@@ -1,6 +1,8 @@
 -- How a run ends.
 use Rattle.std.proofs.Common.{◌≡◌, ◌⊎◌, inl, inr, ℕ, ◌+◌, ◌≤◌, List, ◌++◌, length, Option, Some, None, Result, Ok, Err, OnOk, OnErr, refl, ap, sym, ◌∙◌, subst}
 use Rattle.std.proofs.Common.{arith, length-append}
+use Rattle.bench_io.specs.declared.fault.Fault.{Fault}
+use Rattle.bench_io.specs.declared.fault.Fault.TheVariants.{Failed, NoMemory as OutOfMemory}
 use Rattle.bench_io.specs.Known.{Gives, IsKnownAs}
 use Rattle.script_text.specs.declared.command.Script.{Script}
 use Rattle.script_text.specs.declared.bad_script.BadScript.{BadScript as ABadScript}
@@ -20,6 +22,11 @@ pub after_failure : {T E P : Type 0} (written : Result T E) (whole status other 
     → (whole ≡ other → ⊥) → P
 after_failure (Ok x) whole status other ok err is apart = absurd (apart (sym ok ∙ is))
 after_failure (Err e) whole status other ok err is apart = err
+
+-- a write fault is told of a failed write
+pub failed_by : (fault : Fault) (status : Status) → (fault ≡ OutOfMemory → status ≡ NoMemory) → status ≡ WriteFault → fault ≡ Failed
+failed_by Failed status no_memory is = refl
+failed_by OutOfMemory status no_memory is = let never : NoMemory ≡ WriteFault = sym (no_memory refl) ∙ is in cc never
 
 pub not_bad : (script : List ℕ) (read : Script) → length script ≤ SCRIPT_LIMIT → SpellsScript script read → IsBadScript script → ⊥
 not_bad script read short spelled (is_too_long less) = absurd (omega (arith, short, less))

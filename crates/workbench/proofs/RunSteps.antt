@@ -101,6 +101,18 @@ answered_stop old new blocks i grammar graph out so_far = record {
   taken = (length so_far.written, omega (arith, length-append so_far.written out), rw (take-append_seam so_far.written out) so_far.taken);
 }
 
+-- before the first block is answered
+pub stops_at_first : (known : Option (List ℕ)) (blocks : List Block) → StopsInReplies known known blocks
+stops_at_first known blocks = record {
+  first = [];
+  others = blocks;
+  parts = refl;
+  last = [];
+  output = [];
+  answers = none;
+  taken = (0, omega arith, Takes-none known);
+}
+
 pub answered_refused : (old between new : Option (List ℕ)) (blocks first others : List Block) (grammar : Grammar) (graph : List (List ℕ)) (out : List ℕ)
     → blocks ≡ first ++ others → IsAnswered old between first grammar graph out → TakesPrefix between new out → StopsInReplies old new blocks
 answered_refused old between new blocks first others grammar graph out parts so_far prefix = record {

@@ -3,6 +3,7 @@ use Rattle.std.proofs.Common.{◌≡◌, ℕ, ◌<◌, ◌≤◌, Bool, true, fa
 use Rattle.std.specs.Prelude.{sum_by}
 use Rattle.std.specs.List.{AllByRecursion, list_all}
 use Rattle.std.proofs.lemmas.Bool.{and_from}
+use Rattle.std.proofs.lemmas.List.Sums.{sum_by-cons}
 use Rattle.grammar_text.specs.declared.edit.Edit.{Edit as AnEdit}
 use Rattle.grammar_text.specs.declared.edit.Edit.TheVariants.{AddRule, DropRule, AddToken, DropToken, AddSkip, DropSkip}
 use Rattle.grammar_text.specs.Pieces.{IsLine, AreBytes}
@@ -78,7 +79,7 @@ all_proper bytes script small spelled = takes_all (lines_of bytes) nothing (reco
 
 count_all : (blocks : List Block) → AllByRecursion IsProperBlock blocks → sum_by size_of blocks ≡ length blocks
 count_all [] all = refl
-count_all (Alone command ∷ blocks) all = omega (arith, count_all blocks all.1)
+count_all (Alone command ∷ blocks) all = omega (arith, sum_by-cons size_of (Alone command) blocks, count_all blocks all.1)
 count_all (Par commands ∷ blocks) all = absurd all.0
 
 few_one : (old new : Read) (line : List ℕ) → AllByRecursion IsProperBlock old.blocks → length old.blocks ≤ COMMAND_LIMIT → ReadsLine old line new

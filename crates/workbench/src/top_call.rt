@@ -156,6 +156,7 @@ fn refuse<K: Sink>(alloc: Global, bad: BadScript, sink: &mut K) -> Result<(), Fa
 fn status_of(fault: Fault) -> Status
     ensures failed { fault ≡ Fault.Failed → result ≡ Status.WriteFault }
     ensures no_memory { fault ≡ Fault.NoMemory → result ≡ Status.NoMemory }
+    ensures late { IsLate result }
     ensures stops { StopsBeforeEnd result }
 {
     match fault {
@@ -169,6 +170,8 @@ fn status_after(written: Result<(), Fault>) -> Status
     ensures ok { OnOk written (result ≡ Status.BadScript) }
     ensures failed { IsErrOf written Fault.Failed → result ≡ Status.WriteFault }
     ensures no_memory { IsErrOf written Fault.NoMemory → result ≡ Status.NoMemory }
+    ensures late { IsLate result }
+    ensures not_done { result ≢ Status.Done }
 {
     match written {
         Ok(()) => Status::BadScript,

@@ -2,9 +2,9 @@ use Rattle.std.proofs.Common.{◌+◌, ◌≤◌, List, ℕ, length, inl, inr, s
 use Rattle.bench_io.specs.Known.{IsKnownAs}
 use Rattle.script_text.specs.declared.limits.TheConstants.{SCRIPT_LIMIT}
 use Rattle.workbench.specs.Pieces.{TakesPrefix, GivesCount}
-use Rattle.workbench.specs.Ends.{without_memory}
-use Rattle.workbench.specs.Output.{IsOutput, replies, IsBadScript}
-use Rattle.workbench.proofs.OneOutput.{if_known}
+use Rattle.workbench.specs.Ends.{EndsBy, without_memory}
+use Rattle.workbench.specs.Output.{IsOutput, IsBadScript}
+use Rattle.workbench.proofs.OneOutput.{if_known, output_of}
 use Rattle.workbench.proofs.RunEnds.{not_bad, front_at_end, ends_by, ends_too_long}
 use Rattle.workbench.proofs.RunCauses.{no_count, other_count, silent_not_bad, only_bad}
 use Rattle.workbench.proofs.top_call.run.Goals as goal
@@ -21,7 +21,8 @@ returns-in-Ok-clause-done g c = λ is.
       read = whole.0;
       good = whole.1;
       output = whole.2.output;
-      is = replies whole.0 short whole.1 whole.2.replies;
+      is = output_of c.deref.result.now whole.0 short whole.1 c.run_script.result.bench whole.2.output whole.2.over;
+      over = whole.2.over;
       taken = whole.2.taken;
     }
 
@@ -38,7 +39,7 @@ returns-in-Ok-clause-complete g c = λ one free_source free_sink script told.
     let left = g.S.Source.left c.args.source.now in
     let known : IsKnownAs (g.S.Source.left c.args.source.now) c.deref.result.now = subst (IsKnownAs left) (sym c.deref.ensures.value) c.in-Ok.ensures.whole in
     let short : length c.deref.result.now ≤ SCRIPT_LIMIT = search rules in
-    ends_by left c.deref.result.now script c.run_script.result known told short c.run_script.ensures.late
+    ends_by left c.deref.result.now script c.run_script.result.status known told short c.run_script.ensures.late
     (λ is. let whole = c.run_script.ensures.done is in (whole.0, whole.1)) (λ is. let bad = c.run_script.ensures.bad_script is in (bad.0, bad.1))
     (λ is. free_sink (c.run_script.ensures.write_fault is))
 
@@ -76,15 +77,17 @@ returns-in-Ok-clause-front g c = λ ends.
     let left = g.S.Source.left c.args.source.now in
     let known : IsKnownAs left c.deref.result.now = subst (IsKnownAs left) (sym c.deref.ensures.value) c.in-Ok.ensures.whole in
     if_known left c.deref.result.now (λ script. (output : List ℕ) → IsOutput script output → TakesPrefix old new output) known
-    (front_at_end c.run_script.result c.deref.result.now old new c.run_script.ensures.stopped c.run_script.ensures.no_memory ends)
+    (front_at_end c.run_script.result.status c.deref.result.now old new c.run_script.ensures.stopped c.run_script.ensures.no_memory ends)
 
 pub returns-in-Err-NoMemory-clause-complete : goal.returns-in-Err-NoMemory-clause-complete
-returns-in-Err-NoMemory-clause-complete g c = λ one free_source free_sink script told. without_memory
+returns-in-Err-NoMemory-clause-complete g c = λ one free_source free_sink script told.
+    subst (EndsBy script) (sym c.without_bench-in-Err-NoMemory.ensures.status) without_memory
 
 pub returns-in-Err-TooLong-clause-complete : goal.returns-in-Err-TooLong-clause-complete
 returns-in-Err-TooLong-clause-complete g c = λ one free_source free_sink script told.
     let gives : GivesCount (g.S.Source.left c.args.source.now) (g.S.Source.left c.read_all.new.source) (SCRIPT_LIMIT + 1) = search rules in
-    ends_too_long (g.S.Source.left c.args.source.now) (g.S.Source.left c.read_all.new.source) script gives told
+    subst (EndsBy script) (sym c.without_bench-in-Err-TooLong.ensures.status)
+    (ends_too_long (g.S.Source.left c.args.source.now) (g.S.Source.left c.read_all.new.source) script gives told)
 
 -- ---- where the bytes are told
 
@@ -101,7 +104,7 @@ returns-in-Ok-clause-only_bad_script g c =
     let left = g.S.Source.left c.args.source.now in
     let known : IsKnownAs left c.deref.result.now = subst (IsKnownAs left) (sym c.deref.ensures.value) c.in-Ok.ensures.whole in
     only_bad left (g.S.Source.left c.read_all.new.source) (g.K.Sink.taken c.args.sink.now)
-    (g.K.Sink.taken c.run_script.new.sink) c.deref.result.now c.run_script.result known c.run_script.ensures.late
+    (g.K.Sink.taken c.run_script.new.sink) c.deref.result.now c.run_script.result.status known c.run_script.ensures.late
     (λ is. let whole = c.run_script.ensures.done is in (whole.0, whole.1)) c.run_script.ensures.stopped c.run_script.ensures.no_memory
 
 pub returns-in-Err-Failed-clause-only_bad_script : goal.returns-in-Err-Failed-clause-only_bad_script
