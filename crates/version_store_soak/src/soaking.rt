@@ -67,28 +67,23 @@ fn lost_pins(before: u32, counted: Counted) -> u64 {
     left.abs_diff(counted.pins_left as u64)
 }
 
+/// How many versions were made, and what was wrong.
 fn told_counted(alloc: Global, before: u32, counted: Counted) -> Result<String, AllocError> {
-    let Counted {
-        edited,
-        seen,
-        version,
-        pins_left: _,
-        rows,
-        refused,
-    } = counted;
-    let made = edited.made;
-    let misnamed = edited.misnamed;
-    let misfits = seen.misfits;
-    let falls = seen.falls;
+    let made = counted.edited.made;
+    let version = counted.version;
+    let numbers = counted.edited.misnamed;
+    let answers = counted.seen.misfits;
+    let falls = counted.seen.falls;
     let pins = lost_pins(before, counted);
-    let strange = rows.misfits;
-    let twice = rows.twice;
+    let rows = counted.rows.misfits;
+    let keys = counted.rows.twice;
     format!(in alloc;
-        "made {made} versions, {misnamed} misnamed, {misfits} answers misfit, {falls} versions fall; gathered at version {version}, {pins} pins lost, {strange} rows misfit, {twice} keys twice, {refused} parts refused"
+        "made {made} versions, gathered at version {version}, wrong: {numbers} numbers, {answers} answers, {falls} falls, {pins} pins, {rows} rows, {keys} keys"
     )
 }
 
-/// What a soak counts.
+/// What a soak counts. After the first gathering each row that no place of the page names is published anew, so a row
+/// that was lost would be missing then.
 pub(crate) fn told_soak<R: Threads + Sync>(
     rt: &R,
     alloc: Global,
@@ -99,14 +94,16 @@ pub(crate) fn told_soak<R: Threads + Sync>(
     let bench = Bench::make(alloc, sizes)?;
     let (bench, first) = soak_once(rt, alloc, bench, asked, keys)?;
     let most = sizes.rows.min(sizes.places);
-    let (bench, made) = fill(bench, keys, most.saturating_add(1));
-    let free = most.saturating_sub(first.rows.count);
-    let lost = free.abs_diff(made);
+    let (bench, made) = fill(bench, keys, most);
+    let lost = most.abs_diff(first.rows.count.saturating_add(made));
     let left = bench.pins_left();
-    let (_bench, second) = soak_once(rt, alloc, bench, asked, keys.saturating_add(10_000))?;
-    let mut told = told_counted(alloc, sizes.pins, first)?;
-    let again = told_counted(alloc, left, second)?;
+    let all_keys = keys.saturating_add(most as u64);
+    let (_bench, second) = soak_once(rt, alloc, bench, asked, all_keys)?;
     let missing = most.abs_diff(second.rows.count);
-    told.push_str(&format!(in alloc; "; filled, {lost} rows lost; {again}, {missing} rows missing")?)?;
-    Ok(told)
+    let refused = first.refused.saturating_add(second.refused);
+    let told = told_counted(alloc, sizes.pins, first)?;
+    let again = told_counted(alloc, left, second)?;
+    format!(in alloc;
+        "{told}; filled, {lost} rows lost; {again}; {missing} rows lost; {refused} parts refused"
+    )
 }

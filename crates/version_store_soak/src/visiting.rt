@@ -12,9 +12,6 @@ use slot_store::pass::Pass;
 use slot_store::pinned::Pinned;
 use std::thread;
 
-/// How often a pass pins at most.
-const ROUNDS: u32 = 20000;
-
 /// What passes saw.
 #[derive(Clone, Copy)]
 pub(crate) struct Seen {
@@ -174,7 +171,7 @@ pub(crate) fn visit_all(pass: Pass<AnyRow>, work: Work) -> (Pass<AnyRow>, Seen)
 {
     let mut pass = pass;
     let mut seen = Seen::nothing();
-    for round in 0..ROUNDS {
+    for round in 0..work.rounds {
         let (next, told) = visit(pass, work, round as u64, seen);
         pass = next;
         seen = told;
