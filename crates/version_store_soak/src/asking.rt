@@ -14,8 +14,8 @@ pub(crate) struct Work {
     pub(crate) keys: u64,
     /// How many keys a pass asks for under one pin.
     pub(crate) at_once: u64,
-    /// How often a pass pins at most.
-    pub(crate) rounds: u32,
+    /// How often the passes pin, all together, before the editor makes the next version.
+    pub(crate) visits: u64,
 }
 
 /// What a line asks for.
@@ -51,7 +51,7 @@ fn small_sizes() -> Sizes {
 }
 
 /// What so many passes do, until so many versions were made.
-fn work_of(sizes: Sizes, counts: &str, keys: u64, at_once: u64, rounds: u32) -> Asked {
+fn work_of(sizes: Sizes, counts: &str, keys: u64, at_once: u64, visits: u64) -> Asked {
     let (passes, versions) = counts.split_once(' ').unwrap_or((counts, "1"));
     let passes = number(passes).min(16) as u32;
     let versions = number(versions).min(16384) as u32;
@@ -62,7 +62,7 @@ fn work_of(sizes: Sizes, counts: &str, keys: u64, at_once: u64, rounds: u32) -> 
             versions,
             keys,
             at_once,
-            rounds,
+            visits,
         },
     }
 }
@@ -70,8 +70,8 @@ fn work_of(sizes: Sizes, counts: &str, keys: u64, at_once: u64, rounds: u32) -> 
 /// What a line asks for, if it is one of `soak` or of `full`.
 pub(crate) fn asked_of(line: &str) -> Option<Asked> {
     if let Some(counts) = line.strip_prefix("soak ") {
-        return Some(work_of(small_sizes(), counts, 12, 12, 20000));
+        return Some(work_of(small_sizes(), counts, 12, 12, 16));
     }
     let counts = line.strip_prefix("full ")?;
-    Some(work_of(Sizes::full(), counts, 5000, 40, 1000))
+    Some(work_of(Sizes::full(), counts, 5000, 200, 4))
 }

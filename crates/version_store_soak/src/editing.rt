@@ -7,9 +7,13 @@ use crate::asking::Work;
 use crate::keeping::{KeepEven, Keeping, keeping_of};
 use pin_rule::choosers::{KeepAll, KeepNone};
 use pin_rule::content::AnyRow;
+use std::sync::atomic::{AtomicU64, Ordering};
 use std::thread;
 use version_store::edit_error::EditError;
 use version_store::editor::Editor;
+
+/// How often the editor tries to make a version beside the passes, or waits for them, at most.
+const TRIES: u32 = 2_000_000;
 
 /// What the editor was answered.
 #[derive(Clone, Copy)]
@@ -64,21 +68,41 @@ fn make_next(editor: &mut Editor<AnyRow>, edited: Edited) -> Edited
     }
 }
 
-/// Makes versions up to the last one, in so many tries at most.
-pub(crate) fn make_all(
+/// Makes versions beside the passes, the next one after so many visits of theirs.
+pub(crate) fn make_beside(
     editor: Editor<AnyRow>,
     work: Work,
-    tries: u32,
+    visits: &AtomicU64,
+) -> (Editor<AnyRow>, Edited)
+    ensures { IsSameEditor (editor_of editor) (editor_of result.0) }
+{
+    let mut editor = editor;
+    let mut edited = Edited::nothing();
+    for _try in 0..TRIES {
+        let version = editor.version();
+        if version >= work.versions {
+            break;
+        }
+        if visits.load(Ordering::SeqCst) < work.visits.saturating_mul(version as u64) {
+            thread::yield_now();
+            continue;
+        }
+        edited = make_next(&mut editor, edited);
+    }
+    (editor, edited)
+}
+
+/// Makes the versions that are left, while no pin is out.
+pub(crate) fn make_rest(
+    editor: Editor<AnyRow>,
+    work: Work,
     edited: Edited,
 ) -> (Editor<AnyRow>, Edited)
     ensures { IsSameEditor (editor_of editor) (editor_of result.0) }
 {
     let mut editor = editor;
     let mut edited = edited;
-    for _try in 0..tries {
-        if editor.version() >= work.versions {
-            break;
-        }
+    for _left in editor.version()..work.versions {
         edited = make_next(&mut editor, edited);
     }
     (editor, edited)

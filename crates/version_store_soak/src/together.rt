@@ -9,10 +9,11 @@ ghost use Rattle.version_store.specs.Parts.{Parts};
 ghost use Rattle.version_store_soak.specs.Working.{IsBack, AreBack, HasPinsOfTable};
 
 use crate::asking::Work;
-use crate::editing::{Edited, make_all};
+use crate::editing::{Edited, make_beside, make_rest};
 use crate::visiting::{Seen, visit_all};
 use pin_rule::content::AnyRow;
 use slot_store::pass::Pass;
+use std::sync::atomic::AtomicU64;
 use std::thread;
 use std::thread::Threads;
 use version_store::NoMemory;
@@ -20,14 +21,12 @@ use version_store::bench::Bench;
 use version_store::editor::Editor;
 use version_store::gathering::gather;
 
-/// How often the editor tries to make a version beside the passes.
-const TRIES: u32 = 400_000;
-
 /// The work of all passes, each in a thread of its own. They come back in the list that they came in.
 fn visit_in_threads<R: Threads + Sync>(
     rt: &R,
     passes: Vec<Pass<AnyRow>>,
     work: Work,
+    visits: &AtomicU64,
 ) -> (Vec<Pass<AnyRow>>, Seen)
     ensures back { AreBack (map pass_of passes.items) (map pass_of result.0.items) }
     ensures many { vec_len result.0 ≡ vec_len passes }
@@ -41,13 +40,13 @@ fn visit_in_threads<R: Threads + Sync>(
         rt,
         move || -> (Pass<AnyRow>, Seen)
             ensures { IsBack (pass_of last) (pass_of result.0) }
-        { visit_all(last, work) },
+        { visit_all(last, work, visits) },
         move || -> (Vec<Pass<AnyRow>>, Seen)
             requires { IsSync R.row }
             ensures back { AreBack (map pass_of rest.items) (map pass_of result.0.items) }
             ensures many { vec_len result.0 ≡ vec_len rest }
             ensures room { vec_capacity result.0 ≡ vec_capacity rest }
-        { visit_in_threads(rt, rest, work) },
+        { visit_in_threads(rt, rest, work, visits) },
     );
     let mut back = others;
     back.push_reserved(pass);
@@ -76,17 +75,19 @@ fn work_together<R: Threads + Sync>(
     ensures editor { IsSameEditor (editor_of editor) (editor_of result.0) }
     ensures passes { AreBack (map pass_of passes.items) (map pass_of result.1.items) }
 {
+    let made = AtomicU64::new(0);
+    let visits = &made;
     let ((editor, edited), (passes, seen)) = thread::join(
         rt,
         move || -> (Editor<AnyRow>, Edited)
             ensures { IsSameEditor (editor_of editor) (editor_of result.0) }
-        { make_all(editor, work, TRIES, Edited::nothing()) },
+        { make_beside(editor, work, visits) },
         move || -> (Vec<Pass<AnyRow>>, Seen)
             requires { IsSync R.row }
             ensures { AreBack (map pass_of passes.items) (map pass_of result.0.items) }
-        { visit_in_threads(rt, passes, work) },
+        { visit_in_threads(rt, passes, work, visits) },
     );
-    let (editor, edited) = make_all(editor, work, work.versions, edited);
+    let (editor, edited) = make_rest(editor, work, edited);
     (editor, passes, edited, seen)
 }
 

@@ -10,7 +10,11 @@ use pin_rule::content::AnyRow;
 use slot_store::page::{Look, Page, Put};
 use slot_store::pass::Pass;
 use slot_store::pinned::Pinned;
+use std::sync::atomic::{AtomicU64, Ordering};
 use std::thread;
+
+/// How often a pass pins at most.
+const ROUNDS: u32 = 50_000;
 
 /// What passes saw.
 #[derive(Clone, Copy)]
@@ -164,17 +168,24 @@ fn visit(pass: Pass<AnyRow>, work: Work, first: u64, seen: Seen) -> (Pass<AnyRow
     }
 }
 
-/// Visits the newest version again and again, until the last one was made. A pass sleeps without a pin, so that the
-/// editor seldom waits for it.
-pub(crate) fn visit_all(pass: Pass<AnyRow>, work: Work) -> (Pass<AnyRow>, Seen)
+/// Visits the newest version again and again, until the last one was made. The visits of all passes are counted
+/// together. Each ends with a turn for the others, when no pin is out, so that the editor seldom waits for a pass that
+/// has no turn.
+pub(crate) fn visit_all(
+    pass: Pass<AnyRow>,
+    work: Work,
+    visits: &AtomicU64,
+) -> (Pass<AnyRow>, Seen)
     ensures { IsBack (pass_of pass) (pass_of result.0) }
 {
     let mut pass = pass;
     let mut seen = Seen::nothing();
-    for round in 0..work.rounds {
-        let (next, told) = visit(pass, work, round as u64, seen);
+    for round in 0..ROUNDS {
+        let first = (round as u64).wrapping_mul(work.at_once);
+        let (next, told) = visit(pass, work, first, seen);
         pass = next;
         seen = told;
+        visits.fetch_add(1, Ordering::SeqCst);
         if pass.front() >= work.versions {
             break;
         }
