@@ -65,7 +65,7 @@ module _ {C : Type 0} where
       let before = ap (map pass_of) is ∙ map-append pass_of ps (p ∷ []) in
       let after = ap (map pass_of) are ∙ map-append pass_of qs (q ∷ []) in
       subst (λ ks. AreBack ks (map pass_of back)) (sym before) (subst (AreBack (map pass_of ps ++ pass_of p ∷ [])) (sym after)
-          (last_back (pass_of p) (pass_of q) (map pass_of ps) (map pass_of qs) one others))
+      (last_back (pass_of p) (pass_of q) (map pass_of ps) (map pass_of qs) one others))
 
   -- All of one part
 
@@ -83,8 +83,8 @@ module _ {C : Type 0} where
   all_back m count e f ps qs few parts same back =
       let table : f.table ≡ m.table = same.table ∙ parts.table in
       let tables : Each (λ (k : PassMeaning). k.table ≡ f.table) (map pass_of ps) =
-          each_mapped (λ (p : Pass C). IsNewPass m (m.pins_left / count) (pass_of p)) (λ (k : PassMeaning). k.table ≡ f.table) pass_of
-          (λ p new. new.table ∙ sym table) ps parts.each in
+      each_mapped (λ (p : Pass C). IsNewPass m (m.pins_left / count) (pass_of p)) (λ (k : PassMeaning). k.table ≡ f.table) pass_of
+      (λ p new. new.table ∙ sym table) ps parts.each in
       let sizes : f.sizes.pins ≡ m.sizes.pins = ap (λ z. z.pins) (same.sizes ∙ parts.sizes) in
       let taken : length ps * (m.pins_left / count) ≡ count * (m.pins_left / count) = ap (λ n. n * (m.pins_left / count)) parts.many in
       record {

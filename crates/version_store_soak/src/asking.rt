@@ -18,6 +18,18 @@ pub(crate) struct Work {
     pub(crate) visits: u64,
 }
 
+impl Work {
+    /// The same with few keys under one pin, since in a page that is full each look goes through all places.
+    pub(crate) fn for_full_page(self) -> Work {
+        Work {
+            versions: self.versions,
+            keys: self.keys,
+            at_once: self.at_once.min(4),
+            visits: self.visits,
+        }
+    }
+}
+
 /// What a line asks for.
 #[derive(Clone, Copy)]
 pub(crate) struct Asked {
@@ -73,5 +85,5 @@ pub(crate) fn asked_of(line: &str) -> Option<Asked> {
         return Some(work_of(small_sizes(), counts, 12, 12, 16));
     }
     let counts = line.strip_prefix("full ")?;
-    Some(work_of(Sizes::full(), counts, 5000, 200, 4))
+    Some(work_of(Sizes::full(), counts, 5000, 100, 8))
 }

@@ -1,10 +1,10 @@
 //! One soak: versions are made beside passes, and then the table is gathered, counted, filled and gathered again.
 
-ghost use Rattle.std.specs.Prelude.{IfOk};
+ghost use Rattle.std.specs.Prelude.{◌≤◌, IfOk};
 ghost use Rattle.version_store.specs.Means.{bench_of};
 ghost use Rattle.version_store_soak.specs.Working.{HasPinsOfTable};
 
-use crate::asking::Asked;
+use crate::asking::{Asked, Work};
 use crate::editing::Edited;
 use crate::filling::fill;
 use crate::reading::{Rows, read_rows};
@@ -37,10 +37,12 @@ fn soak_once<R: Threads + Sync>(
     rt: &R,
     alloc: Global,
     bench: Bench<AnyRow>,
-    asked: Asked,
+    passes: u32,
+    work: Work,
     keys: u64,
 ) -> Result<(Bench<AnyRow>, Counted), AllocError>
-    requires { HasPinsOfTable (bench_of bench) }
+    requires passes { (1 ≤ passes) × (passes ≤ 16) }
+    requires pins { HasPinsOfTable (bench_of bench) }
     ensures { IfOk result (λ r. HasPinsOfTable (bench_of r.0)) }
 {
     let Round {
@@ -48,7 +50,7 @@ fn soak_once<R: Threads + Sync>(
         edited,
         seen,
         refused,
-    } = work_and_gather(rt, bench, asked.passes, asked.work)?;
+    } = work_and_gather(rt, bench, passes, work)?;
     let rows = read_rows(alloc, &mut bench, keys)?;
     let counted = Counted {
         edited,
@@ -92,13 +94,14 @@ pub(crate) fn told_soak<R: Threads + Sync>(
     let sizes = asked.sizes;
     let keys = asked.work.keys;
     let bench = Bench::make(alloc, sizes)?;
-    let (bench, first) = soak_once(rt, alloc, bench, asked, keys)?;
+    let (bench, first) = soak_once(rt, alloc, bench, asked.passes, asked.work, keys)?;
     let most = sizes.rows.min(sizes.places);
     let (bench, made) = fill(bench, keys, most);
     let lost = most.abs_diff(first.rows.count.saturating_add(made));
     let left = bench.pins_left();
     let all_keys = keys.saturating_add(most as u64);
-    let (_bench, second) = soak_once(rt, alloc, bench, asked, all_keys)?;
+    let work = asked.work.for_full_page();
+    let (_bench, second) = soak_once(rt, alloc, bench, asked.passes, work, all_keys)?;
     let missing = most.abs_diff(second.rows.count);
     let refused = first.refused.saturating_add(second.refused);
     let told = told_counted(alloc, sizes.pins, first)?;

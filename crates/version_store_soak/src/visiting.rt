@@ -171,11 +171,7 @@ fn visit(pass: Pass<AnyRow>, work: Work, first: u64, seen: Seen) -> (Pass<AnyRow
 /// Visits the newest version again and again, until the last one was made. The visits of all passes are counted
 /// together. Each ends with a turn for the others, when no pin is out, so that the editor seldom waits for a pass that
 /// has no turn.
-pub(crate) fn visit_all(
-    pass: Pass<AnyRow>,
-    work: Work,
-    visits: &AtomicU64,
-) -> (Pass<AnyRow>, Seen)
+pub(crate) fn visit_all(pass: Pass<AnyRow>, work: Work, visits: &AtomicU64) -> (Pass<AnyRow>, Seen)
     ensures { IsBack (pass_of pass) (pass_of result.0) }
 {
     let mut pass = pass;
