@@ -1,9 +1,8 @@
 -- Passes that come back from their work are all of the editor's table.
-use Rattle.std.proofs.Common.{◌≡◌, ℕ, ◌+◌, ◌*◌, ◌/◌, ◌≤◌, List, [], ◌∷◌, ◌++◌, map, length, refl, sym, ap, ◌∙◌, subst, arith}
+use Rattle.std.proofs.Common.{◌≡◌, ℕ, ◌*◌, ◌/◌, ◌≤◌, List, [], ◌∷◌, ◌++◌, map, length, refl, sym, ap, ◌∙◌, subst, arith}
 use Rattle.std.proofs.lemmas.List.{map-append}
 use Rattle.atomic_table.specs.Seated.{TableId}
 use Rattle.pin_rule.specs.Lists.{Each, total}
-use Rattle.pin_rule.specs.Views.{whole}
 use Rattle.pin_rule.proofs.Lists.{each_append, each_mapped, total_append}
 use Rattle.slot_store.specs.declared.pass.Pass.{Pass}
 use Rattle.slot_store.specs.Meaning.{Meaning, PassMeaning}

@@ -1,5 +1,5 @@
 -- What stays the same in two steps, one after the other.
-use Rattle.std.proofs.Common.{◌≡◌, refl, ◌∙◌}
+use Rattle.std.proofs.Common.{refl, ◌∙◌}
 use Rattle.slot_store.specs.Meaning.{Meaning}
 use Rattle.version_store.specs.Meaning.{BenchMeaning, EditorMeaning}
 use Rattle.version_store.specs.Edits.{IsSameEditor}

@@ -1,4 +1,4 @@
-use Rattle.std.proofs.Common.{ℕ, ◌+◌, ◌*◌, vec_len}
+use Rattle.std.proofs.Common.{◌+◌, ◌*◌, vec_len}
 use Rattle.version_store_soak.proofs.together.+fn-visit_in_threads-join+arg3+visit_in_threads.Given as goal
 
 abbrev pub decreases-join+arg3 : goal.decreases-join+arg3
