@@ -39,10 +39,12 @@ fn visit(pass: Pass<AnyRow>, keys: &[u64]) -> Pass<AnyRow>
 }
 
 /// A bench at version 2 with the rows of some keys, that was parted and gathered
-/// before.
+/// before. All memory is taken before it is parted, since a part that is dropped
+/// alone is lost.
 fn gathered(alloc: Global) -> Result<Bench<AnyRow>, AllocError> {
     let wanted = Wanted::read("log 6, versions 4, places 8, rows 8, width 8, pins 100");
     let bench = Bench::make(alloc, wanted.sizes())?;
+    let mut all = Vec::with_capacity(alloc, 1)?;
     let (mut editor, mut passes) = match bench.part(1) {
         Ok(parts) => parts,
         Err((_, error)) => return Err(error),
@@ -52,8 +54,7 @@ fn gathered(alloc: Global) -> Result<Bench<AnyRow>, AllocError> {
     let _first = editor.edit(&entry_from(1), &mut KeepAll);
     let pass = visit(pass, &[6]);
     let _second = editor.edit(&entry_from(2), &mut KeepAll);
-    let mut all = Vec::new(alloc);
-    all.push(pass)?;
+    all.push_reserved(pass);
     Ok(gather(editor, all))
 }
 
