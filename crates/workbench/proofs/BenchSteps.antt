@@ -20,7 +20,7 @@ use Rattle.graph_content.specs.Contents.{IsLogOfGrammar}
 use Rattle.replies.specs.Replies.{grammar_after}
 use Rattle.replies.specs.Blocks.{grammar_behind, grammar_after_all}
 use Rattle.sections.specs.Commands.{pins_for}
-use Rattle.workbench.specs.Benches.{AnswersCommand, AnswersBlock, pins_for_all, IsBenchBehind}
+use Rattle.workbench.specs.Benches.{AnswersBlock, pins_for_all, IsBenchBehind}
 use Rattle.workbench.specs.Pieces.{TakesPrefix}
 use Rattle.workbench.specs.Runs.{AnswersAll, WritesAll, StopsInReplies}
 use Rattle.workbench.specs.Serving.{HasBench, bench_in}

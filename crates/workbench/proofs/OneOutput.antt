@@ -7,7 +7,6 @@ use Rattle.bench_io.proofs.Chains.{Takes-none}
 use Rattle.edit_log.specs.History.{Grammar, empty_grammar}
 use Rattle.pin_rule.specs.declared.sizes.Sizes.{Sizes}
 use Rattle.pin_rule.specs.Layout.{full_sizes}
-use Rattle.script_text.specs.declared.command.Command.{Command}
 use Rattle.script_text.specs.declared.command.Block.{Block}
 use Rattle.script_text.specs.declared.command.Block.TheVariants.{Alone, Par}
 use Rattle.script_text.specs.declared.command.Script.{Script}

@@ -19,7 +19,7 @@ use Rattle.replies.specs.declared.reply.Reply.{Reply}
 use Rattle.replies.specs.Lines.{reply_text}
 use Rattle.replies.specs.Replies.{IsReply, grammar_after}
 use Rattle.replies.specs.Blocks.{grammar_behind, grammar_after_all, IsProperBlock}
-use Rattle.workbench.specs.Benches.{LeavesGraph, AnswersCommand, AnswersBlock, AreAnswers, none, more, IsBenchBehind}
+use Rattle.workbench.specs.Benches.{LeavesGraph, AnswersBlock, AreAnswers, none, more, IsBenchBehind}
 use Rattle.workbench.specs.Runs.{AnswersAll, StopsInReplies}
 
 -- ---- answers one after the other

@@ -28,8 +28,8 @@ pub record LeavesGraph (z : Sizes) (grammar : Grammar) (command : Command) (repl
   pub after : ℕ
   pub shares : SharesRows z grammar command reply tallies before after first last
 
--- The command was answered under the grammar that those before it made: the lines of its reply were appended, and the bench serves the next one. Its log is that
--- of the next grammar, and it lacks the pins that the command took.
+-- The command was answered under the grammar that those before it made: the lines of its reply were appended, and the bench serves the next one. Its log is
+-- that of the next grammar, and it lacks the pins that the command took.
 pub record AnswersCommand (grammar : Grammar) (command : Command) (old new : BenchMeaning) (out_old out_new : List ℕ) : Type 0 where
   pub reply : Reply
   pub is : IsReply grammar command reply
@@ -59,8 +59,8 @@ pins_for_all [] = 0
 pins_for_all (Alone command ∷ blocks) = pins_for command + pins_for_all blocks
 pins_for_all (Par commands ∷ blocks) = pins_for_all blocks
 
--- The bench of the largest sizes that was new before the first block, and has served all of them: its log is that of the grammar behind them, and it lacks a pin
--- for each text.
+-- The bench of the largest sizes that was new before the first block, and has served all of them: its log is that of the grammar behind them, and it lacks a
+-- pin for each text.
 pub record IsBenchBehind (blocks : List Block) (bench : BenchMeaning) : Type 0 where
   pub log : IsLogOfGrammar bench.log (grammar_after_all empty_grammar blocks)
   pub sizes : bench.sizes ≡ full_sizes

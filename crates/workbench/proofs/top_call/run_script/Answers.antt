@@ -3,7 +3,7 @@ use Rattle.grammar_text.proofs.ByteTexts.{bytes_from_places}
 use Rattle.script_text.specs.Scripts.{IsFirstBad}
 use Rattle.workbench.specs.declared.top_call.Status.TheVariants.{BadScript, WriteFault, NoMemory}
 use Rattle.workbench.specs.Ends.{IsLate, StopsBeforeEnd}
-use Rattle.workbench.specs.Runs.{StopsInReplies, StopsInOutput, of_replies, of_refusal, WritesAll}
+use Rattle.workbench.specs.Runs.{StopsInReplies, of_replies, of_refusal, WritesAll}
 use Rattle.workbench.proofs.BenchSteps.{written_all}
 use Rattle.workbench.proofs.RunEnds.{after_failure, failed_by}
 use Rattle.workbench.proofs.ScriptFacts.{all_proper, few_blocks}
