@@ -8,6 +8,7 @@
 mod alone;
 mod crew;
 mod editing;
+mod holding;
 mod texts;
 
 pub use alone::{Alone, AloneError, run_alone};

@@ -17,8 +17,8 @@ abbrev pub bench_of : {C : Type 0} → Bench C → BenchMeaning
 bench_of b = bench_meaning (view_of b.editor.hand) (table_of b.editor.hand)
 
 -- the row stands at the place of the bench's page
-abbrev pub StandsIn : {C : Type 0} → Bench C → ℕ → List ℕ → Type 0
-StandsIn b = StandsKnownAt (view_of b.editor.hand).known
+abbrev pub StandsAt : {C : Type 0} → Bench C → ℕ → List ℕ → Type 0
+StandsAt b = StandsKnownAt (view_of b.editor.hand).known
 
 -- a page that tells its graph
 abbrev pub lone_of : {C : Type 0} → Lone C → Meaning

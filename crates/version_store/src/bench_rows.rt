@@ -10,7 +10,7 @@ ghost use Rattle.version_store.specs.contracts.bench.Bench.{the_row};
 ghost use Rattle.version_store.specs.PlaceReading.{ReadsPlace};
 ghost use Rattle.version_store.specs.BenchRows.{TellsRow, LendsRow};
 ghost use Rattle.version_store.specs.Placed.{ReadsAt};
-ghost use Rattle.version_store.specs.Means.{bench_of, StandsIn};
+ghost use Rattle.version_store.specs.Means.{bench_of, StandsAt};
 
 use crate::bench::Bench;
 use crate::current::Current;
@@ -52,7 +52,7 @@ impl<C: Content> Bench<C> {
         ensures lent { LendsRow (bench_of self.old) result }
         ensures* told { sem 𝓛 (follows_so (the_row C.row C.Content) (the_row C.row C.Content) self.entry.ghost_name none (λ _ _. ⊤)
             (λ n. TellsRow (bench_of self.old) (bench_of n) place result
-            × ReadsAt C.fits (bench_of self.old) (bench_of n) (StandsIn self.old) (StandsIn n) place result)) }
+            × ReadsAt C.fits (bench_of self.old) (bench_of n) (StandsAt self.old) (StandsAt n) place result)) }
     {
         match self.editor.read_at(place) {
             Some(count) => Some(&self.editor.row.as_slice()[..count]),
