@@ -15,7 +15,7 @@ use Rattle.replies.specs.declared.reply.Reply.{Reply}
 use Rattle.replies.specs.Lines.{reply_text}
 use Rattle.rekers.specs.Answers.{kinds_of}
 use Rattle.replies.specs.Replies.{grammar_after, IsResult, IsParse, too_large, forest, no_sentence, IsOutcome, scan, parse, IsReply, taken, refused}
-use Rattle.replies.specs.Replies.{parsed, scanned}
+use Rattle.replies.specs.Replies.{parsed, scanned, held}
 use Rattle.replies.specs.Known.{AreKnownNodes, IsKnownOutcome, IsKnownResult, IsKnownReply}
 use Rattle.replies.proofs.TokenKinds.{known_tokens}
 
@@ -59,6 +59,7 @@ known_reply grammar command reply formed (taken e) = tt
 known_reply grammar command reply formed (refused e) = tt
 known_reply grammar command reply formed (parsed {text = text} {outcome = outcome} is) = known_outcome grammar text outcome formed is
 known_reply grammar command reply formed (scanned {text = text} {result = result} is) = known_result grammar text result formed is
+known_reply grammar command reply formed held = tt
 
 -- ---- after the command
 
@@ -68,6 +69,7 @@ known_after grammar command reply (taken e) known = tt
 known_after grammar command reply (refused e) known = tt
 known_after grammar command reply (parsed is) known = known
 known_after grammar command reply (scanned is) known = known
+known_after grammar command reply held known = tt
 
 -- only the lines of texts name symbols, and a text adds none
 pub same_text : (grammar : Grammar) (command : Command) (reply : Reply) → IsReply grammar command reply
@@ -76,3 +78,4 @@ same_text grammar command reply (taken e) = refl
 same_text grammar command reply (refused e) = refl
 same_text grammar command reply (parsed is) = refl
 same_text grammar command reply (scanned is) = refl
+same_text grammar command reply held = refl

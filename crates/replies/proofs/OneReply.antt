@@ -1,4 +1,4 @@
--- A command has one reply at most.
+-- A command has one reply at most, unless it asks what the tables hold.
 use Rattle.std.proofs.Common.{◌≡◌, ℕ, List, Result, Ok, Err, refl, ap, subst, arith}
 use Rattle.std.specs.List.Sorted.{IsStrictlySortedBy}
 use Rattle.std.proofs.lemmas.Map.Keys.{IsStrictlySortedBy-prop}
@@ -116,8 +116,8 @@ one_parse_reply grammar text a b (parsed {outcome = x} e) (parsed {outcome = y} 
 one_tokens_reply : (grammar : Grammar) (text : List ℕ) (a b : Reply) → IsReply grammar (Tokens text) a → IsReply grammar (Tokens text) b → a ≡ b
 one_tokens_reply grammar text a b (scanned {result = x} e) (scanned {result = y} f) = ap (Scanning grammar.version) (one_result grammar text x y e f)
 
-pub one_reply : (grammar : Grammar) (command : Command) (a b : Reply) → IsReply grammar command a → IsReply grammar command b → a ≡ b
-one_reply grammar (Edit edit) a b e f = one_edit_reply grammar edit a b e f
-one_reply grammar (Parse text) a b e f = one_parse_reply grammar text a b e f
-one_reply grammar (Tokens text) a b e f = one_tokens_reply grammar text a b e f
-one_reply grammar Stats a b e f = elim e [ ]
+pub one_reply : (grammar : Grammar) (command : Command) (a b : Reply) → (command ≡ Stats → ⊥) → IsReply grammar command a → IsReply grammar command b → a ≡ b
+one_reply grammar (Edit edit) a b other e f = one_edit_reply grammar edit a b e f
+one_reply grammar (Parse text) a b other e f = one_parse_reply grammar text a b e f
+one_reply grammar (Tokens text) a b other e f = one_tokens_reply grammar text a b e f
+one_reply grammar Stats a b other e f = absurd (other refl)

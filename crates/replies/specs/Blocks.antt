@@ -9,12 +9,12 @@ use Rattle.script_text.specs.declared.command.Block.TheVariants.{Alone, Par}
 use Rattle.script_text.specs.declared.limits.TheConstants.{TEXT_LIMIT}
 use Rattle.replies.specs.Replies.{grammar_after}
 
--- an edit that may be asked for, or a text that is not too long
+-- an edit that may be asked for, or a text that is not too long; what is held may always be asked for
 abbrev pub IsProperCommand : Command → Type 0
 IsProperCommand (Edit edit) = IsProper edit
 IsProperCommand (Parse text) = length text ≤ TEXT_LIMIT
 IsProperCommand (Tokens text) = length text ≤ TEXT_LIMIT
-IsProperCommand Stats = ⊥
+IsProperCommand Stats = Unit {0}
 
 abbrev pub IsProperBlock : Block → Type 0
 IsProperBlock (Alone command) = IsProperCommand command

@@ -9,7 +9,7 @@ use Rattle.replies.specs.declared.reply.Outcome.{Outcome}
 use Rattle.replies.specs.declared.reply.Outcome.TheVariants.{Parsed, Scan, TooLarge}
 use Rattle.rekers.specs.declared.parsed.Parsed.TheVariants.{Forest as ForestOf, NoSentence}
 use Rattle.replies.specs.declared.reply.Reply.{Reply}
-use Rattle.replies.specs.declared.reply.Reply.TheVariants.{Edited, Refused, Parse, Tokens}
+use Rattle.replies.specs.declared.reply.Reply.TheVariants.{Edited, Refused, Parse, Tokens, Held}
 
 -- each node's symbol is a name
 abbrev pub AreKnownNodes : List Symbol → List Node → Type 0
@@ -35,3 +35,4 @@ IsKnownReply symbols (Edited version) = Unit {0}
 IsKnownReply symbols (Refused why) = Unit {0}
 IsKnownReply symbols (Parse version outcome) = IsKnownOutcome symbols outcome
 IsKnownReply symbols (Tokens version result) = IsKnownResult symbols result
+IsKnownReply symbols (Held items scan) = Unit {0}

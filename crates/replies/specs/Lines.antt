@@ -17,7 +17,7 @@ use Rattle.replies.specs.declared.reply.Outcome.{Outcome}
 use Rattle.replies.specs.declared.reply.Outcome.TheVariants.{Parsed, Scan, TooLarge}
 use Rattle.rekers.specs.declared.parsed.Parsed.TheVariants.{Forest as ForestOf, NoSentence}
 use Rattle.replies.specs.declared.reply.Reply.{Reply}
-use Rattle.replies.specs.declared.reply.Reply.TheVariants.{Edited, Refused, Parse, Tokens}
+use Rattle.replies.specs.declared.reply.Reply.TheVariants.{Edited, Refused, Parse, Tokens, Held}
 
 -- ---- edits
 
@@ -106,6 +106,12 @@ abbrev pub result_text : List Symbol → ℕ → Result (List Token) ScanError �
 result_text symbols version (Ok found) = token_lines symbols version found
 result_text symbols version (Err error) = scan_line (codes "tokens") version error
 
+-- ---- tables
+
+-- expansions of so many keys of item sets and of scanner states are held
+abbrev pub held_line : ℕ → ℕ → List ℕ
+held_line items scan = codes "held items " ++ decimal items ++ codes " scan " ++ decimal scan ++ codes "\n"
+
 -- ---- replies
 
 -- the lines of a reply, where the symbols have these numbers
@@ -114,6 +120,7 @@ reply_text symbols (Edited version) = version_line version
 reply_text symbols (Refused why) = refusal_line why
 reply_text symbols (Parse version outcome) = outcome_text symbols version outcome
 reply_text symbols (Tokens version result) = result_text symbols version result
+reply_text symbols (Held items scan) = held_line items scan
 
 -- ---- bad scripts
 

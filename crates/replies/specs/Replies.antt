@@ -23,7 +23,7 @@ use Rattle.script_text.specs.declared.command.Command.TheVariants.{Edit, Parse, 
 use Rattle.replies.specs.declared.reply.Outcome.{Outcome}
 use Rattle.replies.specs.declared.reply.Outcome.TheVariants.{Parsed, Scan, TooLarge}
 use Rattle.replies.specs.declared.reply.Reply.{Reply}
-use Rattle.replies.specs.declared.reply.Reply.TheVariants.{Edited, Refused, Parse as Parsing, Tokens as Scanning}
+use Rattle.replies.specs.declared.reply.Reply.TheVariants.{Edited, Refused, Parse as Parsing, Tokens as Scanning, Held}
 
 -- ---- texts
 
@@ -52,13 +52,15 @@ pub data IsOutcome (grammar : Grammar) (text : List ℕ) : Outcome → Type 0 wh
 
 -- ---- commands
 
--- the reply to a command, under the grammar that the commands before it made
+-- The reply to a command, under the grammar that the commands before it made. What is held depends on a table and not on the grammar alone, so which numbers these
+-- are is said where there is a table
 pub data IsReply (grammar : Grammar) : Command → Reply → Type 0 where
   taken : {edit : AnEdit} → verdict grammar edit ≡ None → IsReply grammar (Edit edit) (Edited (grammar.version + 1))
   refused : {edit : AnEdit} {why : Refusal} → verdict grammar edit ≡ Some why → IsReply grammar (Edit edit) (Refused why)
   parsed : {text : List ℕ} {outcome : Outcome} → IsOutcome grammar text outcome → IsReply grammar (Parse text) (Parsing grammar.version outcome)
   scanned : {text : List ℕ} {result : Result (List Token) ScanError} → IsResult grammar text result
       → IsReply grammar (Tokens text) (Scanning grammar.version result)
+  held : {items scan : ℕ} → IsReply grammar Stats (Held items scan)
 
 -- an edit that is taken changes the grammar, and a refused one leaves it
 abbrev pub unless_refused : Option Refusal → Grammar → AnEdit → Grammar

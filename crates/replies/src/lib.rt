@@ -5,6 +5,7 @@
 #![tactic(auto)]
 
 mod edit_lines;
+mod held_lines;
 mod laws;
 mod reply;
 mod reply_lines;

@@ -44,4 +44,11 @@ pub enum Reply {
         /// The tokens, or why there are none.
         result: Result<TokenList, ScanError>,
     },
+    /// The current version of the table holds expansions of so many keys.
+    Held {
+        /// How many keys of item sets.
+        items: u32,
+        /// How many keys of scanner states.
+        scan: u32,
+    },
 }

@@ -9,17 +9,17 @@ use Rattle.grammar_text.specs.Reading.{edit_of}
 use Rattle.grammar_text.proofs.EditLaws.{edit_of_takes}
 use Rattle.grammar_text.proofs.EditReads.{edit_of_again, one_edit}
 use Rattle.script_text.specs.declared.command.Command.{Command}
-use Rattle.script_text.specs.declared.command.Command.TheVariants.{Edit, Parse, Tokens}
+use Rattle.script_text.specs.declared.command.Command.TheVariants.{Edit, Parse, Tokens, Stats}
 use Rattle.script_text.specs.declared.bad_script.BadKind.{BadKind}
 use Rattle.script_text.specs.declared.bad_script.BadKind.TheVariants.{BadEdit, BadRegex, BadText, TextTooLong}
 use Rattle.script_text.specs.declared.bad_script.Refusal.{Refusal}
 use Rattle.script_text.specs.declared.bad_script.Refusal.TheVariants.{Wrong, OutOfMemory}
 use Rattle.script_text.specs.Seen.{IsReason, LacksExpression}
 use Rattle.script_text.specs.declared.limits.TheConstants.{TEXT_LIMIT}
-use Rattle.script_text.specs.Forms.{Sort, EditLine, ParseLine, TokensLine}
+use Rattle.script_text.specs.Forms.{Sort, EditLine, ParseLine, TokensLine, StatsLine}
 use Rattle.script_text.specs.Expressions.{AddsExpression}
 use Rattle.script_text.specs.Texts.{text_written}
-use Rattle.script_text.specs.Commands.{SpellsText, SpellsAs, an_edit, a_text, a_scan, IsWrongText, bad_escape, too_long, IsWrongAs, no_edit, no_expression}
+use Rattle.script_text.specs.Commands.{SpellsText, SpellsAs, an_edit, a_text, a_scan, a_count, IsWrongText, bad_escape, too_long, IsWrongAs, no_edit, no_expression}
 use Rattle.script_text.specs.Commands.{no_text, no_scan}
 use Rattle.script_text.proofs.ExpressionLaws.{edit_judged}
 
@@ -58,6 +58,7 @@ pub one_command : (sort : Sort) (line : List ℕ) (a b : Command) → SpellsAs s
 one_command sort line a b (an_edit {edit = e} spelled within has) (an_edit {edit = other} again too same) = ap Edit (one_edit line e other spelled again)
 one_command sort line a b (a_text {written = written} {text = text} p) (a_text {text = other} q) = ap Parse (one_text written text other p q)
 one_command sort line a b (a_scan {written = written} {text = text} p) (a_scan {text = other} q) = ap Tokens (one_text written text other p q)
+one_command sort line a b a_count a_count = refl
 
 pub not_wrong : (sort : Sort) (line : List ℕ) (command : Command) (kind : BadKind) → SpellsAs sort line command → IsWrongAs sort line kind → ⊥
 not_wrong sort line command kind (an_edit {edit = e} spelled within has) (no_edit none) = none e spelled within
@@ -65,6 +66,7 @@ not_wrong sort line command kind (an_edit {edit = e} spelled within has) (no_exp
     lacks (subst AddsExpression (one_edit line e other spelled again) has)
 not_wrong sort line command kind (a_text {written = written} {text = text} p) (no_text q) = text_not_wrong written text kind p q
 not_wrong sort line command kind (a_scan {written = written} {text = text} p) (no_scan q) = text_not_wrong written text kind p q
+not_wrong sort line command kind a_count wrong = elim wrong [ ]
 
 pub one_wrong : (sort : Sort) (line : List ℕ) (a b : BadKind) → IsWrongAs sort line a → IsWrongAs sort line b → a ≡ b
 one_wrong sort line a b (no_edit none) (no_edit again) = refl
@@ -93,6 +95,7 @@ judged (TokensLine written) line = elim (text_judged written) [
   | inl found ↦ inl (Tokens found.0, a_scan found.1)
   | inr bad ↦ inr (bad.0, no_scan bad.1)
 ]
+judged StatsLine line = inl (Stats, a_count)
 
 -- ---- why a line was not taken
 

@@ -8,14 +8,15 @@ use Rattle.script_text.specs.declared.bad_script.Refusal.TheVariants.{Wrong, Out
 use Rattle.script_text.specs.declared.form.Line.{Line}
 use Rattle.script_text.specs.declared.form.Line.TheVariants.{PassedOver as passed, Unknown, Command}
 use Rattle.script_text.specs.declared.form.Ask.{Ask}
-use Rattle.script_text.specs.declared.form.Ask.TheVariants.{Edit, Parse, Tokens}
+use Rattle.script_text.specs.declared.form.Ask.TheVariants.{Edit, Parse, Tokens, Stats}
 use Rattle.script_text.specs.Expressions.{AddsExpression}
-use Rattle.script_text.specs.Forms.{Sort, EditLine, ParseLine, TokensLine, Form, PassedOver, OtherWord, Asks}
+use Rattle.script_text.specs.Forms.{Sort, EditLine, ParseLine, TokensLine, StatsLine, Form, PassedOver, OtherWord, Asks}
 
 abbrev pub sort_seen : Ask → Sort
 sort_seen Edit = EditLine
 sort_seen (Parse written) = ParseLine written.now
 sort_seen (Tokens written) = TokensLine written.now
+sort_seen Stats = StatsLine
 
 abbrev pub form_seen : Line → Form
 form_seen passed = PassedOver

@@ -1,7 +1,8 @@
 //! What a line of a script is, by its command word.
 
-ghost use Rattle.std.specs.Prelude.{◌≡◌, drop};
-ghost use Rattle.script_text.specs.Forms.{is_comment, begins_edit, form_by, form_of};
+ghost use Rattle.std.specs.Prelude.{◌≡◌, drop, if◌then◌else◌};
+ghost use Rattle.script_text.specs.Forms.{is_comment, begins_edit, form_by, form_of, Asks, StatsLine, OtherWord};
+ghost use Rattle.grammar_text.specs.Pieces.{trimmed, is_empty};
 ghost use Rattle.script_text.specs.Seen.{form_seen};
 
 use grammar_text::{split_piece, trimmed};
@@ -15,6 +16,8 @@ pub(crate) enum Ask<'a> {
     Parse(&'a [u8]),
     /// To scan the text that is written so into tokens.
     Tokens(&'a [u8]),
+    /// To tell what the tables hold.
+    Stats,
 }
 
 /// A line of a script.
@@ -22,7 +25,7 @@ pub(crate) enum Ask<'a> {
 pub(crate) enum Line<'a> {
     /// Blanks alone, or a comment.
     PassedOver,
-    /// Its first piece is no command word.
+    /// Its first piece is no command word, or more stands behind one that takes nothing.
     Unknown,
     /// A line that should be a command.
     Command(Ask<'a>),
@@ -48,6 +51,16 @@ fn behind_blank(behind: &[u8]) -> &[u8]
     }
 }
 
+/// Whether nothing but blanks is there.
+fn is_all_blank(behind: &[u8]) -> bool
+    ensures { result ≡ is_empty (trimmed behind.now) }
+{
+    match trimmed(behind) {
+        [] => true,
+        [_, ..] => false,
+    }
+}
+
 /// Whether edits begin with the word.
 fn begins_edit(word: &[u8]) -> bool
     ensures { result ≡ begins_edit word.now }
@@ -56,6 +69,17 @@ fn begins_edit(word: &[u8]) -> bool
         || word == b"token".as_slice()
         || word == b"skip".as_slice()
         || word == b"drop".as_slice()
+}
+
+/// The form of a line whose command word is `stats`, and these bytes behind it.
+fn form_of_stats(behind: &[u8]) -> Line<'_>
+    ensures { form_seen result ≡ (if is_empty (trimmed behind.now) then Asks StatsLine else OtherWord) }
+{
+    if is_all_blank(behind) {
+        Line::Command(Ask::Stats)
+    } else {
+        Line::Unknown
+    }
 }
 
 /// The form of a line with this command word, and these bytes behind it.
@@ -69,6 +93,8 @@ fn form_by<'a>(word: &[u8], behind: &'a [u8]) -> Line<'a>
         Line::Command(Ask::Parse(behind_blank(behind)))
     } else if word == b"tokens".as_slice() {
         Line::Command(Ask::Tokens(behind_blank(behind)))
+    } else if word == b"stats".as_slice() {
+        form_of_stats(behind)
     } else {
         Line::Unknown
     }

@@ -85,5 +85,6 @@ pub(crate) fn read_command(alloc: Global, line: &[u8], ask: Ask<'_>) -> Result<C
         Ask::Edit => read_edit_line(alloc, line),
         Ask::Parse(written) => Ok(Command::Parse(read_line_text(alloc, written)?)),
         Ask::Tokens(written) => Ok(Command::Tokens(read_line_text(alloc, written)?)),
+        Ask::Stats => Ok(Command::Stats),
     }
 }

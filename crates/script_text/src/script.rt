@@ -18,7 +18,7 @@ use std::alloc::Global;
 /// change the grammar, as `grammar_text::read_edit` reads them; an expression that they add is one that
 /// `regex_ast::read_regex` reads. `parse` asks to parse the text that stands behind it and one blank, up to the
 /// line's end, and `tokens` to scan it; in it `\n`, `\t` and `\\` stand for a line's end, a tab and a backslash.
-/// The error is that of the first bad line.
+/// `stats`, with nothing but blanks behind it, asks what the tables hold. The error is that of the first bad line.
 pub fn read_script(alloc: Global, bytes: &[u8]) -> Result<Script, ScriptError>
     requires { length bytes.now ≤ SCRIPT_LIMIT }
 

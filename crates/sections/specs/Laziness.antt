@@ -9,10 +9,11 @@ use Rattle.pin_rule.specs.declared.sizes.Sizes.{Sizes}
 use Rattle.live_graph.specs.declared.tally.Tallies.{Tallies}
 use Rattle.live_graph.specs.Tallying.{none_counted}
 use Rattle.replies.specs.declared.reply.Reply.{Reply}
-use Rattle.replies.specs.declared.reply.Reply.TheVariants.{Edited, Refused, Parse as Parsing, Tokens as Scanning}
+use Rattle.replies.specs.declared.reply.Reply.TheVariants.{Edited, Refused, Parse as Parsing, Tokens as Scanning, Held}
 use Rattle.sections.specs.declared.alone.AloneError.{AloneError}
 use Rattle.sections.specs.declared.alone.AloneError.TheVariants.{Spent, NoMemory}
 use Rattle.sections.specs.Held.{ScansKey, AsksFor, UsesKeys}
+use Rattle.sections.specs.Holding.{HoldsCounts, HasSameRows}
 use Rattle.sections.specs.Editing.{LeavesRows}
 
 -- no key was asked for
@@ -31,17 +32,32 @@ ParsesOver z grammar text (Parsing version outcome) tallies before after first l
 ParsesOver z grammar text (Scanning version result) tallies before after first last = ⊥
 ParsesOver z grammar text (Edited version) tallies before after first last = ⊥
 ParsesOver z grammar text (Refused why) tallies before after first last = ⊥
+ParsesOver z grammar text (Held items scan) tallies before after first last = ⊥
 
 -- a text that is scanned asks for exactly the keys that its scan reaches
 abbrev pub ScansOver : Sizes → Grammar → List ℕ → Tallies → (before after : ℕ) → (first last : List (List ℕ)) → Type 0
 ScansOver z grammar text tallies before after first last = UsesKeys z grammar (AreAll (ScansKey grammar text)) tallies before after first last
 
--- what a command that was answered so, with these tallies and these steps before and after, made of the graph; an edit takes no step
+-- so many keys were held and were told, no row came or went, and no key was asked for
+pub record CountsRows (grammar : Grammar) (items scan : ℕ) (tallies : Tallies) (first last : List (List ℕ)) : Type 0 where
+  pub counts : HoldsCounts grammar first items scan
+  pub stays : HasSameRows first last
+  pub asks_none : tallies ≡ none_tallied
+
+-- the keys of the graph are counted; no other reply is told of that
+abbrev pub CountsOver : Grammar → Reply → Tallies → (first last : List (List ℕ)) → Type 0
+CountsOver grammar (Held items scan) tallies first last = CountsRows grammar items scan tallies first last
+CountsOver grammar (Edited version) tallies first last = ⊥
+CountsOver grammar (Refused why) tallies first last = ⊥
+CountsOver grammar (Parsing version outcome) tallies first last = ⊥
+CountsOver grammar (Scanning version result) tallies first last = ⊥
+
+-- What a command that was answered so, with these tallies and these steps before and after, made of the graph. Neither an edit nor a count takes a step
 abbrev pub SharesRows : Sizes → Grammar → Command → Reply → Tallies → (before after : ℕ) → (first last : List (List ℕ)) → Type 0
 SharesRows z grammar (Edit edit) reply tallies before after first last = EditsRows grammar edit tallies first last × (after ≡ before)
 SharesRows z grammar (Parse text) reply tallies before after first last = ParsesOver z grammar text reply tallies before after first last
 SharesRows z grammar (Tokens text) reply tallies before after first last = ScansOver z grammar text tallies before after first last
-SharesRows z grammar Stats reply tallies before after first last = ⊥
+SharesRows z grammar Stats reply tallies before after first last = CountsOver grammar reply tallies first last × (after ≡ before)
 
 -- but for an edit that was taken, no row was dropped
 abbrev pub DropsFor : Reply → ℕ × ℕ → Type 0
@@ -49,8 +65,9 @@ DropsFor (Edited version) dropped = Unit {0}
 DropsFor (Refused why) dropped = dropped ≡ (0, 0)
 DropsFor (Parsing version outcome) dropped = dropped ≡ (0, 0)
 DropsFor (Scanning version result) dropped = dropped ≡ (0, 0)
+DropsFor (Held items scan) dropped = dropped ≡ (0, 0)
 
--- where a command is not answered, the bench comes back as it was, unless memory ran out over a text
+-- Where a command is not answered, the bench comes back as it was, unless memory ran out over a text. What is held is always told
 abbrev pub ComesBack : {Bench : Type 0} → Command → AloneError → (old new : Bench) → Type 0
 ComesBack (Edit edit) error old new = new ≡ old
 ComesBack (Parse text) Spent old new = new ≡ old

@@ -1,5 +1,7 @@
 pub mod Commands
 pub mod Held
+pub mod Holding
+pub mod CountedPlaces
 pub mod Asked
 pub mod Editing
 pub mod Alone

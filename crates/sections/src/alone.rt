@@ -1,9 +1,10 @@
 //! One command, while nobody else uses the table.
 
 ghost use Rattle.std.specs.Prelude.{◌≡◌, ◌↔◌, ◌<◌, ◌≤◌, ◌+◌, length, IfOk, IfErr, OnOk, OnErr};
-ghost use Rattle.script_text.specs.declared.command.Command.TheVariants.{Edit as an_edit, Parse as a_parse, Tokens as a_scan};
+ghost use Rattle.script_text.specs.declared.command.Command.TheVariants.{Edit as an_edit, Parse as a_parse, Tokens as a_scan, Stats as a_count};
 ghost use Rattle.script_text.specs.declared.limits.TheConstants.{TEXT_LIMIT};
 ghost use Rattle.edit_log.specs.declared.limits.TheConstants.{LOG_LIMIT};
+ghost use Rattle.edit_log.specs.History.{Grammar};
 ghost use Rattle.edit_log.specs.Verdict.{IsProper};
 ghost use Rattle.graph_content.specs.Contents.{IsLogOfGrammar};
 ghost use Rattle.version_store.specs.Means.{bench_of};
@@ -12,10 +13,11 @@ ghost use Rattle.replies.specs.Blocks.{IsProperCommand};
 ghost use Rattle.sections.specs.Commands.{pins_for};
 ghost use Rattle.sections.specs.Alone.{ServesNext, IsSpent};
 ghost use Rattle.sections.specs.Held.{AddsRowsOf};
-ghost use Rattle.sections.specs.Laziness.{none_tallied, EditsRows, ParsesOver, ScansOver, SharesRows, DropsFor, ComesBack};
+ghost use Rattle.sections.specs.Laziness.{none_tallied, EditsRows, ParsesOver, ScansOver, CountsOver, SharesRows, DropsFor, ComesBack};
 
 use crate::crew::Crew;
 use crate::editing::edit_bench;
+use crate::holding::count_held;
 use crate::texts::{parse_text, scan_text};
 use grammar_text::{Edit, Text};
 use graph_content::GraphRows;
@@ -187,6 +189,26 @@ fn scan_alone<L: Ledger>(
     })
 }
 
+/// Tells how many keys the page holds.
+fn count_alone(bench: Bench<GraphRows>) -> Alone
+    ensures replied { (grammar : Grammar) → IsReply grammar a_count result.reply }
+    ensures serves { (grammar : Grammar) → IsLogOfGrammar (bench_of bench).log grammar
+        → ServesNext (bench_of bench) (bench_of result.bench) grammar }
+    ensures pins { (bench_of result.bench).pins_left ≡ (bench_of bench).pins_left }
+    ensures counts { (grammar : Grammar) → IsLogOfGrammar (bench_of bench).log grammar
+        → CountsOver grammar result.reply result.tallies (bench_of bench).graph (bench_of result.bench).graph }
+    ensures drops { DropsFor result.reply result.dropped }
+{
+    let mut bench = bench;
+    let (items, scan) = count_held(&mut bench);
+    Alone {
+        bench,
+        reply: Reply::Held { items, scan },
+        tallies: none_asked(),
+        dropped: (0, 0),
+    }
+}
+
 /// Answers a command. The bench comes back in any case, for the next command, and so does the crew.
 ///
 /// A text finds the rows that the bench has, and leaves there what it makes. The steps count that and nothing else.
@@ -220,6 +242,6 @@ pub fn run_alone<L: Ledger>(
         Command::Edit(edit) => edit_alone(alloc, bench, crew, edit),
         Command::Parse(text) => parse_alone(alloc, bench, crew, text, steps),
         Command::Tokens(text) => scan_alone(alloc, bench, crew, text, steps),
-        Command::Stats => unreachable!(),
+        Command::Stats => Ok(count_alone(bench)),
     }
 }

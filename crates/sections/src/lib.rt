@@ -8,6 +8,7 @@
 mod alone;
 mod crew;
 mod editing;
+mod holding;
 mod laws;
 mod texts;
 

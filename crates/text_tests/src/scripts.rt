@@ -49,6 +49,7 @@ fn show(alloc: Global, block: &Block, out: &mut Vec<u8>) -> Result<(), AllocErro
             out.extend_from_slice(b"tokens:")?;
             out.extend_from_slice(text.bytes())
         }
+        Block::Alone(Command::Stats) => out.extend_from_slice(b"stats"),
         _ => out.extend_from_slice(b"another command"),
     }
 }

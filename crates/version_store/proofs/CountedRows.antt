@@ -26,7 +26,7 @@ module _ (z : Sizes) (ks : List KnownPlace) (known : IsWholeKnown z ks) (one : I
       (λ index of. let lt = of.0 in subst (λ (x : ℕ). In (index, x) l.words) (sym (same index (omega arith))) (read l j me index (omega arith)))
 
   -- a row has one content
-  one_row : (k l : KnownPlace) (row : ℕ) → In k ks → In l ks → k.met ≡ suc row → l.met ≡ suc row → row_known k ≡ row_known l
+  pub one_row : (k l : KnownPlace) (row : ℕ) → In k ks → In l ks → k.met ≡ suc row → l.met ≡ suc row → row_known k ≡ row_known l
   one_row k l row i j is met = let there = known.rows k row i is in let here = known.rows l row j met in
       let same : (index : ℕ) → In (index, word_in k.words index) k.words → In (index, word_in l.words index) l.words
       → word_in k.words index ≡ word_in l.words index

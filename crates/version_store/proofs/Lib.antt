@@ -27,6 +27,7 @@ pub mod BenchPlace
 pub mod LaterRows
 pub mod KeyedRows
 pub mod CountedRows
+pub mod PlacedRows
 pub mod AddedRows
 pub mod LoneAnswers
 pub mod LoneHands

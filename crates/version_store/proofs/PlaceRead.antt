@@ -24,6 +24,7 @@ use Rattle.version_store.specs.Graphs.{word_in, row_known, rows_known, IsReadWho
 use Rattle.slot_store.specs.Known.{IsLater}
 use Rattle.version_store.specs.Learning.{Grown, Shows}
 use Rattle.version_store.specs.Stages.{IsEditorOf, Goes, ReadsRow}
+use Rattle.version_store.specs.Placed.{StandsKnownAt}
 use Rattle.version_store.specs.PlaceReading.{ReadsPlace}
 use Rattle.version_store.proofs.Going.{goes_on, goes_as, editor_on}
 use Rattle.version_store.proofs.KnownPlaces.{grown_still, met_is}
@@ -103,7 +104,7 @@ module _ (z : Sizes) (ks ls : List KnownPlace) (before : IsWholeKnown z ks) (g :
   same_word k l row i j later met index lt = let there = later.2 _ (before.rows k row i met index lt) in
       once l row index (word_in l.words index) (word_in k.words index) j (later.1 ∙ met) (word_in_is l.words index (word_in k.words index) there) there
 
-  same_row : (k l : KnownPlace) (row : ℕ) → In k ks → In l ls → IsLater k l → k.met ≡ suc row → (row_known l ≡ row_known k) × IsReadWhole l.words
+  pub same_row : (k l : KnownPlace) (row : ℕ) → In k ks → In l ls → IsLater k l → k.met ≡ suc row → (row_known l ≡ row_known k) × IsReadWhole l.words
   same_row k l row i j later met = let s = same_word k l row i j later met in let a = s 0 (omega arith) in let b = s 1 (omega arith) in (
     content_same (word_in l.words) (word_in k.words) (2 + (word_in k.words 0 + word_in k.words 1)) (omega arith) (λ index lt. s index lt),
     λ index lt. let inside : index < 2 + (word_in k.words 0 + word_in k.words 1) = omega arith in
@@ -131,13 +132,23 @@ module _ (z : Sizes) (ks ls : List KnownPlace) (before : IsWholeKnown z ks) (g :
       subst (λ (x : List ℕ). In x (rows_known ls)) ((same_row k.0 l.0 row.0 k.1 l.1 l.2 row.1).0 ∙ sym k.3)
       (row_to ls l.0 l.1 (λ e. k.2 (sym l.2.1 ∙ e)))
 
-  -- the row that was read is of the graph
-  pub read_known : (place row : ℕ) (words : List ℕ) → IsWholeRow words → place < z.places → Shows ls row words
-      → ((k : KnownPlace) → In k ks → k.place ≡ place → k.met ≡ suc row) → In words (rows_known ks)
-  read_known place row words whole_row lt shows met = let k = before.every place lt in let l = g.on k.0 k.1 in let at = met k.0 k.1 k.2 in
+  -- the row that was read stands at the place
+  pub read_there : (place row : ℕ) (words : List ℕ) → IsWholeRow words → place < z.places → Shows ls row words
+      → ((k : KnownPlace) → In k ks → k.place ≡ place → k.met ≡ suc row) → StandsKnownAt ks place words
+  read_there place row words whole_row lt shows met = let k = before.every place lt in let l = g.on k.0 k.1 in let at = met k.0 k.1 k.2 in
       let there = shows l.0 l.1 (l.2.1 ∙ at) in
       let same : (index : ℕ) → index < length words → word_in l.0.words index ≡ slice_index words index
       = λ index i. once l.0 row index (word_in l.0.words index) (slice_index words index) l.1 (l.2.1 ∙ at)
-      (word_in_is l.0.words index (slice_index words index) (there index i)) (there index i) in
-      subst (λ (x : List ℕ). In x (rows_known ks)) (sym (same_row k.0 l.0 row k.1 l.1 l.2 at).0 ∙ row_is l.0 words whole_row same)
-      (row_to ks k.0 k.1 (λ e. let s : 0 ≡ suc row = sym e ∙ at in omega arith))
+      (word_in_is l.0.words index (slice_index words index) (there index i)) (there index i) in (
+        k.0,
+        k.1,
+        k.2,
+        (λ e. let s : 0 ≡ suc row = sym e ∙ at in omega arith),
+        sym (sym (same_row k.0 l.0 row k.1 l.1 l.2 at).0 ∙ row_is l.0 words whole_row same),
+      )
+
+  -- so it is of the graph
+  pub read_known : (place row : ℕ) (words : List ℕ) → IsWholeRow words → place < z.places → Shows ls row words
+      → ((k : KnownPlace) → In k ks → k.place ≡ place → k.met ≡ suc row) → In words (rows_known ks)
+  read_known place row words whole_row lt shows met = let s = read_there place row words whole_row lt shows met in
+      subst (λ (x : List ℕ). In x (rows_known ks)) (sym s.4) (row_to ks s.0 s.1 s.3)

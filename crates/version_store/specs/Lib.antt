@@ -11,6 +11,7 @@ pub mod Stages
 pub mod Choices
 pub mod PlaceReading
 pub mod BenchRows
+pub mod Placed
 pub mod Marks
 pub mod LivePages
 pub mod Notes

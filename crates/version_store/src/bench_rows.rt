@@ -9,7 +9,8 @@ ghost use Rattle.version_store.specs.declared.current.Current.{Current};
 ghost use Rattle.version_store.specs.contracts.bench.Bench.{the_row};
 ghost use Rattle.version_store.specs.PlaceReading.{ReadsPlace};
 ghost use Rattle.version_store.specs.BenchRows.{TellsRow, LendsRow};
-ghost use Rattle.version_store.specs.Means.{bench_of};
+ghost use Rattle.version_store.specs.Placed.{ReadsAt};
+ghost use Rattle.version_store.specs.Means.{bench_of, StandsAt};
 
 use crate::bench::Bench;
 use crate::current::Current;
@@ -28,6 +29,7 @@ impl<C: Content> Editor<C> {
             × ReadsPlace c (view_of self.old.hand) (view_of self.new.hand) place None) }
         ensures some { IfSome result (λ count. (count ≤ length self.new.row.items) × ((c : Current) × (row : ℕ) × (c.sizes ≡ self.old.sizes)
             × ReadsPlace c (view_of self.old.hand) (view_of self.new.hand) place (Some record { row = row; words = take count self.new.row.items }))) }
+        ensures fits { IfSome result (λ count. C.fits (view_of self.new.hand).log (take count self.new.row.items)) }
         ensures told { Tells C.lawful C.fits (view_of self.new.hand) }
     {
         let newest = self.lives.newest;
@@ -49,7 +51,8 @@ impl<C: Content> Bench<C> {
         requires { place < (bench_of self.old).sizes.places }
         ensures lent { LendsRow (bench_of self.old) result }
         ensures* told { sem 𝓛 (follows_so (the_row C.row C.Content) (the_row C.row C.Content) self.entry.ghost_name none (λ _ _. ⊤)
-            (λ n. TellsRow (bench_of self.old) (bench_of n) place result)) }
+            (λ n. TellsRow (bench_of self.old) (bench_of n) place result
+            × ReadsAt C.fits (bench_of self.old) (bench_of n) (StandsAt self.old) (StandsAt n) place result)) }
     {
         match self.editor.read_at(place) {
             Some(count) => Some(&self.editor.row.as_slice()[..count]),

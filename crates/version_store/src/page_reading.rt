@@ -27,6 +27,7 @@ pub(crate) fn read_place<C: Content>(
     ensures none { IfNone result (ReadsPlace current (view_of hand.old) (view_of hand.new) place None) }
     ensures some { IfSome result (λ count. (count ≤ length buffer.new)
         × ((row : ℕ) × ReadsPlace current (view_of hand.old) (view_of hand.new) place (Some record { row = row; words = take count buffer.new }))) }
+    ensures fits { IfSome result (λ count. C.fits (view_of hand.new).log (take count buffer.new)) }
     ensures told { Tells C.lawful C.fits (view_of hand.new) }
     ensures buffer { length buffer.new ≡ current.sizes.width }
 {

@@ -17,7 +17,7 @@ use Rattle.script_text.specs.declared.limits.TheConstants.{COMMAND_LIMIT}
 use Rattle.script_text.specs.Lines.{before_first_line, lines_of}
 use Rattle.script_text.specs.Forms.{Sort}
 use Rattle.script_text.specs.Expressions.{AddsExpression}
-use Rattle.script_text.specs.Commands.{SpellsAs, an_edit, a_text, a_scan}
+use Rattle.script_text.specs.Commands.{SpellsAs, an_edit, a_text, a_scan, a_count}
 use Rattle.script_text.specs.Scripts.{Read, nothing, size_of, ReadsLine, passes, adds, TakesAll, none, more, SpellsScript}
 use Rattle.replies.specs.Blocks.{IsProperCommand, IsProperBlock}
 
@@ -56,6 +56,7 @@ proper : (line : List ℕ) (sort : Sort) (command : Command) → IsByteLine line
 proper line sort command is (an_edit {edit = edit} spelled within has) = (is_sound line edit is.0 is.1 spelled within, proper_edit edit has)
 proper line sort command is (a_text spelled) = spelled.within
 proper line sort command is (a_scan spelled) = spelled.within
+proper line sort command is a_count = tt
 
 all_push : {X : Type 0} (P : X → Type 0) (xs : List X) (x : X) → AllByRecursion P xs → P x → AllByRecursion P (xs ++ x ∷ [])
 all_push P [] x all here = (here, tt)

@@ -1,5 +1,5 @@
 use Rattle.std.proofs.lemmas.Result.{err_from_is_err_and}
-use Rattle.script_text.specs.Commands.{a_text, a_scan}
+use Rattle.script_text.specs.Commands.{a_text, a_scan, a_count}
 use Rattle.script_text.proofs.CommandLaws.{text_refused, scan_refused}
 use Rattle.script_text.proofs.reading.read_command.Goals as goal
 
@@ -22,3 +22,6 @@ returns-in_err-read_line_text-in-Tokens-clause-refused c =
 pub returns-in_ok-read_line_text-in-Tokens-clause-spells :
     goal.returns-in_ok-read_line_text-in-Tokens-clause-spells
 returns-in_ok-read_line_text-in-Tokens-clause-spells c = rw c.in-Tokens.is (a_scan c.in_ok-read_line_text-in-Tokens.ensures.spells)
+
+pub returns-in-Stats-clause-spells : goal.returns-in-Stats-clause-spells
+returns-in-Stats-clause-spells c = rw c.in-Stats.is a_count

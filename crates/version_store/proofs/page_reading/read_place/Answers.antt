@@ -4,6 +4,7 @@ use Rattle.pin_rule.specs.Hands.{view_of}
 use Rattle.pin_rule.proofs.KindLoads.{keeps_load_place}
 use Rattle.slot_store.proofs.Passing.{row_met}
 use Rattle.version_store.proofs.PlaceRead as reads
+use Rattle.version_store.proofs.RowChoice.{read_fits}
 use Rattle.version_store.proofs.page_reading.read_place.Goals as goal
 
 pub load_place-met-requires-clause-keeps : goal.load_place-met-requires-clause-keeps
@@ -45,3 +46,12 @@ returns-clause-some g c = let k = c.load_place-met in let met : ℕ = k.result i
         e.read e.is_whole,
   ),
 )
+
+pub returns-clause-fits : goal.returns-clause-fits
+returns-clause-fits g c = let k = c.load_place-met in let met : ℕ = k.result in let e = c.read_row-count.ensures in
+    let v = view_of c.args.hand.now in let u = view_of k.new.self in
+    read_fits g.C.Content.lawful g.C.Content.fits c.args.current u (view_of c.read_row-count.new.hand) (met - 1)
+    (take c.read_row-count.result c.read_row-count.new.buffer)
+    (reads.editor_at c.args.current v c.requires.editor c.args.place met u k.ensures.view)
+    (reads.named c.args.current v c.requires.editor c.args.place met u k.ensures.view (met - 1) (row_met met c.if-met-eq0.false))
+    e.read e.is_whole e.told

@@ -1,6 +1,7 @@
 use Rattle.std.proofs.Common.{◌≡◌, ◌≤◌, ◌<◌, ℕ, List, take, length, refl, sym, ap, ◌∙◌, subst}
 use Rattle.std.specs.Prelude.{Option, Some, None, IfNone, IfSome}
 use Rattle.atomic_table.specs.Seated.{TableId}
+use Rattle.pin_rule.specs.declared.content.Entry.{Entry}
 use Rattle.pin_rule.specs.declared.sizes.Sizes.{Sizes}
 use Rattle.pin_rule.specs.declared.view.View.{View}
 use Rattle.pin_rule.specs.declared.view.Role.{Role}
@@ -13,8 +14,10 @@ use Rattle.version_store.specs.Rows.{Found, IsWholeRow}
 use Rattle.version_store.specs.Graphs.{rows_known, IsWholeKnown}
 use Rattle.version_store.specs.Meaning.{bench_meaning}
 use Rattle.version_store.specs.BenchRows.{LoadsPlace}
+use Rattle.version_store.specs.Placed.{StandsKnownAt}
 use Rattle.version_store.specs.PlaceReading.{ReadsPlace}
-use Rattle.version_store.proofs.BenchPlace.{once_told, still_known, loads_place, row_there}
+use Rattle.version_store.proofs.BenchPlace.{once_told, still_known, loads_place, row_stands, none_stands, row_there}
+use Rattle.version_store.proofs.PlacedRows.{reads_at}
 use Rattle.version_store.proofs.KnownAgain.{known_again}
 use Rattle.version_store.proofs.bench.Bench.row.Goals as goal
 
@@ -47,17 +50,25 @@ returns-in-Some g c = let b = c.args.self.now in let e = b.editor in let n = c.r
     let known = known_again e.sizes v.known b.all_known in let f : Found = record { row = q.1; words = take count n.row.items } in
     let same : take count n.row.items ≡ take count c.as_slice.result.now = ap (take count) (sym c.as_slice.ensures.value) in
     let there = subst (λ (l : List ℕ). In l (rows_known v.known)) same
-    (row_there v w (table_of e.hand) e.sizes c.args.place (Some f) q.0 q.2 e.measured q.3 all known lt once f refl) in (
+    (row_there v w (table_of e.hand) e.sizes c.args.place (Some f) q.0 q.2 e.measured q.3 all known lt once f refl) in
+    let stands = subst (StandsKnownAt v.known c.args.place) same
+    (row_stands v w (table_of e.hand) e.sizes c.args.place (Some f) q.0 q.2 e.measured q.3 all known lt once f refl) in
+    let F = g.C.Content.fits in
+    let fits = subst (λ (l : List ℕ). F v.log l) same (subst (λ (l : List Entry). F l (take count n.row.items)) q.3.goes.log c.in-Some.ensures.fits) in (
       (
         refl,
         (λ _. tt),
         (
-          f,
-          subst (λ (t : TableId × ℕ). LoadsPlace (bench_meaning v (table_of e.hand)) (bench_meaning w t) c.args.place (Some f)) (sym c.read_at.ensures.table)
-              (loads_place v w (table_of e.hand) e.sizes c.args.place (Some f) q.0 q.2 e.measured q.3 all known lt once),
-          same,
-          subst IsWholeRow same (q.3.is_whole f refl),
-          there,
+          (
+            f,
+            subst (λ (t : TableId × ℕ). LoadsPlace (bench_meaning v (table_of e.hand)) (bench_meaning w t) c.args.place (Some f)) (sym c.read_at.ensures.table)
+                (loads_place v w (table_of e.hand) e.sizes c.args.place (Some f) q.0 q.2 e.measured q.3 all known lt once),
+            same,
+            subst IsWholeRow same (q.3.is_whole f refl),
+            there,
+          ),
+          reads_at g.C.Content.lawful F v w (table_of e.hand) (table_of n.hand) e.sizes c.args.place (Some f) q.0 q.2 e.measured q.3 all known lt once _
+              (stands, fits) c.read_at.ensures.told n.editor,
         ),
       ),
       record { lent = there; told = tt },
@@ -73,8 +84,12 @@ returns-in-None g c = let b = c.args.self.now in let e = b.editor in let n = c.r
       (
         refl,
         (λ _. tt),
-        subst (λ (t : TableId × ℕ). LoadsPlace (bench_meaning v (table_of e.hand)) (bench_meaning w t) c.args.place None) (sym c.read_at.ensures.table)
-            (loads_place v w (table_of e.hand) e.sizes c.args.place None q.0 q.1 e.measured q.2 all known lt once),
+        (
+          subst (λ (t : TableId × ℕ). LoadsPlace (bench_meaning v (table_of e.hand)) (bench_meaning w t) c.args.place None) (sym c.read_at.ensures.table)
+              (loads_place v w (table_of e.hand) e.sizes c.args.place None q.0 q.1 e.measured q.2 all known lt once),
+          reads_at g.C.Content.lawful g.C.Content.fits v w (table_of e.hand) (table_of n.hand) e.sizes c.args.place None q.0 q.1 e.measured q.2 all known lt once
+              _ (none_stands v w (table_of e.hand) e.sizes c.args.place None q.0 q.1 e.measured q.2 all known lt once refl) c.read_at.ensures.told n.editor,
+        ),
       ),
       record { lent = tt; told = tt },
     )

@@ -30,3 +30,8 @@ returns-clause-some g c = let e = c.args.self.now in let k = c.read_place in
     subst (λ (items : List ℕ). IfSome k.result (λ count. (count ≤ length items) × ((x : Current) × (row : ℕ) × (x.sizes ≡ e.sizes)
     × ReadsPlace x (view_of e.hand) (view_of k.new.hand) c.args.place (Some record { row = row; words = take count items })))) same
     (some_on k.result _ _ (λ n h. (h.0, (_, h.1.0, refl, h.1.1))) k.ensures.some)
+
+pub returns-clause-fits : goal.returns-clause-fits
+returns-clause-fits g c = let e = c.args.self.now in let k = c.read_place in
+    let same = sym (with_items_is e.row k.new.buffer (k.auto.buffer ∙ c.as_mut_slice.ensures.len)) in
+    subst (λ (items : List ℕ). IfSome k.result (λ count. g.C.Content.fits (view_of k.new.hand).log (take count items))) same k.ensures.fits
