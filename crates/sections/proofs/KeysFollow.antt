@@ -22,7 +22,7 @@ use Rattle.live_graph.specs.Showing.{IsNarrow}
 use Rattle.replies.specs.declared.reply.Outcome.{Outcome}
 use Rattle.replies.specs.declared.reply.Outcome.TheVariants.{Parsed, Scan, TooLarge}
 use Rattle.replies.specs.declared.reply.Reply.{Reply}
-use Rattle.replies.specs.declared.reply.Reply.TheVariants.{Edited, Refused, Parse as Parsing, Tokens as Scanning}
+use Rattle.replies.specs.declared.reply.Reply.TheVariants.{Edited, Refused, Parse as Parsing, Tokens as Scanning, Held}
 use Rattle.replies.specs.Replies.{grammar_after, unless_refused}
 use Rattle.replies.specs.Blocks.{IsProperCommand}
 use Rattle.sections.specs.Editing.{LeavesUntouched, LeavesBy}
@@ -153,9 +153,14 @@ module _ (z : Sizes) (log : List Entry) (grammar : Grammar) (is_log : IsLogOfGra
   all_fit (Parse text) (Scanning version result) proper never = absurd never
   all_fit (Parse text) (Edited version) proper never = absurd never
   all_fit (Parse text) (Refused why) proper never = absurd never
+  all_fit (Parse text) (Held items n) proper never = absurd never
   all_fit (Tokens text) reply proper shares =
       uses_fit z log grammar is_log first last fit tallies before after (AreAll (ScansKey grammar text)) shares
-  all_fit Stats reply never shares = absurd never
+  all_fit Stats (Held items n) proper shares = λ row there. fit row (shares.0.stays.kept row there)
+  all_fit Stats (Edited version) proper shares = absurd shares.0
+  all_fit Stats (Refused why) proper shares = absurd shares.0
+  all_fit Stats (Parsing version outcome) proper shares = absurd shares.0
+  all_fit Stats (Scanning version result) proper shares = absurd shares.0
 
   pub keys_follow : (command : Command) (reply : Reply) → IsProperCommand command → SharesRows z grammar command reply tallies before after first last
       → FollowsHeld z grammar command reply (held_in grammar first) (held_in (grammar_after grammar command) last)
@@ -165,5 +170,13 @@ module _ (z : Sizes) (log : List Entry) (grammar : Grammar) (is_log : IsLogOfGra
   keys_follow (Parse text) (Scanning version result) proper never = absurd never
   keys_follow (Parse text) (Edited version) proper never = absurd never
   keys_follow (Parse text) (Refused why) proper never = absurd never
+  keys_follow (Parse text) (Held items n) proper never = absurd never
   keys_follow (Tokens text) reply proper shares = all_joined z log grammar is_log first last fit tallies before after (ScansKey grammar text) shares
-  keys_follow Stats reply never shares = absurd never
+  keys_follow Stats (Held items n) proper shares = λ key. (
+    λ held. (held.0, shares.0.stays.kept held.0 held.1, held.2),
+    λ held. (held.0, shares.0.stays.every held.0 held.1, held.2),
+  )
+  keys_follow Stats (Edited version) proper shares = absurd shares.0
+  keys_follow Stats (Refused why) proper shares = absurd shares.0
+  keys_follow Stats (Parsing version outcome) proper shares = absurd shares.0
+  keys_follow Stats (Scanning version result) proper shares = absurd shares.0

@@ -20,7 +20,7 @@ use Rattle.live_graph.specs.Showing.{IsNarrow}
 use Rattle.replies.specs.declared.reply.Outcome.{Outcome}
 use Rattle.replies.specs.declared.reply.Outcome.TheVariants.{Parsed, Scan, TooLarge}
 use Rattle.replies.specs.declared.reply.Reply.{Reply}
-use Rattle.replies.specs.declared.reply.Reply.TheVariants.{Edited, Refused, Parse as Parsing, Tokens as Scanning}
+use Rattle.replies.specs.declared.reply.Reply.TheVariants.{Edited, Refused, Parse as Parsing, Tokens as Scanning, Held}
 use Rattle.replies.specs.Replies.{IsOutcome, IsReply, parsed, grammar_after, unless_refused}
 use Rattle.replies.specs.Blocks.{IsProperCommand, IsProperBlock, grammar_after_all}
 use Rattle.sections.specs.Held.{ReachesKey, ScansKey}
@@ -94,6 +94,7 @@ module _ (z : Sizes) (grammar : Grammar) (old new held : Key → Type 0) (same :
   next_held (Parse text) (Scanning version result) is small room never = absurd never
   next_held (Parse text) (Edited version) is small room never = absurd never
   next_held (Parse text) (Refused why) is small room never = absurd never
+  next_held (Parse text) (Held items n) is small room never = absurd never
   next_held (Tokens text) reply is small room follows = all_join z grammar (ScansKey grammar text) old new held follows same room held_or_lacks
   next_held Stats reply is small room follows =
       λ key. (λ has. (same key).0 ((follows key).0 has), λ was. (follows key).1 ((same key).1 was))

@@ -19,7 +19,7 @@ use Rattle.live_graph.specs.Growing.{HasRowOf}
 use Rattle.replies.specs.declared.reply.Outcome.{Outcome}
 use Rattle.replies.specs.declared.reply.Outcome.TheVariants.{Parsed, Scan, TooLarge}
 use Rattle.replies.specs.declared.reply.Reply.{Reply}
-use Rattle.replies.specs.declared.reply.Reply.TheVariants.{Edited, Refused, Parse as Parsing, Tokens as Scanning}
+use Rattle.replies.specs.declared.reply.Reply.TheVariants.{Edited, Refused, Parse as Parsing, Tokens as Scanning, Held}
 use Rattle.replies.specs.Replies.{IsOutcome, grammar_after}
 use Rattle.sections.specs.Held.{ReachesKey, ScansKey}
 
@@ -81,6 +81,7 @@ JoinsReplied z grammar text (Parsing version outcome) old new = JoinsParsed z gr
 JoinsReplied z grammar text (Scanning version result) old new = ⊥
 JoinsReplied z grammar text (Edited version) old new = ⊥
 JoinsReplied z grammar text (Refused why) old new = ⊥
+JoinsReplied z grammar text (Held items n) old new = ⊥
 
 -- an edit that is taken leaves the keys that it does not affect
 abbrev pub held_unless : Option Refusal → Grammar → AnEdit → (held : Key → Type 0) → Key → Type 0

@@ -13,7 +13,7 @@ use Rattle.workbench.specs.Pieces.{TakesPrefix, GivesCount}
 use Rattle.workbench.specs.declared.top_call.Status.{Status}
 use Rattle.workbench.specs.declared.top_call.Status.TheVariants.{Done, BadWords, ReadFault, WriteFault, NoMemory, BadScript, ScriptTooLong}
 use Rattle.workbench.specs.Ends.{IsLate, StopsBeforeEnd, EndsBy, without_memory, too_long, bad, good}
-use Rattle.workbench.specs.Output.{IsOutput, IsBadScript, too_long as is_too_long, bad as is_bad}
+use Rattle.workbench.specs.Output.{IsOutput, HasNoStats, IsBadScript, too_long as is_too_long, bad as is_bad}
 use Rattle.workbench.specs.Runs.{StopsInOutput}
 use Rattle.workbench.proofs.OneOutput.{front_of_output, nothing_taken}
 
@@ -34,16 +34,16 @@ not_bad script read short spelled (is_bad line first) = not_both script read lin
 
 pub front_at_end : (end : Status) (script : List ℕ) (old new : Option (List ℕ)) → (end ≡ WriteFault → StopsInOutput old new script)
     → (end ≡ NoMemory → (new ≡ old) ⊎ StopsInOutput old new script)
-    → StopsBeforeEnd end → (output : List ℕ) → IsOutput script output → TakesPrefix old new output
-front_at_end Done script old new stopped no_memory ends output is = absurd ends
-front_at_end BadWords script old new stopped no_memory ends output is = absurd ends
-front_at_end ReadFault script old new stopped no_memory ends output is = absurd ends
-front_at_end BadScript script old new stopped no_memory ends output is = absurd ends
-front_at_end ScriptTooLong script old new stopped no_memory ends output is = absurd ends
-front_at_end WriteFault script old new stopped no_memory ends output is = front_of_output script old new (stopped refl) output is
-front_at_end NoMemory script old new stopped no_memory ends output is = elim (no_memory refl) [
+    → StopsBeforeEnd end → HasNoStats script → (output : List ℕ) → IsOutput script output → TakesPrefix old new output
+front_at_end Done script old new stopped no_memory ends without output is = absurd ends
+front_at_end BadWords script old new stopped no_memory ends without output is = absurd ends
+front_at_end ReadFault script old new stopped no_memory ends without output is = absurd ends
+front_at_end BadScript script old new stopped no_memory ends without output is = absurd ends
+front_at_end ScriptTooLong script old new stopped no_memory ends without output is = absurd ends
+front_at_end WriteFault script old new stopped no_memory ends without output is = front_of_output script old new (stopped refl) without output is
+front_at_end NoMemory script old new stopped no_memory ends without output is = elim (no_memory refl) [
   | inl same ↦ nothing_taken old new output same
-  | inr early ↦ front_of_output script old new early output is
+  | inr early ↦ front_of_output script old new early without output is
 ]
 
 -- ---- a run that no fault stops

@@ -1,7 +1,11 @@
 -- What the workbench writes for a script.
 use Rattle.std.specs.Prelude.{◌<◌, ◌≤◌, ℕ, List, [], length}
+use Rattle.std.specs.List.{AllByRecursion}
 use Rattle.edit_log.specs.History.{empty_grammar}
 use Rattle.pin_rule.specs.Layout.{full_sizes}
+use Rattle.script_text.specs.declared.command.Command.TheVariants.{Edit, Parse, Tokens, Stats}
+use Rattle.script_text.specs.declared.command.Block.{Block}
+use Rattle.script_text.specs.declared.command.Block.TheVariants.{Alone, Par}
 use Rattle.script_text.specs.declared.command.Script.{Script}
 use Rattle.script_text.specs.declared.bad_script.BadScript.{BadScript}
 use Rattle.script_text.specs.declared.limits.TheConstants.{SCRIPT_LIMIT}
@@ -20,3 +24,15 @@ pub data IsOutput (script : List ℕ) : List ℕ → Type 0 where
 pub data IsBadScript (script : List ℕ) : Type 0 where
   too_long : SCRIPT_LIMIT < length script → IsBadScript script
   bad : (line : BadScript) → IsFirstBad script line → IsBadScript script
+
+-- the block does not ask what is held
+abbrev pub IsWithoutStats : Block → Type 0
+IsWithoutStats (Alone (Edit edit)) = Unit {0}
+IsWithoutStats (Alone (Parse text)) = Unit {0}
+IsWithoutStats (Alone (Tokens text)) = Unit {0}
+IsWithoutStats (Alone Stats) = ⊥
+IsWithoutStats (Par commands) = Unit {0}
+
+-- no command of the script asks what is held, so the grammars alone decide its output
+abbrev pub HasNoStats : List ℕ → Type 0
+HasNoStats script = (read : Script) → SpellsScript script read → AllByRecursion IsWithoutStats read.blocks

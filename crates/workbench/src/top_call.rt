@@ -16,7 +16,7 @@ ghost use Rattle.pin_rule.specs.Layout.{full_sizes};
 ghost use Rattle.version_store.specs.Meaning.{IsNewBench};
 ghost use Rattle.workbench.specs.Serving.{HasBench, bench_in};
 ghost use Rattle.workbench.specs.Runs.{AnswersAll, WritesAll, StopsInReplies, StopsInOutput, RunsWhole, RunsBad, StopsEarly};
-ghost use Rattle.workbench.specs.Output.{IsOutput, IsBadScript};
+ghost use Rattle.workbench.specs.Output.{IsOutput, IsBadScript, HasNoStats};
 ghost use Rattle.workbench.specs.Pieces.{TakesPrefix, TakesProperPrefix, GivesCount, TellsBytes};
 ghost use Rattle.replies.specs.Lines.{bad_line};
 
@@ -257,7 +257,7 @@ pub fn run<S: Source, K: Sink>(alloc: Global, words: &[&str], source: &mut S, si
         → StopsEarly (S.left source.old) (S.left source.new) (K.taken sink.old) (K.taken sink.new) }
     ensures no_memory { result.status ≡ Status.NoMemory → (K.taken sink.new ≡ K.taken sink.old)
         ⊎ StopsEarly (S.left source.old) (S.left source.new) (K.taken sink.old) (K.taken sink.new) }
-    ensures front { StopsBeforeEnd result.status → IfSome (S.left source.old) (λ script. (output : List ℕ)
+    ensures front { StopsBeforeEnd result.status → IfSome (S.left source.old) (λ script. HasNoStats script → (output : List ℕ)
         → IsOutput script output → TakesPrefix (K.taken sink.old) (K.taken sink.new) output) }
 {
     if words.len() > 1 {

@@ -3,7 +3,7 @@ use Rattle.bench_io.specs.Known.{IsKnownAs}
 use Rattle.script_text.specs.declared.limits.TheConstants.{SCRIPT_LIMIT}
 use Rattle.workbench.specs.Pieces.{TakesPrefix, GivesCount}
 use Rattle.workbench.specs.Ends.{EndsBy, without_memory}
-use Rattle.workbench.specs.Output.{IsOutput, IsBadScript}
+use Rattle.workbench.specs.Output.{IsOutput, HasNoStats, IsBadScript}
 use Rattle.workbench.proofs.OneOutput.{if_known, output_of}
 use Rattle.workbench.proofs.RunEnds.{not_bad, front_at_end, ends_by, ends_too_long}
 use Rattle.workbench.proofs.RunCauses.{no_count, other_count, silent_not_bad, only_bad}
@@ -76,7 +76,7 @@ returns-in-Ok-clause-front g c = λ ends.
     let new = g.K.Sink.taken c.run_script.new.sink in
     let left = g.S.Source.left c.args.source.now in
     let known : IsKnownAs left c.deref.result.now = subst (IsKnownAs left) (sym c.deref.ensures.value) c.in-Ok.ensures.whole in
-    if_known left c.deref.result.now (λ script. (output : List ℕ) → IsOutput script output → TakesPrefix old new output) known
+    if_known left c.deref.result.now (λ script. HasNoStats script → (output : List ℕ) → IsOutput script output → TakesPrefix old new output) known
     (front_at_end c.run_script.result.status c.deref.result.now old new c.run_script.ensures.stopped c.run_script.ensures.no_memory ends)
 
 pub returns-in-Err-NoMemory-clause-complete : goal.returns-in-Err-NoMemory-clause-complete
