@@ -29,7 +29,7 @@ use Rattle.workbench.proofs.RunSteps.{answered_whole}
 
 -- ---- before the first block
 
-log_none : IsLogOfGrammar [] empty_grammar
+pub log_none : IsLogOfGrammar [] empty_grammar
 log_none = record { history = []; is = record { is_history = tt; entries = refl }; made = refl }
 
 pub bench_none : (bench : BenchMeaning) → IsNewBench full_sizes bench → IsBenchBehind [] bench

@@ -4,3 +4,4 @@ pub mod BenchSteps
 pub mod OneOutput
 pub mod RunEnds
 pub mod RunCauses
+pub mod RoomyRuns

@@ -10,6 +10,7 @@ use Rattle.pin_rule.specs.Layout.{full_sizes}
 use Rattle.version_store.specs.declared.bench.Bench.{Bench}
 use Rattle.version_store.specs.Meaning.{BenchMeaning}
 use Rattle.version_store.specs.Means.{bench_of}
+use Rattle.row_coding.specs.Rows.{Key}
 use Rattle.graph_content.specs.Contents.{IsLogOfGrammar}
 use Rattle.live_graph.specs.declared.tally.Tallies.{Tallies}
 use Rattle.replies.specs.declared.reply.Reply.{Reply}
@@ -52,6 +53,10 @@ pub data AreAnswers (z : Sizes) : Grammar → List Block → (first last : List 
   more : {grammar : Grammar} {command : Command} {blocks : List Block} {reply : Reply} {first next last : List (List ℕ)} {lines : List ℕ} →
       IsReply grammar command reply → LeavesGraph z grammar command reply first next → AreAnswers z (grammar_after grammar command) blocks next last lines
       → AreAnswers z grammar (Alone command ∷ blocks) first last (reply_text grammar.symbols reply ++ lines)
+
+-- the set of no key: what is held before the first command
+abbrev pub no_key : Key → Type 0
+no_key key = ⊥
 
 -- how many pins the blocks take
 abbrev pub pins_for_all : List Block → ℕ

@@ -11,5 +11,5 @@ mod sink_writing;
 mod source_reading;
 mod top_call;
 
-pub use laws::{good_or_bad, one_output};
+pub use laws::{good_or_bad, graph_of_roomy_script, one_output};
 pub use top_call::{Ended, Status, run};
