@@ -1,6 +1,6 @@
 //! Parts of trails, link by link.
 
-ghost use Rattle.std.specs.Prelude.{◌≡◌, ◌↔◌, [], ◌∷◌, ◌++◌, OnOk, Some, IsTrue};
+ghost use Rattle.std.specs.Prelude.{◌≡◌, ◌<◌, ◌^◌, ◌↔◌, ℕ, List, [], ◌∷◌, ◌++◌, OnOk, Some, IsTrue, length};
 ghost use Rattle.gss.specs.Trails.{PassesLink};
 ghost use Rattle.gss.specs.Descents.{IsMetAfter};
 
@@ -40,7 +40,10 @@ fn is_named(through: Option<u32>, link: u32) -> bool
 
 /// After how many links the named one is met, once the link stands below so many others.
 #[inline(always)]
-fn met_with(through: Option<u32>, link: u32, met: usize, count: usize) -> usize {
+fn met_with(through: Option<u32>, link: u32, met: usize, count: usize) -> usize
+    requires { count < 2 ^ 63 }
+    ensures { (part : List ℕ) → length part ≡ count → IsMetAfter through part met → IsMetAfter through (part ++ link ∷ []) result }
+{
     if met <= count {
         return met;
     }
