@@ -13,7 +13,7 @@ use Rattle.gss.proofs.TrailOrders.{down_pushed, down_popped, from_first, from_st
 use Rattle.gss.proofs.TrailParts.{above_none, above_pushed, above_popped, above_turned, from_below, met_told, met_popped}
 use Rattle.gss.proofs.TrailRanks.{lists_of, rank, rank_below, rank_before, fits_down}
 
-part_of_trail : (links : List Edge) (walk : Walk) (trail : List ℕ) → IsTrailOf links walk trail → IsPartOfTrail links walk trail
+pub part_of_trail : (links : List Edge) (walk : Walk) (trail : List ℕ) → IsTrailOf links walk trail → IsPartOfTrail links walk trail
 part_of_trail links walk trail is = record { node = is.node; down = is.down; few = omega (arith, is.size); above = is.above }
 
 -- ---- down

@@ -22,9 +22,11 @@ use Rattle.rekers.proofs.Trails.{between, link_rises}
 
 -- ---- flat levels
 
--- a trail ends with the link
-EndsWith : List ℕ → ℕ → Type 0
-EndsWith trail link = (front : List ℕ) × (trail ≡ front ++ link ∷ [])
+-- a trail ends with the link, and leads up to where the link does
+pub record EndsUp (trail : List ℕ) (link upper top : ℕ) : Type 0 where
+  pub front : List ℕ
+  pub ends : trail ≡ front ++ link ∷ []
+  pub is_top : upper ≡ top
 
 -- a link leads down to the node
 pub record LeadsUp (links : List Edge) (node : ℕ) : Type 0 where
@@ -56,8 +58,9 @@ module _ (rules : List Rule) (tokens : List SymbolId) (f : Findings) (graph : Is
   ]
 
   -- a trail through a link of the level ends with it
-  ends_up : {lower top : ℕ} {trail labels : List ℕ} {xs : List SymbolId} → IsTrail f.links lower trail xs labels top
-      → (through : ℕ) (edge : Edge) → slice_get f.links through ≡ Some edge → first_link ≤ through → Contains trail through → EndsWith trail through
+  pub ends_up : {lower top : ℕ} {trail labels : List ℕ} {xs : List SymbolId} → IsTrail f.links lower trail xs labels top
+      → (through : ℕ) (edge : Edge) → slice_get f.links through ≡ Some edge → first_link ≤ through → Contains trail through → EndsUp trail through
+      edge.upper top
   ends_up here through edge there of_level (k, l, e) = absurd (omega (arith, l))
   ends_up {top = top} (over {lower = lower} {middle = middle} {link = link} {x = x} {label = label} {trail = rest} first on) through edge there of_level c =
       elim (contains_cases link rest through c) [
@@ -65,13 +68,17 @@ module _ (rules : List Rule) (tokens : List SymbolId) (f : Findings) (graph : Is
             let is : edge.upper ≡ middle = ap (λ (e : Edge). e.upper)
             (one_at f.links through edge _ there (subst (λ n. slice_get f.links n ≡ Some (edge_of middle x lower label)) same first)) in
             elim (nothing_or_more on) [
-              | inl none ↦ ([], ap (λ n. n ∷ rest) same ∙ ap (λ ns. through ∷ ns) none.0)
+              | inl none ↦ record {
+                  front = [];
+                  ends = ap (λ n. n ∷ rest) same ∙ ap (λ ns. through ∷ ns) none.0;
+                  is_top = is ∙ none.1;
+                }
               | inr more ↦ absurd (none_above more.next middle more.edge more.there more.leads
                   (omega (arith, level.links_here through edge there of_level, is)))
             ]
         | inr behind ↦
-            let (front, e) = ends_up on through edge there of_level behind in
-            (link ∷ front, ap (λ ns. link ∷ ns) e)
+            let up = ends_up on through edge there of_level behind in
+            record { front = link ∷ up.front; ends = ap (λ ns. link ∷ ns) up.ends; is_top = up.is_top }
       ]
 
 -- ---- starts
@@ -105,9 +112,9 @@ module _ (rules : List Rule) (tokens : List SymbolId) (p : Parser) (sound : IsSo
   start_before {trail = trail} on through = elim is.begins [
     | inl none ↦ subst (λ ts. IsFrom ts (reverse trail)) (sym none) tt
     | inr case ↦
-        let (front, e) = ends_up rules tokens (found p) sound.graph p.level.at p.level.first_node p.level.first_link sound.level (sound.flat case.is_flat) on
+        let up = ends_up rules tokens (found p) sound.graph p.level.at p.level.first_node p.level.first_link sound.level (sound.flat case.is_flat) on
         walk.through case.edge case.there of_level.of_level through.has in
-        let turned : reverse trail ≡ walk.through ∷ reverse front = ap (λ ns. reverse ns) e ∙ reverse-append front (walk.through ∷ []) in
+        let turned : reverse trail ≡ walk.through ∷ reverse up.front = ap (λ ns. reverse ns) up.ends ∙ reverse-append up.front (walk.through ∷ []) in
         subst (λ ts. IsFrom ts (reverse trail)) (sym case.is) (subst (λ ts. IsFrom (walk.through ∷ []) ts) (sym turned) (inr (refl, tt)))
   ]
 

@@ -14,7 +14,6 @@ use Rattle.parser_states.specs.declared.reduction.Reduction.{Reduction}
 use Rattle.rekers.specs.Found.{Findings, IsNode, Grows, IsTrail, here, over}
 use Rattle.rekers.specs.Reductions.{IsPartial, IsReduced, IsFoundAlong}
 use Rattle.rekers.specs.Sound.{IsSoundGraph}
-use Rattle.rekers.specs.Steps.{EndsWith}
 use Rattle.rekers.proofs.Growth.{one_at, one_kernel, trail_back, reduced_grows, told_grows, node_grows}
 use Rattle.rekers.proofs.Trails.{between, part_cases, one_told}
 

@@ -59,4 +59,4 @@ returns-clause-step g c =
     c.in_ok-split.ensures.same c.in_ok-split.ensures.sound c.in_ok-split.ensures.grows
 
 pub returns-clause-trail : goal.returns-clause-trail
-returns-clause-trail g c = ap (λ (q : Parser). q.trail) c.in_ok-split.ensures.same
+returns-clause-trail g c = ap (λ (q : Parser). q.trails) c.in_ok-split.ensures.same
