@@ -116,7 +116,7 @@ module _ (rules : List Rule) (tokens : List SymbolId) (numbers : IsNumbered rule
       | inl in_f ↦ elim (so_far.only split in_f) [
         | inl in_old ↦ inl in_old
         | inr (on, before) ↦ inr (
-            found_grows f g grows on,
+            record { trail = on.trail; told = told_grows f g grows on.told; number = on.number; through = on.through },
             λ more. before_from (reverse on.trail) standing.trail next.trail (before refl)
                 (from_before standing.trail next.trail ((comes_next more).to_come.1 begun)),
           )
