@@ -1,5 +1,5 @@
 -- Where walks begin: no trail is left out, and the parser has changed nothing but its walk.
-use Rattle.std.proofs.Common.{◌≡◌, ℕ, suc, ◌+◌, ◌<◌, ◌≤◌, ◌⊎◌, inl, inr, List, [], ◌∷◌, ◌++◌, length, reverse}
+use Rattle.std.proofs.Common.{◌≡◌, ℕ, ◌≤◌, ◌⊎◌, inl, inr, List, [], ◌∷◌, ◌++◌, reverse}
 use Rattle.std.proofs.Common.{refl, sym, ◌∙◌, ap, subst, arith, Contains, slice_get, Some}
 use Rattle.std.proofs.lemmas.Bool.{cases_lt}
 use Rattle.std.proofs.lemmas.List.{reverse-append}
@@ -69,10 +69,10 @@ module _ (rules : List Rule) (tokens : List SymbolId) (f : Findings) (graph : Is
             (one_at f.links through edge _ there (subst (λ n. slice_get f.links n ≡ Some (edge_of middle x lower label)) same first)) in
             elim (nothing_or_more on) [
               | inl none ↦ record {
-                  front = [];
-                  ends = ap (λ n. n ∷ rest) same ∙ ap (λ ns. through ∷ ns) none.0;
-                  is_top = is ∙ none.1;
-                }
+                front = [];
+                ends = ap (λ n. n ∷ rest) same ∙ ap (λ ns. through ∷ ns) none.0;
+                is_top = is ∙ none.1;
+              }
               | inr more ↦ absurd (none_above more.next middle more.edge more.there more.leads
                   (omega (arith, level.links_here through edge there of_level, is)))
             ]

@@ -1,8 +1,8 @@
 -- The trails that a walk goes over, the upper link first, are those that reductions are made along, the lowest link first.
-use Rattle.std.proofs.Common.{◌≡◌, ◌⊎◌, inl, inr, ℕ, suc, ◌<◌, ◌≤◌, List, [], ◌∷◌, ◌++◌, length, reverse, Some, slice_get, Contains}
+use Rattle.std.proofs.Common.{◌≡◌, inl, inr, ℕ, ◌≤◌, List, [], ◌∷◌, ◌++◌, length, reverse, Some, slice_get, Contains}
 use Rattle.std.proofs.Common.{refl, sym, ◌∙◌, ap, subst, arith}
 use Rattle.std.proofs.lemmas.Bool.{cases_lt}
-use Rattle.std.proofs.lemmas.List.{append_assoc, append-nil, length-reverse, reverse-reverse, reverse-append}
+use Rattle.std.proofs.lemmas.List.{append_assoc, length-reverse, reverse-reverse, reverse-append}
 use Rattle.std.proofs.lemmas.List.Elements.{Contains-append_left, Contains-append_right, Contains-append_cases}
 use Rattle.forest.specs.declared.symbols.SymbolId.{SymbolId}
 use Rattle.forest.specs.declared.rules.Rule.{Rule}
@@ -11,7 +11,7 @@ use Rattle.item_sets.proofs.Numbering.{IsNumbered}
 use Rattle.item_sets.proofs.Chains.{at_below}
 use Rattle.gss.specs.declared.stack_graph.Edge.{Edge}
 use Rattle.gss.specs.PlaceGraphs.{place_with, edge_of}
-use Rattle.gss.specs.Trails.{LeadsDown, PassesLink, StaysAbove, IsTrailOf, IsTrailBefore}
+use Rattle.gss.specs.Trails.{LeadsDown, StaysAbove, IsTrailOf, IsTrailBefore}
 use Rattle.gss.proofs.TrailOrders.{down_pushed}
 use Rattle.gss.proofs.TrailParts.{one_node}
 use Rattle.parser_states.specs.declared.reduction.Reduction.{Reduction}
@@ -76,7 +76,7 @@ module _ (rules : List Rule) (tokens : List SymbolId) (f : Findings) (graph : Is
   goes_on_down numbers {reduction} {top} {at} last [] node left lower done labels partial size down = (
     labels,
     subst (λ n. IsPartial rules f reduction n 0 done labels top at) down
-    (subst (λ n. IsPartial rules f reduction node n done labels top at) (sym size) partial),
+        (subst (λ n. IsPartial rules f reduction node n done labels top at) (sym size) partial),
   )
   goes_on_down numbers {reduction} {top} {at} last (link ∷ trail) node left lower done labels partial size (edge, there, up, le, on) =
       let one = subst (λ n. IsPartial rules f reduction node n done labels top at) (sym size) partial in

@@ -1,5 +1,5 @@
 -- What a walk has done that has come to some of its trails.
-use Rattle.std.proofs.Common.{◌≡◌, ℕ, ◌<◌, ◌≤◌, ◌⊎◌, inl, inr, List, [], ◌∷◌, ◌++◌, length, reverse, Bool, true, false, IsTrue, Contains, slice_get}
+use Rattle.std.proofs.Common.{◌≡◌, ℕ, ◌<◌, ◌≤◌, ◌⊎◌, inl, inr, List, [], length, reverse, Bool, true, false, IsTrue, Contains}
 use Rattle.std.proofs.Common.{refl, sym, ◌∙◌, ap, subst, arith}
 use Rattle.std.proofs.lemmas.List.{append-nil, length-reverse, reverse-reverse}
 use Rattle.std.proofs.lemmas.Option.{slice_get_within}
@@ -10,9 +10,8 @@ use Rattle.item_sets.specs.declared.item.Item.{Item}
 use Rattle.item_sets.proofs.Numbering.{IsNumbered}
 use Rattle.item_sets.proofs.Chains.{at_below}
 use Rattle.live_graph.specs.Meaning.{GraphMeaning}
-use Rattle.gss.specs.declared.stack_graph.Edge.{Edge}
 use Rattle.gss.specs.declared.trails.Walk.{Walk as TrailWalk}
-use Rattle.gss.specs.Trails.{LeadsDown, IsTrailOf, IsTrailBefore, IsFrom, IsPartOfTrail, IsOn, Standing, IsToCome, IsNextTrail, IsAtEnd}
+use Rattle.gss.specs.Trails.{LeadsDown, IsTrailOf, IsTrailBefore, IsFrom, IsOn, Standing, IsNextTrail, IsAtEnd}
 use Rattle.gss.proofs.TrailOrders.{from_here, from_before, before_from, from_whole}
 use Rattle.gss.proofs.TrailParts.{one_node}
 use Rattle.gss.proofs.TrailSteps.{part_of_trail, comes, calls_left, fewer_calls}
@@ -23,7 +22,7 @@ use Rattle.rekers.specs.declared.parser.Parser.{Parser}
 use Rattle.rekers.specs.declared.level.Level.{Level}
 use Rattle.rekers.specs.declared.walk.Walk.{Walk}
 use Rattle.rekers.specs.Found.{Findings, found, IsNode, Grows}
-use Rattle.rekers.specs.Reductions.{IsPartial, IsReducible, IsReduced, IsFoundAlong}
+use Rattle.rekers.specs.Reductions.{IsReducible, IsReduced}
 use Rattle.rekers.specs.Sound.{IsSoundGraph, IsSoundParser, IsLevel}
 use Rattle.rekers.specs.Starts.{trails_for, IsStart, IsTop}
 use Rattle.rekers.specs.Steps.{IsStep, IsWithinLimit, IsFoundOn, IsFresh, IsWalked, IsThrough, IsOfLevel, IsToReduce, Reduces, trail_of}
@@ -100,10 +99,13 @@ module _ (rules : List Rule) (tokens : List SymbolId) (numbers : IsNumbered rule
             let of = subst (λ w. IsTrailOf g.links w (reverse trail)) (sym walk_is) (of_walk low trail labels p through) in
             let (more, which) = comes g.links standing next is_more comes_next ends (reverse trail) of
             (from_before standing.trail (reverse trail) later, λ b. later) in
-            inl (more, elim which [
-              | inl same ↦ subst (λ ns. IsFrom next.trail ns) (sym same) (from_here next.trail)
-              | inr behind ↦ from_before next.trail (reverse trail) behind
-            ])
+            inl (
+              more,
+              elim which [
+                | inl same ↦ subst (λ ns. IsFrom next.trail ns) (sym same) (from_here next.trail)
+                | inr behind ↦ from_before next.trail (reverse trail) behind
+              ],
+            )
       ]
 
   pub walked_more : IsWalkedTo rules old g walk at next is_more
@@ -116,20 +118,20 @@ module _ (rules : List Rule) (tokens : List SymbolId) (numbers : IsNumbered rule
       | inl in_f ↦ elim (so_far.only split in_f) [
         | inl in_old ↦ inl in_old
         | inr (on, before) ↦ inr (
-            record { trail = on.trail; told = told_grows f g grows on.told; number = on.number; through = on.through },
-            λ more. before_from (reverse on.trail) standing.trail next.trail (before refl)
-                (from_before standing.trail next.trail ((comes_next more).to_come.1 begun)),
-          )
+          record { trail = on.trail; told = told_grows f g grows on.told; number = on.number; through = on.through },
+          λ more. before_from (reverse on.trail) standing.trail next.trail (before refl)
+              (from_before standing.trail next.trail ((comes_next more).to_come.1 begun)),
+        )
       ]
       | inr (number, told) ↦ inr (
-          record {
-            trail = reverse standing.trail;
-            told = told;
-            number = number;
-            through = through_reverse f.links walk first_node standing.trail (subst (λ w. IsTrailOf f.links w standing.trail) walk_is here);
-          },
-          λ more. subst (λ ns. IsTrailBefore ns next.trail) (sym (reverse-reverse standing.trail)) ((comes_next more).to_come.1 begun),
-        )
+        record {
+          trail = reverse standing.trail;
+          told = told;
+          number = number;
+          through = through_reverse f.links walk first_node standing.trail (subst (λ w. IsTrailOf f.links w standing.trail) walk_is here);
+        },
+        λ more. subst (λ ns. IsTrailBefore ns next.trail) (sym (reverse-reverse standing.trail)) ((comes_next more).to_come.1 begun),
+      )
     ];
   }
 
@@ -172,10 +174,13 @@ under_way_first tokens p graph steps walk start at is_more sound within of_level
             let from = start_before rules tokens p sound walk of_level start is q.along through in
             let (more, which) = comes p.stacks.links start at is_more next end (reverse trail) of
             (from, λ b. absurd (let no = b in let not = is.not_begun in cc)) in
-            inl (more, elim which [
-              | inl it ↦ subst (λ ns. IsFrom at.trail ns) (sym it) (from_here at.trail)
-              | inr behind ↦ from_before at.trail (reverse trail) behind
-            ]);
+            inl (
+              more,
+              elim which [
+                | inl it ↦ subst (λ ns. IsFrom at.trail ns) (sym it) (from_here at.trail)
+                | inr behind ↦ from_before at.trail (reverse trail) behind
+              ],
+            );
         only = λ split c. inl c;
       };
     }

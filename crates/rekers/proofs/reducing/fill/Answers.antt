@@ -17,8 +17,7 @@ links-preserved c =
     let near : c.links.left - 1 < length trail = omega (arith, c.links-test.true, c.links.invariant.0) in
     let less : c.links.left - 1 ≤ length trail = omega (arith, near) in
     let one_more : c.links.left ≡ c.links.left - 1 + 1 = omega (arith, c.links-test.true) in
-    let so_far = subst (λ n. c.links.parts.items ≡ labels_of c.args.stacks.now.links (reverse (drop n trail))) one_more c.links.invariant.1 in
-    (
+    let so_far = subst (λ n. c.links.parts.items ≡ labels_of c.args.stacks.now.links (reverse (drop n trail))) one_more c.links.invariant.1 in (
       less,
       labels_more c.args.stacks.now.links trail (c.links.left - 1) c.edge.result c.links.parts.items c.push.new.self.items near c.edge.ensures so_far
           c.in_ok-push.ensures.items,

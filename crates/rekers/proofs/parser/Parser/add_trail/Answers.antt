@@ -1,5 +1,5 @@
 -- The split of a trail, whose parts are the labels of its links.
-use Rattle.std.proofs.Common.{◌++◌, [], ◌∷◌, reverse, sym, ◌∙◌, ap, subst, Contains}
+use Rattle.std.proofs.Common.{reverse, sym, ◌∙◌, ap, subst, Contains}
 use Rattle.packed_spans.specs.Packed.{ArePartsOf}
 use Rattle.rekers.specs.Steps.{labels_of}
 use Rattle.rekers.proofs.parser.Parser.add_trail.Goals as goal
