@@ -7,6 +7,7 @@ pub mod Reading
 pub mod LinkWalks
 pub mod KernelNumbers
 pub mod TrailOrders
+pub mod TrailParts
 pub mod TrailRanks
 pub mod TrailSteps
 pub mod PathTrails

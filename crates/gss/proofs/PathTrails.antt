@@ -28,8 +28,8 @@ use Rattle.gss.specs.Paths.{node_id, IsPathDown, HasStep, GoesThrough, IsPathOf}
 use Rattle.gss.specs.Trails.{LeadsDown, IsTrailOf, IsTrailBefore, IsPartOfTrail, IsOn, Standing, IsToCome, IsNextTrail, IsAtEnd}
 use Rattle.gss.specs.Views.{link_in, links_in, AddsNew, named, walk_of, lower_of, path_along}
 use Rattle.gss.proofs.Columns.{to_column, from_column}
-use Rattle.gss.proofs.TrailOrders.{down_within}
-use Rattle.gss.proofs.TrailSteps.{left_from, fewer_left}
+use Rattle.gss.proofs.TrailOrders.{down_within, from_before}
+use Rattle.gss.proofs.TrailSteps.{comes, calls_left, fewer_calls}
 
 -- ---- one trail and its path
 
@@ -164,7 +164,7 @@ module _ (links : List Edge) (node : NodeId) (count : ℕ) where
       → (trail : List ℕ) × IsTrailOf links (walk_of node count through) trail × (path ≡ path_along links node trail)
   trail_of_path few None path is =
       let has = path_down links none few count node path.nodes is.down in
-      (has.trail, record { node = has.end; down = has.down; size = has.size; passes = tt }, path_is links node has.trail path has.nodes_are)
+      (has.trail, record { node = has.end; down = has.down; size = has.size; passes = tt; above = λ front rest link at e on unmet. omega arith }, path_is links node has.trail path has.nodes_are)
   trail_of_path few (Some l) path is =
       let (link, at, (k, upper, lower)) = is.passes in
       let (edge, at', same) = from_column link_in links l.0 link at in
@@ -172,7 +172,7 @@ module _ (links : List Edge) (node : NodeId) (count : ℕ) where
       let lower' : slice_get path.nodes (suc k) ≡ Some (node_id edge.lower) =
       subst (λ n. slice_get path.nodes n ≡ Some (node_id link.lower)) (add-one k) lower ∙ ap (λ (q : Link). Some (node_id q.lower)) (sym same) in
       let (has, passes) = step_passes links none few l.0 edge at' count node path.nodes is.down k upper' lower' in
-      (has.trail, record { node = has.end; down = has.down; size = has.size; passes = passes }, path_is links node has.trail path has.nodes_are)
+      (has.trail, record { node = has.end; down = has.down; size = has.size; passes = passes; above = λ front rest link at e on unmet. omega arith }, path_is links node has.trail path has.nodes_are)
 
 -- ---- the list that the walk is made into
 
@@ -220,17 +220,6 @@ module _ {X : Type 0} (old new : List X) (x : X) (adds : AddsNew old new x) wher
     | inr is ↦ elim (Contains-push_cases old x y (subst (λ xs. Contains xs y) is.1 c)) [ inl before ↦ inl before | inr now ↦ inr now ]
   ]
 
--- what a call of the walk tells of the trails that were to come
-comes : (links : List Edge) (at at' : Standing) (found : Bool) → (IsTrue found → IsNextTrail links at at'.trail) → (found ≡ false → IsAtEnd links at)
-    → (trail : List ℕ) → IsTrailOf links at.walk trail → IsToCome at trail → IsTrue found × ((trail ≡ at'.trail) ⊎ IsTrailBefore at'.trail trail)
-comes links at at' true next end trail is to_come = (refl, (next refl).first trail is to_come)
-comes links at at' false next end trail is to_come = absurd (end refl trail is to_come)
-
--- how many calls are left at most
-abbrev pub calls_left : List Edge → Standing → Bool → ℕ
-calls_left links at true = suc (left_from links at.walk at.trail)
-calls_left links at false = 0
-
 module _ (links : List Edge) (node : NodeId) (count : ℕ) (through : Option LinkId) where
   abbrev pub new_walk : Standing
   new_walk = record { walk = walk_of node count through; is_begun = false; trail = [] }
@@ -245,7 +234,7 @@ module _ (links : List Edge) (node : NodeId) (count : ℕ) (through : Option Lin
     here = λ t. (next t).is;
     distinct = tt;
     within = λ path c. absurd (omega (arith, c.1));
-    all = λ trail is. inl (comes links new_walk at is_more next end trail is (λ t. absurd (let no = t in cc)));
+    all = λ trail is. inl (comes links new_walk at is_more next end trail is (tt, λ t. absurd (let no = t in cc)));
   }
 
   module _ (at at' : Standing) (is_more : Bool) (found new : List Path) (so_far : ArePathsSoFar links node count through at true found)
@@ -267,21 +256,13 @@ module _ (links : List Edge) (node : NodeId) (count : ℕ) (through : Option Lin
         | inl (more, inl here) ↦
             inr (subst (λ t. Contains new (path_along links node t)) (sym here) (adds_it found new (path_along links node at.trail) adds))
         | inl (more, inr behind) ↦
-            inl (comes links at at' is_more next end trail (subst (λ (w : Walk). IsTrailOf links w trail) (sym so_far.walk) is) (λ t. behind))
+            inl (comes links at at' is_more next end trail (subst (λ (w : Walk). IsTrailOf links w trail) (sym so_far.walk) is)
+            (from_before at.trail trail behind, λ t. behind))
       ];
     }
 
-    pub paths_fewer : calls_left links at' is_more < calls_left links at true
-    paths_fewer = fewer is_more refl
-      where
-        fewer : (more : Bool) → is_more ≡ more → calls_left links at' more < calls_left links at true
-        fewer false is = omega arith
-        fewer true is =
-            let before = (next (let t : IsTrue is_more = cc in t)).to_come so_far.begun in
-            let part = subst (λ (w : Walk). IsPartOfTrail links w at'.trail) walk (on begun) in
-            let less = fewer_left links at.walk at.trail at'.trail (so_far.on so_far.begun) part before in
-            let same : left_from links at'.walk at'.trail ≡ left_from links at.walk at'.trail = ap (λ (w : Walk). left_from links w at'.trail) walk in
-            omega (arith, less, same)
+    pub paths_fewer : calls_left at' is_more < calls_left at true
+    paths_fewer = fewer_calls links at at' is_more so_far.begun so_far.on walk on next
 
   pub paths_all : (at : Standing) (found : List Path) → length links < none + 1 → IfSome through (λ l. l.0 < length links)
       → ArePathsSoFar links node count through at false found → AreAll (IsPathOf (links_in links) node count through) found

@@ -7,8 +7,7 @@ use Rattle.forest.proofs.Ascending.{contains_cases}
 use Rattle.gss.specs.declared.stack_graph.Edge.{Edge}
 use Rattle.gss.specs.Numbers.{IsLeast}
 use Rattle.gss.specs.PlaceGraphs.{LeadsDownFrom, LeadsFromSame}
-use Rattle.gss.specs.Trails.{LeadsDown, IsTrailBefore}
-use Rattle.gss.specs.Descents.{IsFrom}
+use Rattle.gss.specs.Trails.{LeadsDown, IsTrailBefore, IsFrom}
 
 -- ---- the order
 
@@ -74,7 +73,7 @@ from_whole (link ∷ trail) (x ∷ other) size (inr (same, on)) = elim (from_who
 pub none_until : {P : ℕ → Type 0} (least last : ℕ) → IsLeast P least → last < least → (other : ℕ) → P other → last < other
 none_until least last is behind other has = elim (cases_lt other least) [ inl less ↦ absurd (is.least other less has) | inr not ↦ omega (arith, behind, not) ]
 
-same_edge : (links : List Edge) (a b : ℕ) (edge other : Edge) → slice_get links a ≡ Some edge → slice_get links b ≡ Some other → a ≡ b → other ≡ edge
+pub same_edge : (links : List Edge) (a b : ℕ) (edge other : Edge) → slice_get links a ≡ Some edge → slice_get links b ≡ Some other → a ≡ b → other ≡ edge
 same_edge links a b edge other at at' same = same_Some other edge (sym at' ∙ ap (λ l. slice_get links l) (sym same) ∙ at)
 
 module _ (links : List Edge) (last : ℕ) where

@@ -1,7 +1,6 @@
 -- Ranks of parts of trails among all lists of so many numbers, so that a walk ends.
 use Rattle.std.proofs.Common.{◌≡◌, inl, inr, ℕ, zero, suc, ◌+◌, ◌*◌, ◌<◌, ◌≤◌, List, [], ◌∷◌, length, subst, arith}
 use Rattle.std.proofs.Math.Nat.{mul-le-mul_right}
-use Rattle.std.proofs.lemmas.Option.{slice_get_within}
 use Rattle.gss.specs.declared.stack_graph.Edge.{Edge}
 use Rattle.gss.specs.Trails.{LeadsDown, IsTrailBefore}
 
@@ -51,12 +50,10 @@ module _ (base : ℕ) (some : 0 < base) where
       let more = rank_before n part trail fits fits' before in
       subst (λ l. rank base (suc n) (link ∷ part) < rank base (suc n) (l ∷ trail)) same (omega (arith, more))
 
--- links that lead down fit below one more than their count
+-- links that lead down fit below one more than the last one
 pub fits_down : (links : List Edge) (last top n : ℕ) (part : List ℕ) (node : ℕ) → LeadsDown links last top part node → length part ≤ n
-    → FitsIn (suc (length links)) n part
+    → FitsIn (suc last) n part
 fits_down links last top n [] node down few = tt
 fits_down links last top zero (x ∷ part) node down few = absurd (omega (arith, few))
-fits_down links last top (suc n) (x ∷ part) node (edge, at, up, le, on) few = (
-  omega (arith, slice_get_within links x edge at),
-  fits_down links last edge.lower n part node on (omega (arith, few)),
-)
+fits_down links last top (suc n) (x ∷ part) node (edge, at, up, le, on) few =
+    (omega (arith, le), fits_down links last edge.lower n part node on (omega (arith, few)))

@@ -1,14 +1,12 @@
 -- How a walk goes from one trail to the next one.
-use Rattle.std.specs.Prelude.{◌≡◌, ◌⊎◌, ℕ, ◌<◌, List, [], ◌∷◌, Bool, IsTrue, false, true}
+use Rattle.std.specs.Prelude.{◌≡◌, ◌⊎◌, ◌↔◌, ℕ, ◌≤◌, List, length, take, Option, Bool, IsTrue, false, true}
 use Rattle.gss.specs.declared.stack_graph.Edge.{Edge}
 use Rattle.gss.specs.declared.trails.Walk.{Walk}
-use Rattle.gss.specs.Trails.{IsTrailOf, IsPartOfTrail, IsTrailBefore}
+use Rattle.gss.specs.Trails.{PassesLink, IsTrailOf, IsPartOfTrail, IsTrailBefore, IsFrom}
 
--- the trail goes on from the part, or has a newer link where the two first differ
-abbrev pub IsFrom : List ℕ → List ℕ → Type 0
-IsFrom [] trail = Unit {0}
-IsFrom (link ∷ part) [] = ⊥
-IsFrom (link ∷ part) (other ∷ trail) = (link < other) ⊎ ((link ≡ other) × IsFrom part trail)
+-- A part has met the link, if one is named, after so many links; or after more than it has, where it has not met it.
+abbrev pub IsMetAfter : Option ℕ → List ℕ → ℕ → Type 0
+IsMetAfter through part met = (n : ℕ) → n ≤ length part → (met ≤ n) ↔ PassesLink through (take n part)
 
 -- the walk has gone from one part to another, which is whole or leads no further, and has come past no trail
 pub record GoesTo (links : List Edge) (walk : Walk) (old new : List ℕ) (is_whole : Bool) : Type 0 where

@@ -1,5 +1,5 @@
 -- Trails: links by number, one after the other down from a top node, the upper one first.
-use Rattle.std.specs.Prelude.{◌≡◌, ◌⊎◌, ℕ, ◌<◌, ◌≤◌, List, [], ◌∷◌, length, slice_get, Option, None, Some, Bool, IsTrue, Contains}
+use Rattle.std.specs.Prelude.{◌≡◌, ◌⊎◌, ℕ, ◌<◌, ◌≤◌, List, [], ◌∷◌, ◌++◌, length, slice_get, Option, None, Some, Bool, IsTrue, Contains}
 use Rattle.gss.specs.declared.stack_graph.Edge.{Edge}
 use Rattle.gss.specs.declared.trails.Walk.{Walk}
 
@@ -14,12 +14,18 @@ abbrev pub PassesLink : Option ℕ → List ℕ → Type 0
 PassesLink None trail = Unit {0}
 PassesLink (Some through) trail = Contains trail through
 
+-- where the trail goes on from a node before it has gone through the link that is named, the node is not below the floor
+abbrev pub StaysAbove : List Edge → Walk → List ℕ → Type 0
+StaysAbove links walk trail = (front rest : List ℕ) (link node : ℕ) → trail ≡ front ++ link ∷ rest → LeadsDown links walk.last walk.top front node
+    → (PassesLink walk.through front → ⊥) → walk.floor ≤ node
+
 -- the trail is one of those that the walk is for
 pub record IsTrailOf (links : List Edge) (walk : Walk) (trail : List ℕ) : Type 0 where
   pub node : ℕ
   pub down : LeadsDown links walk.last walk.top trail node
   pub size : length trail ≡ walk.length
   pub passes : PassesLink walk.through trail
+  pub above : StaysAbove links walk trail
 
 -- where the two first differ, the trail has the older link
 abbrev pub IsTrailBefore : List ℕ → List ℕ → Type 0
@@ -27,7 +33,13 @@ IsTrailBefore [] other = ⊥
 IsTrailBefore (link ∷ trail) [] = ⊥
 IsTrailBefore (link ∷ trail) (other ∷ others) = (link < other) ⊎ ((link ≡ other) × IsTrailBefore trail others)
 
--- a walk, and the trail that it stands at once it has begun
+-- the trail goes on from the part, or has a newer link where the two first differ
+abbrev pub IsFrom : List ℕ → List ℕ → Type 0
+IsFrom [] trail = Unit {0}
+IsFrom (link ∷ part) [] = ⊥
+IsFrom (link ∷ part) (other ∷ trail) = (link < other) ⊎ ((link ≡ other) × IsFrom part trail)
+
+-- a walk, and the trail that it stands at; before it has begun, the part that it begins with
 pub record Standing : Type 0 where
   pub walk : Walk
   pub is_begun : Bool
@@ -38,14 +50,15 @@ pub record IsPartOfTrail (links : List Edge) (walk : Walk) (trail : List ℕ) : 
   pub node : ℕ
   pub down : LeadsDown links walk.last walk.top trail node
   pub few : length trail ≤ walk.length
+  pub above : StaysAbove links walk trail
 
--- the walk stands at links of these, if it has begun
+-- the walk stands at links of these
 abbrev pub IsOn : List Edge → Standing → Type 0
-IsOn links at = IsTrue at.is_begun → IsPartOfTrail links at.walk at.trail
+IsOn links at = IsPartOfTrail links at.walk at.trail
 
--- the walk has not come to the trail yet
+-- the walk has not come to the trail yet: from the part on that it begins with, and behind the trail that it stands at once it has begun
 abbrev pub IsToCome : Standing → List ℕ → Type 0
-IsToCome at trail = IsTrue at.is_begun → IsTrailBefore at.trail trail
+IsToCome at trail = IsFrom at.trail trail × (IsTrue at.is_begun → IsTrailBefore at.trail trail)
 
 -- the first of the trails that the walk has not come to
 pub record IsNextTrail (links : List Edge) (at : Standing) (trail : List ℕ) : Type 0 where

@@ -54,7 +54,7 @@ named (Some link) = Some link.0
 
 -- the walk for paths of so many links down from the node
 abbrev pub walk_of : NodeId → ℕ → Option LinkId → Walk
-walk_of node count through = record { top = node.0; length = count; last = none; through = named through }
+walk_of node count through = record { top = node.0; length = count; last = none; through = named through; floor = 0 }
 
 -- the node below the link
 abbrev pub lower_of : List Edge → ℕ → NodeId

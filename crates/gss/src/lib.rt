@@ -8,6 +8,7 @@
 
 use std::alloc::AllocError;
 
+mod part;
 mod paths;
 mod rows;
 mod stack_graph;

@@ -31,6 +31,7 @@ fn walk_for(node: NodeId, count: u32, through: Option<LinkId>) -> Walk
             Some(link) => Some(link.0),
             None => None,
         },
+        floor: 0,
     }
 }
 

@@ -1,12 +1,14 @@
 //! Walks over trails, which are links one after the other down from a top node.
 
-ghost use Rattle.std.specs.Prelude.{◌≡◌, ◌<◌, ◌≤◌, ◌↔◌, ℕ, false, [], IfSome, IfNone, IfOk, OnOk, IsTrue};
+ghost use Rattle.std.specs.Prelude.{◌≡◌, ◌<◌, ◌≤◌, ◌↔◌, ℕ, List, false, [], ◌∷◌, IfSome, IfNone, IfOk, OnOk, IsTrue};
+ghost use Rattle.gss.specs.declared.stack_graph.Edge.{Edge};
 ghost use Rattle.gss.specs.Numbers.{IsLeast};
 ghost use Rattle.gss.specs.PlaceGraphs.{LeadsDownFrom, LeadsFromSame};
 ghost use Rattle.gss.specs.Trails.{LeadsDown, PassesLink, IsPartOfTrail, IsOn, IsNextTrail, IsAtEnd};
-ghost use Rattle.gss.specs.Descents.{GoesTo, TurnsTo, FindsTrail};
+ghost use Rattle.gss.specs.Descents.{IsMetAfter, GoesTo, TurnsTo, FindsTrail};
 
 use crate::NoMemory;
+use crate::part::Part;
 use crate::stack_graph::StackGraph;
 use std::alloc::Global;
 use std::marker::Model;
@@ -22,6 +24,8 @@ pub struct Walk {
     pub last: u32,
     /// The link that they go through, if one is named.
     pub through: Option<u32>,
+    /// The lowest node from which they go on before they have gone through the named link.
+    pub floor: u32,
 }
 
 /// The trails of a walk, one after the other, each once: oldest links first, at the top before below. All lie in one
@@ -35,19 +39,23 @@ pub struct Trails {
     walk: Walk,
     /// Whether the walk has come to a trail, or has found none.
     is_begun: bool,
-    /// The links of the trail, the upper one first.
-    links: Vec<u32>,
+    /// The links of the trail, or of the part that the walk begins with.
+    part: Part,
 }
 
 impl Model for Trails {
     ghost use Rattle.gss.specs.Trails.{Standing};
+    ghost use Rattle.gss.specs.Descents.{IsMetAfter};
 
     ghost Value = { Standing };
 
-    ghost view = { λ t. record { walk = t.walk; is_begun = t.is_begun; trail = t.links.items } };
+    ghost view = { λ t. record { walk = t.walk; is_begun = t.is_begun; trail = t.part.links.items } };
+
+    ghost invariant = { λ t. IsMetAfter t.walk.through t.part.links.items t.part.met };
 }
 
 /// The next link down from the same node, unless it is behind the last one.
+#[inline(always)]
 fn next_until(graph: &StackGraph, link: u32, last: u32) -> Option<u32>
     ensures next { IfSome result (λ next. IsLeast (LeadsFromSame graph.now.links link) next × (next ≤ last)) }
     ensures none { IfNone result ((other : ℕ) → LeadsFromSame graph.now.links link other → last < other) }
@@ -62,6 +70,7 @@ fn next_until(graph: &StackGraph, link: u32, last: u32) -> Option<u32>
 }
 
 /// The oldest link down from the node, unless it is behind the last one.
+#[inline(always)]
 fn first_until(graph: &StackGraph, node: u32, last: u32) -> Option<u32>
     ensures first { IfSome result (λ first. IsLeast (LeadsDownFrom graph.now.links node) first × (first ≤ last)) }
     ensures none { IfNone result ((other : ℕ) → LeadsDownFrom graph.now.links node other → last < other) }
@@ -76,6 +85,7 @@ fn first_until(graph: &StackGraph, node: u32, last: u32) -> Option<u32>
 }
 
 /// The node that the links lead down to.
+#[inline(always)]
 fn end_of(graph: &StackGraph, walk: Walk, links: &[u32]) -> u32
     requires { IsPartOfTrail graph.now.links walk links.now }
     ensures { LeadsDown graph.now.links walk.last walk.top links.now result }
@@ -87,59 +97,74 @@ fn end_of(graph: &StackGraph, walk: Walk, links: &[u32]) -> u32
     graph.edge(links[count - 1]).lower
 }
 
-/// Whether the links go through the one that is named, if one is.
-fn passes(through: Option<u32>, links: &[u32]) -> bool
-    ensures { IsTrue result ↔ PassesLink through links.now }
+/// Whether no trail of the walk goes on from the node: it is below the floor, and the part has not met the named link.
+#[inline(always)]
+fn is_below(part: &Part, walk: Walk, node: u32) -> bool
+    requires { IsMetAfter walk.through part.now.links.items part.now.met }
+    ensures below { IsTrue result → (node < walk.floor) × (PassesLink walk.through part.now.links.items → ⊥) }
+    ensures above { result ≡ false → (PassesLink walk.through part.now.links.items → ⊥) → walk.floor ≤ node }
 {
-    let Some(link) = through else {
-        return true;
-    };
-    links.contains(&link)
+    if part.passes(walk.through) {
+        return false;
+    }
+    node < walk.floor
 }
 
 /// Goes down by the oldest links. Whether this made a trail of the walk.
-fn go_down(graph: &StackGraph, links: &mut Vec<u32>, walk: Walk) -> Result<bool, NoMemory>
-    requires { IsPartOfTrail graph.now.links walk links.old.items }
-    ensures { IfOk result (GoesTo graph.now.links walk links.old.items links.new.items) }
+#[inline(always)]
+fn go_down(graph: &StackGraph, part: &mut Part, walk: Walk) -> Result<bool, NoMemory>
+    requires part { IsPartOfTrail graph.now.links walk part.old.links.items }
+    requires met { IsMetAfter walk.through part.old.links.items part.old.met }
+    ensures goes { IfOk result (GoesTo graph.now.links walk part.old.links.items part.new.links.items) }
+    ensures met { IsMetAfter walk.through part.new.links.items part.new.met }
 {
-    'down: while links.len() < walk.length as usize {
-        let node = end_of(graph, walk, links);
+    'down: while part.links.len() < walk.length as usize {
+        let node = end_of(graph, walk, &part.links);
+        if is_below(part, walk, node) {
+            return Ok(false);
+        }
         let Some(link) = first_until(graph, node, walk.last) else {
             return Ok(false);
         };
-        links.push(link)?;
+        part.put(walk.through, link)?;
     }
-    Ok(passes(walk.through, links))
+    Ok(part.passes(walk.through))
 }
 
 /// Goes up to the lowest link that has a newer one beside it, and takes that one in its place. Whether there is one.
-fn turn(graph: &StackGraph, links: &mut Vec<u32>, walk: Walk) -> Result<bool, NoMemory>
-    requires { IsPartOfTrail graph.now.links walk links.old.items }
-    ensures part { OnOk result (IsPartOfTrail graph.now.links walk links.new.items) }
-    ensures turns { IfOk result (TurnsTo graph.now.links walk links.old.items links.new.items) }
+#[inline(always)]
+fn turn(graph: &StackGraph, part: &mut Part, walk: Walk) -> Result<bool, NoMemory>
+    requires part { IsPartOfTrail graph.now.links walk part.old.links.items }
+    requires met { IsMetAfter walk.through part.old.links.items part.old.met }
+    ensures part { OnOk result (IsPartOfTrail graph.now.links walk part.new.links.items) }
+    ensures turns { IfOk result (TurnsTo graph.now.links walk part.old.links.items part.new.links.items) }
+    ensures met { IsMetAfter walk.through part.new.links.items part.new.met }
 {
-    'up: while let Some(link) = links.pop() {
+    'up: while let Some(link) = part.links.pop() {
         if let Some(next) = next_until(graph, link, walk.last) {
-            links.push(next)?;
+            part.put(walk.through, next)?;
             return Ok(true);
         }
     }
     Ok(false)
 }
 
-/// FindsTrail the first trail from this part on. Whether there is one.
-fn find(graph: &StackGraph, links: &mut Vec<u32>, walk: Walk) -> Result<bool, NoMemory>
-    requires { IsPartOfTrail graph.now.links walk links.old.items }
-    ensures part { OnOk result (IsPartOfTrail graph.now.links walk links.new.items) }
-    ensures finds { IfOk result (FindsTrail graph.now.links walk links.old.items links.new.items) }
+/// Finds the first trail from this part on. Whether there is one.
+#[inline(always)]
+fn find(graph: &StackGraph, part: &mut Part, walk: Walk) -> Result<bool, NoMemory>
+    requires part { IsPartOfTrail graph.now.links walk part.old.links.items }
+    requires met { IsMetAfter walk.through part.old.links.items part.old.met }
+    ensures part { OnOk result (IsPartOfTrail graph.now.links walk part.new.links.items) }
+    ensures finds { IfOk result (FindsTrail graph.now.links walk part.old.links.items part.new.links.items) }
+    ensures met { IsMetAfter walk.through part.new.links.items part.new.met }
 {
-    let mut is_whole = go_down(graph, links, walk)?;
+    let mut is_whole = go_down(graph, part, walk)?;
     'turns: while !is_whole {
-        let turns = turn(graph, links, walk)?;
+        let turns = turn(graph, part, walk)?;
         if !turns {
             return Ok(false);
         }
-        is_whole = go_down(graph, links, walk)?;
+        is_whole = go_down(graph, part, walk)?;
     }
     Ok(true)
 }
@@ -147,22 +172,33 @@ fn find(graph: &StackGraph, links: &mut Vec<u32>, walk: Walk) -> Result<bool, No
 impl Trails {
     /// A buffer for walks, with one that has not begun.
     pub fn new(alloc: Global, walk: Walk) -> Trails
-        ensures { result ≡ record { walk = walk; is_begun = false; trail = [] } }
+        ensures is { result ≡ record { walk = walk; is_begun = false; trail = [] } }
+        ensures on { (links : List Edge) → IsOn links result }
     {
         Trails {
             walk,
             is_begun: false,
-            links: Vec::new(alloc),
+            part: Part::new(alloc, walk.through),
         }
     }
 
     /// Another walk in the same buffer.
     pub fn begin(&mut self, walk: Walk)
-        ensures { self.new ≡ record { walk = walk; is_begun = false; trail = [] } }
+        ensures is { self.new ≡ record { walk = walk; is_begun = false; trail = [] } }
+        ensures on { (links : List Edge) → IsOn links self.new }
     {
         self.walk = walk;
         self.is_begun = false;
-        self.links.clear();
+        self.part.clear(walk.through);
+    }
+
+    /// Another walk in the same buffer, which leaves out all trails before those that begin with the link.
+    pub fn begin_with(&mut self, walk: Walk, link: u32) -> Result<(), NoMemory>
+        ensures { OnOk result (self.new ≡ record { walk = walk; is_begun = false; trail = link ∷ [] }) }
+    {
+        self.begin(walk);
+        self.part.put(walk.through, link)?;
+        Ok(())
     }
 
     /// Goes on to the next trail. Whether there is one.
@@ -176,22 +212,31 @@ impl Trails {
     {
         if !self.is_begun {
             self.is_begun = true;
-            self.links.clear();
-            let found = find(graph, &mut self.links, self.walk)?;
+            let found = find(graph, &mut self.part, self.walk)?;
             return Ok(found);
         }
-        let turns = turn(graph, &mut self.links, self.walk)?;
+        let turns = turn(graph, &mut self.part, self.walk)?;
         if !turns {
             return Ok(false);
         }
-        let found = find(graph, &mut self.links, self.walk)?;
+        let found = find(graph, &mut self.part, self.walk)?;
         Ok(found)
     }
 
     /// The links of the trail, the upper one first.
+    #[inline]
     pub fn links(&self) -> &[u32]
         ensures { result.now ≡ self.now.trail }
     {
-        &self.links
+        &self.part.links
+    }
+
+    /// The node that the trail leads down to.
+    #[inline]
+    pub fn end(&self, graph: &StackGraph) -> u32
+        requires { IsOn graph.now.links self.now }
+        ensures { LeadsDown graph.now.links self.now.walk.last self.now.walk.top self.now.trail result }
+    {
+        end_of(graph, self.walk, &self.part.links)
     }
 }

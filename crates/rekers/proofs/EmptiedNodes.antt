@@ -1,8 +1,6 @@
 -- The empty rules of a node are reduced one after the other.
-use Rattle.std.proofs.Common.{◌≡◌, ℕ, suc, ◌+◌, ◌<◌, ◌≤◌, ◌⊎◌, inl, inr, List, [], length, Contains, slice_get, slice_index_or, Some}
+use Rattle.std.proofs.Common.{◌≡◌, ℕ, suc, ◌+◌, ◌<◌, ◌≤◌, ◌⊎◌, inl, inr, List, [], length, reverse, Contains, slice_get, slice_index_or, Some}
 use Rattle.std.proofs.Common.{refl, sym, ◌∙◌, ap, subst, arith}
-use Rattle.std.specs.declared.alloc.Global.{Global}
-use Rattle.std.specs.declared.vec.Vec.{Vec}
 use Rattle.std.proofs.lemmas.Bool.{cases_lt}
 use Rattle.std.proofs.lemmas.Option.{slice_get_within, slice_get-get_or}
 use Rattle.forest.specs.declared.symbols.SymbolId.{SymbolId}
@@ -17,6 +15,7 @@ use Rattle.packed_spans.proofs.Lists.{contains_at, at_contained}
 use Rattle.parser_states.specs.declared.reduction.Reduction.{Reduction}
 use Rattle.parser_states.specs.Reductions.{ListsReductions}
 use Rattle.parser_states.specs.Expanded.{OfState}
+use Rattle.gss.specs.Trails.{Standing}
 use Rattle.parser_states.specs.Asked.{StandsButKernels}
 use Rattle.parser_states.proofs.AskedKernels.{stands_same, stands_join}
 use Rattle.rekers.specs.declared.parser.Parser.{Parser}
@@ -24,11 +23,11 @@ use Rattle.rekers.specs.declared.level.Level.{Level}
 use Rattle.rekers.specs.Found.{found, IsNode}
 use Rattle.rekers.specs.Reductions.{IsReducible, IsReduced, IsFoundAlong, IsWorked}
 use Rattle.rekers.specs.Sound.{IsSoundParser}
-use Rattle.rekers.specs.Steps.{IsStep, IsWithinLimit, IsToReduce, Reduces}
+use Rattle.rekers.specs.Steps.{IsStep, IsWithinLimit, IsToReduce, Reduces, trail_of}
 use Rattle.rekers.proofs.Growth.{one_at, one_kernel, kernel_at, node_grows, told_grows}
 use Rattle.rekers.proofs.Walks.{partial_left, reduced_on, told_back}
 use Rattle.rekers.proofs.Stepping.{step_none, step_on}
-use Rattle.rekers.proofs.DownLinks.{sound_trail, within_trail}
+use Rattle.rekers.proofs.StartedWalks.{sound_walk, within_walk}
 use Rattle.rekers.proofs.Worked.{worked_node}
 use Rattle.rekers.proofs.EmptyRules.{one_listing, other_rule, along_none, listed_reducible, reducible_listed}
 
@@ -38,7 +37,7 @@ pub record HasEmptied {Base : Type 0} (tokens : List SymbolId) (old new : Parser
   pub within : IsWithinLimit new
   pub stands : StandsButKernels graph graph'
   pub never_back : before ≤ after
-  pub trail : new.trail.items ≡ []
+  pub trail : new.trails.trail ≡ []
   pub kernel : List Item
   pub node_is : IsNode (found old) node kernel old.level.at
   pub reductions : List Reduction
@@ -52,18 +51,18 @@ pub record HasEmptied {Base : Type 0} (tokens : List SymbolId) (old new : Parser
 abbrev pub AreEmpties : Parser → (state : ℕ) → List Reduction → Type 0
 AreEmpties parser state list = OfState parser.states state (λ rules kernel. ListsReductions rules kernel (λ size. size ≡ 0) list)
 
-pub none_emptied : {Base : Type 0} (tokens : List SymbolId) (p : Parser) (trail : Vec ℕ Global) (graph : GraphMeaning Base) (steps node : ℕ) (place : Place)
-    (list : List Reduction) → IsSoundParser graph.grammar.rules tokens p → IsWithinLimit p → trail.items ≡ [] → p.level.first_node ≤ node
+pub none_emptied : {Base : Type 0} (tokens : List SymbolId) (p : Parser) (at : Standing) (graph : GraphMeaning Base) (steps node : ℕ) (place : Place)
+    (list : List Reduction) → IsSoundParser graph.grammar.rules tokens p → IsWithinLimit p → at.trail ≡ [] → p.level.first_node ≤ node
     → slice_get p.stacks.nodes node ≡ Some place → AreEmpties p place.state list
-    → HasEmptied tokens p (record p { trail = trail }) graph graph steps steps node 0
-none_emptied tokens p trail graph steps node place list sound within none of_level there empties =
+    → HasEmptied tokens p (record p { trails = at }) graph graph steps steps node 0
+none_emptied tokens p at graph steps node place list sound within none of_level there empties =
     let rules = graph.grammar.rules in
     let (kernel, named, reached) = sound.graph.nodes node place there in
     let level = sound.level.nodes_here node place there of_level in
     let step = step_none tokens p graph steps sound in
     record {
-      step = record { sound = sound_trail rules tokens p trail sound; grows = step.grows; placed = step.placed; level = step.level; asks = step.asks };
-      within = within_trail p trail within;
+      step = record { sound = sound_walk rules tokens p at sound; grows = step.grows; placed = step.placed; level = step.level; asks = step.asks };
+      within = within_walk p at within;
       stands = stands_same graph;
       never_back = omega arith;
       trail = none;
@@ -125,7 +124,7 @@ module _ {Base : Type 0} (tokens : List SymbolId) (p q : Parser) (graph graph' :
 
   -- the next reduction is to be made
   pub next_empty : (links : ℕ) → IsWorked graph.grammar.rules (found p) links node → (r : Reduction) → slice_get so_far.reductions past ≡ Some r
-      → IsToReduce graph'.grammar.rules (found q) r node q.trail.items node q.level.at
+      → IsToReduce graph'.grammar.rules (found q) r node (trail_of q) node q.level.at
   next_empty links worked r there =
       let fresh : IsToReduce graph.grammar.rules (found q) r node [] node p.level.at = record {
         labels = [];
@@ -140,17 +139,17 @@ module _ {Base : Type 0} (tokens : List SymbolId) (p q : Parser) (graph graph' :
         ];
       } in
       let leveled = subst (λ (l : Level). IsToReduce graph.grammar.rules (found q) r node [] node l.at) (sym so_far.step.level) fresh in
-      let trailed = subst (λ ts. IsToReduce graph.grammar.rules (found q) r node ts node q.level.at) (sym so_far.trail) leveled in
-      subst (λ (gr : Grammar). IsToReduce gr.rules (found q) r node q.trail.items node q.level.at) (sym so_far.stands.grammar) trailed
+      let trailed = subst (λ ts. IsToReduce graph.grammar.rules (found q) r node (reverse ts) node q.level.at) (sym so_far.trail) leveled in
+      subst (λ (gr : Grammar). IsToReduce gr.rules (found q) r node (trail_of q) node q.level.at) (sym so_far.stands.grammar) trailed
 
   -- it is made
   pub emptied_more : (r : Reduction) → slice_get so_far.reductions past ≡ Some r → (t : Parser) (graph'' : GraphMeaning Base) (after : ℕ)
-      → IsStep tokens q t graph' graph'' between after → Reduces graph'.grammar.rules (found q) (found t) r node q.trail.items node q.level.at
-      → IsWithinLimit t → t.trail ≡ q.trail → StandsButKernels graph' graph'' → between ≤ after
+      → IsStep tokens q t graph' graph'' between after → Reduces graph'.grammar.rules (found q) (found t) r node (trail_of q) node q.level.at
+      → IsWithinLimit t → t.trails ≡ q.trails → StandsButKernels graph' graph'' → between ≤ after
       → HasEmptied tokens p t graph graph'' before after node (past + 1)
-  emptied_more r there t graph'' after step reduces within trail stands never_back =
-      let by_rules = subst (λ (gr : Grammar). Reduces gr.rules (found q) (found t) r node q.trail.items node q.level.at) so_far.stands.grammar reduces in
-      let by_trail = subst (λ ts. Reduces graph.grammar.rules (found q) (found t) r node ts node q.level.at) so_far.trail by_rules in
+  emptied_more r there t graph'' after step reduces within trails stands never_back =
+      let by_rules = subst (λ (gr : Grammar). Reduces gr.rules (found q) (found t) r node (trail_of q) node q.level.at) so_far.stands.grammar reduces in
+      let by_trail = subst (λ ts. Reduces graph.grammar.rules (found q) (found t) r node (reverse ts) node q.level.at) so_far.trail by_rules in
       let by_level : Reduces graph.grammar.rules (found q) (found t) r node [] node p.level.at =
       subst (λ (l : Level). Reduces graph.grammar.rules (found q) (found t) r node [] node l.at) so_far.step.level by_trail in
       record {
@@ -158,7 +157,7 @@ module _ {Base : Type 0} (tokens : List SymbolId) (p q : Parser) (graph graph' :
         within = within;
         stands = stands_join graph graph' graph'' so_far.stands stands;
         never_back = let n = so_far.never_back in omega (arith, n, never_back);
-        trail = ap (λ (ts : Vec ℕ Global). ts.items) trail ∙ so_far.trail;
+        trail = ap (λ (s : Standing). s.trail) trails ∙ so_far.trail;
         kernel = so_far.kernel;
         node_is = so_far.node_is;
         reductions = so_far.reductions;

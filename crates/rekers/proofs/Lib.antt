@@ -21,8 +21,6 @@ pub mod AtEnd
 pub mod LevelSteps
 pub mod Stepping
 pub mod Walks
-pub mod WalkedTo
-pub mod DownLinks
 pub mod Worked
 pub mod NewSplits
 pub mod Begun
@@ -33,7 +31,9 @@ pub mod ShiftedNodes
 pub mod LevelShifted
 pub mod Unless
 pub mod ShiftedLink
+pub mod TrailWalks
 pub mod StartedWalks
+pub mod WalkedTrails
 pub mod NodeReductions
 pub mod LinkReductions
 pub mod EmptyRules

@@ -1,10 +1,10 @@
 -- One more split keeps what is found sound, and its reduction is made.
 use Rattle.std.proofs.Common.{◌≡◌, ℕ, ◌+◌, ◌<◌, ◌≤◌, inl, inr, List, [], ◌∷◌, ◌++◌, length}
-use Rattle.std.proofs.Common.{refl, sym, ◌∙◌, ap, subst, arith, Contains, slice_get, slice_index_or, get_or, take, map, Some}
+use Rattle.std.proofs.Common.{refl, sym, ◌∙◌, ap, subst, arith, Contains, slice_get, slice_index_or, get_or, drop, reverse, map, Some}
 use Rattle.std.specs.declared.alloc.Global.{Global}
 use Rattle.std.specs.declared.vec.Vec.{Vec}
 use Rattle.std.proofs.lemmas.List.Elements.{Contains-push, Contains-push_cases, Contains-append_left}
-use Rattle.std.proofs.lemmas.List.{take_more, map-append}
+use Rattle.std.proofs.lemmas.List.{drop_more, map-append, reverse-append}
 use Rattle.std.proofs.lemmas.Option.{get_or_from_slice_get}
 use Rattle.forest.specs.declared.symbols.SymbolId.{SymbolId}
 use Rattle.forest.specs.declared.symbols.TheConstants.{START}
@@ -33,21 +33,21 @@ edge_at links link edge d e = get_or_from_slice_get links link edge d e
 
 -- the label of one link
 pub only_label : (links : List Edge) (trail : List ℕ) (edge : Edge) → 1 ≤ length trail → length trail < 2
-    → slice_get links (slice_index_or trail 0 0) ≡ Some edge → edge.label ∷ [] ≡ labels_of links trail
+    → slice_get links (slice_index_or trail 0 0) ≡ Some edge → edge.label ∷ [] ≡ labels_of links (reverse trail)
 only_label links [] edge least most is = absurd (omega (arith, least))
 only_label links (a ∷ []) edge least most is = sym (ap (λ (e : Edge). e.label ∷ []) (edge_at links a edge (edge_of 0 START 0 0) is))
 only_label links (a ∷ b ∷ more) edge least most is = absurd (omega (arith, most))
 
--- the labels of two links
-pub pair_labels : (links : List Edge) (trail : List ℕ) (first second : Edge) → 2 ≤ length trail → length trail < 3
-    → slice_get links (slice_index_or trail 0 0) ≡ Some first → slice_get links (slice_index_or trail 1 0) ≡ Some second
-    → first.label ∷ second.label ∷ [] ≡ labels_of links trail
-pair_labels links [] first second least most is is' = absurd (omega (arith, least))
-pair_labels links (a ∷ []) first second least most is is' = absurd (omega (arith, least))
-pair_labels links (a ∷ b ∷ []) first second least most is is' =
-    sym (ap (λ (e : Edge). e.label ∷ (slice_index_or links b (edge_of 0 START 0 0)).label ∷ []) (edge_at links a first (edge_of 0 START 0 0) is)
-    ∙ ap (λ (e : Edge). first.label ∷ e.label ∷ []) (edge_at links b second (edge_of 0 START 0 0) is'))
-pair_labels links (a ∷ b ∷ c ∷ more) first second least most is is' = absurd (omega (arith, most))
+-- the labels of two links, the lower one first
+pub pair_labels : (links : List Edge) (trail : List ℕ) (lower upper : Edge) → 2 ≤ length trail → length trail < 3
+    → slice_get links (slice_index_or trail 1 0) ≡ Some lower → slice_get links (slice_index_or trail 0 0) ≡ Some upper
+    → lower.label ∷ upper.label ∷ [] ≡ labels_of links (reverse trail)
+pair_labels links [] lower upper least most is is' = absurd (omega (arith, least))
+pair_labels links (a ∷ []) lower upper least most is is' = absurd (omega (arith, least))
+pair_labels links (a ∷ b ∷ []) lower upper least most is is' =
+    sym (ap (λ (e : Edge). e.label ∷ (slice_index_or links a (edge_of 0 START 0 0)).label ∷ []) (edge_at links b lower (edge_of 0 START 0 0) is)
+    ∙ ap (λ (e : Edge). lower.label ∷ e.label ∷ []) (edge_at links a upper (edge_of 0 START 0 0) is'))
+pair_labels links (a ∷ b ∷ c ∷ more) lower upper least most is is' = absurd (omega (arith, most))
 
 -- the labels of a trail are those of its links
 pub labels_are : {links : List Edge} {node top : ℕ} {trail labels : List ℕ} {xs : List SymbolId} → IsTrail links node trail xs labels top
@@ -59,17 +59,19 @@ labels_are {links} (over {lower = lower} {middle = middle} {link = link} {x = x}
     let tail : more ≡ labels_of links rest = labels_are t in
     ap (λ n. n ∷ more) head ∙ ap (λ ns. (slice_index_or links link (edge_of 0 START 0 0)).label ∷ ns) tail
 
--- the labels of one link more
+-- the labels of one link more, from the lowest up
 pub labels_more : (links : List Edge) (trail : List ℕ) (place : ℕ) (edge : Edge) (labels more : List ℕ) → place < length trail
-    → slice_get links (get_or trail place 0) ≡ Some edge → labels ≡ labels_of links (take place trail) → more ≡ labels ++ edge.label ∷ []
-    → more ≡ labels_of links (take (place + 1) trail)
+    → slice_get links (get_or trail place 0) ≡ Some edge → labels ≡ labels_of links (reverse (drop (place + 1) trail)) → more ≡ labels ++ edge.label ∷ []
+    → more ≡ labels_of links (reverse (drop place trail))
 labels_more links trail place edge labels more below e so_far is =
     let label_of : ℕ → ℕ = λ link. (slice_index_or links link (edge_of 0 START 0 0)).label in
-    let front = take place trail in
+    let lower = drop (place + 1) trail in
     let link = get_or trail place 0 in
     let same : edge.label ≡ label_of link = ap (λ (q : Edge). q.label) (sym (edge_at links link edge (edge_of 0 START 0 0) e)) in
-    is ∙ ap (λ ns. ns ++ edge.label ∷ []) so_far ∙ ap (λ n. map label_of front ++ n ∷ []) same ∙ sym (map-append label_of front (link ∷ []))
-    ∙ ap (λ ns. map label_of ns) (sym (take_more trail place 0 below))
+    let split : reverse (drop place trail) ≡ reverse lower ++ link ∷ [] =
+    ap (λ ns. reverse ns) (drop_more trail place 0 below) ∙ reverse-append (link ∷ []) lower in
+    is ∙ ap (λ ns. ns ++ edge.label ∷ []) so_far ∙ ap (λ n. map label_of (reverse lower) ++ n ∷ []) same
+    ∙ sym (map-append label_of (reverse lower) (link ∷ [])) ∙ ap (λ ns. map label_of ns) (sym split)
 
 -- ---- distinct lists
 

@@ -34,9 +34,8 @@ use Rattle.rekers.specs.Starts.{IsTop}
 use Rattle.rekers.specs.Steps.{IsFoundOn, IsFresh, IsWalked, IsAnyFresh, IsNodeWalked, IsStep, IsWithinLimit, IsOfLevel}
 use Rattle.rekers.proofs.Growth.{one_at, one_kernel, node_grows}
 use Rattle.rekers.proofs.Walks.{trail_size, told_back}
-use Rattle.rekers.proofs.WalkedTo.{AreMade, found_grows, made_on}
+use Rattle.rekers.proofs.WalkedTrails.{AreMade, found_grows, made_on}
 use Rattle.rekers.proofs.Stepping.{step_none, step_on}
-use Rattle.rekers.proofs.StartedWalks.{ends_nothing}
 
 -- ---- the reductions of a state
 
@@ -98,11 +97,10 @@ walk_of reduction top through = record { reduction = reduction; top = top; throu
 
 -- the reductions in the list before the place are made along all trails through the link, and no other splits are new
 pub record AreWalked (rules : List Rule) (old new : Findings) (top through at : ℕ) (list : List Reduction) (count : ℕ) : Type 0 where
-  pub all : (place : ℕ) (reduction : Reduction) → place < count → slice_get list place ≡ Some reduction → AreMade rules new (walk_of reduction top through)
-      at []
+  pub all : (place : ℕ) (reduction : Reduction) → place < count → slice_get list place ≡ Some reduction → AreMade rules new (walk_of reduction top through) at
   pub only : (split : PackedSplit) → Contains new.splits split
       → Contains old.splits split ⊎ ((place : ℕ) × (reduction : Reduction) × (place < count) × (slice_get list place ≡ Some reduction)
-      × IsFoundOn rules new (walk_of reduction top through) [] split)
+      × IsFoundOn rules new (walk_of reduction top through) split)
 
 pub are_walked_none : (rules : List Rule) (f : Findings) (top through at : ℕ) (list : List Reduction) → AreWalked rules f f top through at list 0
 are_walked_none rules f top through at list = record { all = λ place reduction l. absurd (omega (arith, l)); only = λ split c. inl c }
@@ -111,7 +109,7 @@ module _ (rules : List Rule) (tokens : List SymbolId) (numbers : IsNumbered rule
     (graph' : IsSoundGraph rules tokens f) (grows : Grows old f) (top through at : ℕ) (list : List Reduction) (count : ℕ) (reduction : Reduction)
     (is : slice_get list count ≡ Some reduction) (walked : AreWalked rules old f top through at list count) where
   -- no split was found by the next reduction
-  pub next_fresh : IsStrictlySortedBy number_cmp list → IsAnyFresh rules old top through → IsFresh rules f (walk_of reduction top through) []
+  pub next_fresh : IsStrictlySortedBy number_cmp list → IsAnyFresh rules old top through → IsFresh rules f (walk_of reduction top through)
   next_fresh sorted fresh split c on = elim (walked.only split c) [
     | inl in_old ↦ fresh split on.trail in_old (told_back rules tokens old f graph grows numbers graph' split on.trail top in_old on.told) on.through
     | inr (place, other, before, there, was) ↦
@@ -122,14 +120,14 @@ module _ (rules : List Rule) (tokens : List SymbolId) (numbers : IsNumbered rule
 
   -- the next reduction is made too
   pub walked_next : (g : Findings) → IsSoundGraph rules tokens g → Grows f g → through < length f.links → {w : List Item} {i : ℕ} → IsNode f top w i
-      → IsWalked rules f g (walk_of reduction top through) at [] → AreWalked rules old g top through at list (count + 1)
+      → IsWalked rules f g (walk_of reduction top through) at → AreWalked rules old g top through at list (count + 1)
   walked_next g graph'' grows' below n more = record {
     all = λ place other before there. elim (cases_lt place count) [
-      | inl less ↦ made_on rules tokens numbers f g graph' graph'' grows' (walk_of other top through) at [] below n (walked.all place other less there)
+      | inl less ↦ made_on rules tokens f g graph' grows' (walk_of other top through) at below n (walked.all place other less there)
       | inr not ↦
           let place_is : place ≡ count = omega (arith, before, not) in
           let same : other ≡ reduction = one_at list count other reduction (subst (λ n. slice_get list n ≡ Some other) place_is there) is in
-          subst (λ r. AreMade rules g (walk_of r top through) at []) (sym same) more.all
+          subst (λ r. AreMade rules g (walk_of r top through) at) (sym same) more.all
     ];
     only = λ split c. elim (more.only split c) [
       | inl in_f ↦ elim (walked.only split in_f) [
@@ -160,8 +158,7 @@ walked_node rules old g top through at kernel list count node lists size walked 
         made = p.made;
       } in
       let (place, within, has) = (lists.members reduction).1 is in
-      walked.all place reduction (omega (arith, within, size)) (slice_get_read list (length list) place reduction refl within (sym has)) lower trail labels p by
-      (ends_nothing trail);
+      walked.all place reduction (omega (arith, within, size)) (slice_get_read list (length list) place reduction refl within (sym has)) lower trail labels p by;
   only = λ split c. elim (walked.only split c) [
     | inl in_old ↦ inl in_old
     | inr (place, reduction, before, there, on) ↦ inr (on.trail, on.told, on.through)
@@ -298,24 +295,24 @@ module _ {Base : Type 0} (tokens : List SymbolId) (old p : Parser) (graph first 
           subst (λ (gr : Grammar). IsTop gr.rules (found p) (walk_of reduction node link) p.level.at) (sym way.stands.grammar)
           (subst (λ (lv : Level). IsTop graph.grammar.rules (found p) (walk_of reduction node link) lv.at) (sym way.step.level) top)
 
-      pub next_is_fresh : IsAnyFresh graph.grammar.rules (found old) node link → IsFresh first.grammar.rules (found p) (walk_of reduction node link) []
+      pub next_is_fresh : IsAnyFresh graph.grammar.rules (found old) node link → IsFresh first.grammar.rules (found p) (walk_of reduction node link)
       next_is_fresh fresh =
-          subst (λ (gr : Grammar). IsFresh gr.rules (found p) (walk_of reduction node link) []) (sym way.stands.grammar)
+          subst (λ (gr : Grammar). IsFresh gr.rules (found p) (walk_of reduction node link)) (sym way.stands.grammar)
           (next_fresh graph.grammar.rules tokens now.numbered (found old) (found p) sound.graph now.graph way.step.grows node link old.level.at way.list
           count reduction there way.walked way.lists.ascends fresh)
 
       pub under_way_more : (q : Parser) (second : GraphMeaning Base) (after : ℕ) → IsStep tokens p q first second between after
-          → IsWalked first.grammar.rules (found p) (found q) (walk_of reduction node link) p.level.at [] → IsWithinLimit q → StandsButKernels first second
+          → IsWalked first.grammar.rules (found p) (found q) (walk_of reduction node link) p.level.at → IsWithinLimit q → StandsButKernels first second
           → between ≤ after
           → IsNodeUnderWay tokens old q graph second before after node link state size (count + 1)
       under_way_more q second after step walked within stands back =
           let both = step_on tokens old p q graph first second before between after way.step step in
           let stood = stands_join graph first second way.stands stands in
           let later : IsSoundParser graph.grammar.rules tokens q = subst (λ (gr : Grammar). IsSoundParser gr.rules tokens q) stood.grammar step.sound in
-          let by_rules : IsWalked graph.grammar.rules (found p) (found q) (walk_of reduction node link) p.level.at [] =
-          subst (λ (gr : Grammar). IsWalked gr.rules (found p) (found q) (walk_of reduction node link) p.level.at []) way.stands.grammar walked in
-          let by_level : IsWalked graph.grammar.rules (found p) (found q) (walk_of reduction node link) old.level.at [] =
-          subst (λ (lv : Level). IsWalked graph.grammar.rules (found p) (found q) (walk_of reduction node link) lv.at []) way.step.level by_rules in
+          let by_rules : IsWalked graph.grammar.rules (found p) (found q) (walk_of reduction node link) p.level.at =
+          subst (λ (gr : Grammar). IsWalked gr.rules (found p) (found q) (walk_of reduction node link) p.level.at) way.stands.grammar walked in
+          let by_level : IsWalked graph.grammar.rules (found p) (found q) (walk_of reduction node link) old.level.at =
+          subst (λ (lv : Level). IsWalked graph.grammar.rules (found p) (found q) (walk_of reduction node link) lv.at) way.step.level by_rules in
           record {
             step = both;
             stands = stood;

@@ -1,6 +1,5 @@
--- Walks down trails: where they can go on, and what stays of them as more is found.
-use Rattle.std.proofs.Common.{◌≡◌, ℕ, suc, ◌<◌, ◌≤◌, inl, inr, List, [], ◌∷◌, ◌++◌, length, refl, sym, ◌∙◌, ap, subst, arith, Contains, slice_get, Some}
-use Rattle.std.proofs.lemmas.List.{length-append}
+-- Trails: their parts, and what stays of them as more is found.
+use Rattle.std.proofs.Common.{◌≡◌, ℕ, suc, ◌<◌, inl, inr, List, [], ◌∷◌, ◌++◌, length, refl, sym, ◌∙◌, ap, subst, arith, Contains, slice_get, Some}
 use Rattle.std.proofs.lemmas.Option.{slice_get_within}
 use Rattle.forest.specs.declared.symbols.SymbolId.{SymbolId}
 use Rattle.forest.specs.declared.rules.Rule.{Rule}
@@ -8,54 +7,14 @@ use Rattle.forest.specs.Derivation.{IsNonterminal}
 use Rattle.item_sets.specs.declared.item.Item.{Item}
 use Rattle.item_sets.proofs.Numbering.{IsNumbered}
 use Rattle.gss.specs.declared.stack_graph.Edge.{Edge}
-use Rattle.gss.specs.PlaceGraphs.{edge_of, LeadsDownFrom}
+use Rattle.gss.specs.PlaceGraphs.{edge_of}
 use Rattle.packed_spans.specs.Packed.{PackedSplit}
 use Rattle.parser_states.specs.declared.reduction.Reduction.{Reduction}
 use Rattle.rekers.specs.Found.{Findings, IsNode, Grows, IsTrail, here, over}
 use Rattle.rekers.specs.Reductions.{IsPartial, IsReduced, IsFoundAlong}
 use Rattle.rekers.specs.Sound.{IsSoundGraph}
-use Rattle.rekers.specs.Steps.{EndsWith}
 use Rattle.rekers.proofs.Growth.{one_at, one_kernel, trail_back, reduced_grows, told_grows, node_grows}
 use Rattle.rekers.proofs.Trails.{between, part_cases, one_told}
-
--- ---- lists that end alike
-
-pub ends_longer : (trail end : List ℕ) (link : ℕ) → EndsWith trail (link ∷ end) → EndsWith trail end
-ends_longer trail end link (front, e) = (front ++ link ∷ [], e ∙ moved front)
-  where
-    moved : (xs : List ℕ) → xs ++ link ∷ end ≡ (xs ++ link ∷ []) ++ end
-    moved [] = refl
-    moved (x ∷ xs) = ap (λ ys. x ∷ ys) (moved xs)
-
-pub ends_equal : (trail end other : List ℕ) → end ≡ other → EndsWith trail end → EndsWith trail other
-ends_equal trail end other e is = subst (λ xs. EndsWith trail xs) e is
-
--- a list that is not longer than its end is the end
-pub ends_whole : (trail end : List ℕ) → EndsWith trail end → length trail ≤ length end → trail ≡ end
-ends_whole trail end ([], e) l = e
-ends_whole trail end (x ∷ xs, e) l =
-    let size : length trail ≡ suc (length (xs ++ end)) = ap length e in
-    absurd (omega (arith, l, size, length-append xs end))
-
--- before one end stands one number
-pub one_before : (end front other : List ℕ) (a b : ℕ) → front ++ a ∷ end ≡ other ++ b ∷ end → a ≡ b
-one_before end [] [] a b e = cc
-one_before end [] (y ∷ ys) a b e =
-    let size : suc (length end) ≡ suc (length (ys ++ b ∷ end)) = ap length e in
-    absurd (omega (arith, size, length-append ys (b ∷ end)))
-one_before end (x ∷ xs) [] a b e =
-    let size : suc (length (xs ++ a ∷ end)) ≡ suc (length end) = ap length e in
-    absurd (omega (arith, size, length-append xs (a ∷ end)))
-one_before end (x ∷ xs) (y ∷ ys) a b e =
-    let tail : xs ++ a ∷ end ≡ ys ++ b ∷ end = cc in
-    one_before end xs ys a b tail
-
-pub ends_in : (trail end : List ℕ) (link : ℕ) → EndsWith trail (link ∷ end) → Contains trail link
-ends_in trail end link (front, e) = subst (λ xs. Contains xs link) (sym e) (behind front)
-  where
-    behind : (xs : List ℕ) → Contains (xs ++ link ∷ end) link
-    behind [] = (0, omega arith, refl)
-    behind (x ∷ xs) = let (k, l, is) = behind xs in (suc k, omega (arith, l), is)
 
 -- ---- trails
 
@@ -73,42 +32,40 @@ one_labels {links} (over {link = link} {labels = labels} edge on) (over {label =
     let (middle, rest) = one_labels on on' in
     (ap (λ (e : Edge). e.lower) same, ap (λ n. n ∷ labels) (ap (λ (e : Edge). e.label) same) ∙ ap (λ ns. label ∷ ns) rest)
 
--- a longer trail with this end has a link more that leads from the node that the walk came down to
-pub next_down : {links : List Edge} {lower node top : ℕ} {trail labels others : List ℕ} {xs ys : List SymbolId} (front end : List ℕ)
-    → IsTrail links lower trail xs labels top → trail ≡ front ++ end → IsTrail links node end ys others top → length end < length trail
-    → (link : ℕ) × LeadsDownFrom links node link × EndsWith trail (link ∷ end)
-next_down [] end t e u l = absurd (omega (arith, l, ap length e))
-next_down (n ∷ front) end here e u l = absurd cc
-next_down {links} {node = node} {top = top} (n ∷ []) end (over {middle = middle} {link = link} {trail = rest} {xs = xs} {labels = labels} edge on) e u l =
-    let tail : rest ≡ end = cc in
-    let same = (one_labels (subst (λ t. IsTrail links middle t xs labels top) tail on) u).0 in
-    (link, (_, edge, same), ([], ap (λ t. link ∷ t) tail))
-next_down {links} {node = node} {top = top} (n ∷ m ∷ front) end (over {link = link} {trail = rest} edge on) e u l =
-    let tail : rest ≡ m ∷ front ++ end = cc in
-    let size : length rest ≡ suc (length (front ++ end)) = ap length tail in
-    let (below, leads, (before, is)) = next_down (m ∷ front) end on tail u (omega (arith, size, length-append front end)) in
-    (below, leads, (link ∷ before, ap (λ t. link ∷ t) is))
-
--- what a trail begins with leads up to where its end begins
-pub record IsFront (links : List Edge) (lower : ℕ) (front : List ℕ) (node : ℕ) : Type 0 where
+-- the trail's first links lead up to where its others begin
+pub record IsParted (links : List Edge) (lower : ℕ) (front end : List ℕ) (top : ℕ) : Type 0 where
+  pub middle : ℕ
   pub labels : List ℕ
   pub symbols : List SymbolId
-  pub on : IsTrail links lower front symbols labels node
+  pub below : IsTrail links lower front symbols labels middle
+  pub others : List ℕ
+  pub others_by : List SymbolId
+  pub above : IsTrail links middle end others_by others top
 
-pub front_trail : {links : List Edge} {lower node top : ℕ} {trail labels others : List ℕ} {xs ys : List SymbolId} (front end : List ℕ)
-    → IsTrail links lower trail xs labels top → trail ≡ front ++ end → IsTrail links node end ys others top → IsFront links lower front node
-front_trail {links} {lower} {node} {top} {labels = labels} {xs = xs} [] end t e u =
-    let same = (one_labels (subst (λ ts. IsTrail links lower ts xs labels top) e t) u).0 in
-    record { labels = []; symbols = []; on = subst (λ n. IsTrail links lower [] [] [] n) same here }
-front_trail (n ∷ front) end here e u = absurd cc
-front_trail {links} {node = node} (n ∷ front) end (over {lower = lower} {middle = middle} {link = link} {x = x} {label = label} {trail = rest} edge on) e u =
+pub parted : {links : List Edge} {lower top : ℕ} {trail labels : List ℕ} {xs : List SymbolId} (front end : List ℕ)
+    → IsTrail links lower trail xs labels top → trail ≡ front ++ end → IsParted links lower front end top
+parted {links} {lower} {top} {labels = labels} {xs = xs} [] end t e = record {
+  middle = lower;
+  labels = [];
+  symbols = [];
+  below = here;
+  others = labels;
+  others_by = xs;
+  above = subst (λ ts. IsTrail links lower ts xs labels top) e t;
+}
+parted (n ∷ front) end here e = absurd cc
+parted {links} {top = top} (n ∷ front) end (over {lower = lower} {middle = middle} {link = link} {x = x} {label = label} {trail = rest} edge on) e =
     let head : link ≡ n = cc in
     let tail : rest ≡ front ++ end = cc in
-    let part = front_trail front end on tail u in
+    let part = parted front end on tail in
     record {
+      middle = part.middle;
       labels = label ∷ part.labels;
       symbols = x ∷ part.symbols;
-      on = over (subst (λ l. slice_get links l ≡ Some (edge_of middle x lower label)) head edge) part.on;
+      below = over (subst (λ l. slice_get links l ≡ Some (edge_of middle x lower label)) head edge) part.below;
+      others = part.others;
+      others_by = part.others_by;
+      above = part.above;
     }
 
 -- the lower end of a trail is a node, as its top is

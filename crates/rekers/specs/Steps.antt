@@ -1,5 +1,5 @@
 -- What the calls of a parser do.
-use Rattle.std.specs.Prelude.{◌≡◌, ◌⊎◌, ◌↔◌, ℕ, ◌+◌, ◌<◌, ◌≤◌, List, [], ◌∷◌, ◌++◌, length, drop, Some, slice_get, slice_index_or, map, Contains, IsTrue, Bool}
+use Rattle.std.specs.Prelude.{◌≡◌, ◌⊎◌, ℕ, ◌+◌, ◌<◌, ◌≤◌, List, [], ◌∷◌, ◌++◌, length, reverse, Some, slice_get, slice_index_or, map, Contains}
 use Rattle.forest.specs.declared.symbols.SymbolId.{SymbolId}
 use Rattle.forest.specs.declared.rules.Rule.{Rule}
 use Rattle.forest.specs.Derivation.{Derives}
@@ -22,7 +22,7 @@ use Rattle.rekers.specs.declared.limits.TheConstants.{SIZE_LIMIT}
 use Rattle.rekers.specs.declared.parse_error.ParseError.{ParseError}
 use Rattle.rekers.specs.declared.parse_error.ParseError.TheVariants.{TooLarge, NoMemory}
 use Rattle.rekers.specs.Found.{Findings, found, IsNode, Grows}
-use Rattle.rekers.specs.Reductions.{IsReducible, IsPartial, IsLinkTo, IsReduced, IsFoundAlong}
+use Rattle.rekers.specs.Reductions.{IsReducible, IsLinkTo, IsReduced, IsFoundAlong}
 use Rattle.rekers.specs.Sound.{IsSoundParser, IsFirstMover, ArePlaced}
 
 -- What the parser has found stays, what is new is sound, and the graph was asked for the new states.
@@ -106,38 +106,22 @@ pub record IsThrough (through : ℕ) (trail : List ℕ) : Type 0 where
   pub has : Contains trail through
   pub none_behind : (link : ℕ) → Contains trail link → link ≤ through
 
--- the trail ends with the other one
-abbrev pub EndsWith : List ℕ → List ℕ → Type 0
-EndsWith trail end = (front : List ℕ) × (trail ≡ front ++ end)
-
--- the split was found by the reduction along a trail through the link that ends with this one, below the top
-pub record IsFoundOn (rules : List Rule) (f : Findings) (walk : Walk) (end : List ℕ) (split : PackedSplit) : Type 0 where
+-- the split was found by the reduction along a trail through the link, below the top
+pub record IsFoundOn (rules : List Rule) (f : Findings) (walk : Walk) (split : PackedSplit) : Type 0 where
   pub trail : List ℕ
   pub told : IsFoundAlong rules f split trail walk.top
   pub number : split.rule ≡ walk.reduction.rule
   pub through : IsThrough walk.through trail
-  pub ends : EndsWith trail end
 
 -- no split was found so
-abbrev pub IsFresh : List Rule → Findings → Walk → List ℕ → Type 0
-IsFresh rules f walk end = (split : PackedSplit) → Contains f.splits split → IsFoundOn rules f walk end split → ⊥
+abbrev pub IsFresh : List Rule → Findings → Walk → Type 0
+IsFresh rules f walk = (split : PackedSplit) → Contains f.splits split → IsFoundOn rules f walk split → ⊥
 
--- all reductions along trails through the link that end with this one are made, and no other splits are new
-pub record IsWalked (rules : List Rule) (old new : Findings) (walk : Walk) (at : ℕ) (end : List ℕ) : Type 0 where
+-- all reductions along trails through the link are made, and no other splits are new
+pub record IsWalked (rules : List Rule) (old new : Findings) (walk : Walk) (at : ℕ) : Type 0 where
   pub all : (lower : ℕ) (trail labels : List ℕ) → IsReducible rules new walk.reduction lower trail labels walk.top at → IsThrough walk.through trail
-      → EndsWith trail end → IsReduced new walk.reduction lower labels at
-  pub only : (split : PackedSplit) → Contains new.splits split → Contains old.splits split ⊎ IsFoundOn rules new walk end split
-
--- The walk has come down to the node by the trail, which is the end of the list, and so many links are left to go.
-pub record IsWalking (rules : List Rule) (f : Findings) (first_link at : ℕ) (walk : Walk) (node left : ℕ) (met : Bool) (trail : List ℕ) : Type 0 where
-  pub labels : List ℕ
-  pub room : left ≤ length trail
-  pub partial : IsPartial rules f walk.reduction node left (drop left trail) labels walk.top at
-  pub link : walk.through < length f.links
-  pub of_level : first_link ≤ walk.through
-  pub meets : IsTrue met ↔ Contains (drop left trail) walk.through
-  pub none_behind : (link : ℕ) → Contains (drop left trail) link → link ≤ walk.through
-  pub fresh : IsFresh rules f walk (drop left trail)
+      → IsReduced new walk.reduction lower labels at
+  pub only : (split : PackedSplit) → Contains new.splits split → Contains old.splits split ⊎ IsFoundOn rules new walk split
 
 -- the reduction along the trail is to be made, and no split was found by it
 pub record IsToReduce (rules : List Rule) (f : Findings) (reduction : Reduction) (lower : ℕ) (trail : List ℕ) (top at : ℕ) : Type 0 where
@@ -180,6 +164,10 @@ pub record Advances (old new : Parser) : Type 0 where
 -- the labels of the links
 abbrev pub labels_of : List Edge → List ℕ → List ℕ
 labels_of links trail = map (λ link. (slice_index_or links link (edge_of 0 START 0 0)).label) trail
+
+-- the links of the trail that the parser's walk stands at, the lowest first
+abbrev pub trail_of : Parser → List ℕ
+trail_of parser = reverse parser.trails.trail
 
 -- the link is one of the level
 pub record IsOfLevel (f : Findings) (first_link link : ℕ) : Type 0 where

@@ -18,7 +18,6 @@ mod parsing;
 mod queue;
 mod reducing;
 mod shifting;
-mod starting;
 mod walk;
 mod walking;
 

@@ -147,7 +147,7 @@ impl Parser {
         ensures few { OnOk result (HasFewNodes self.new) }
         ensures count { OnOk result (length self.new.stacks.links ≤ length self.old.stacks.links + 1) }
         ensures splits { OnOk result (self.new.spans.splits ≡ self.old.spans.splits) }
-        ensures trail { OnOk result ((self.new.trail ≡ self.old.trail) × (self.new.parts ≡ self.old.parts)) }
+        ensures trail { OnOk result ((self.new.trails ≡ self.old.trails) × (self.new.parts ≡ self.old.parts)) }
         ensures stands { StandsButKernels (G.means graph.old) (G.means graph.new) }
         ensures never_back { steps.old ≤ steps.new }
     {
@@ -178,7 +178,7 @@ impl Parser {
         ensures few { OnOk result (HasFewNodes self.new) }
         ensures count { OnOk result (length self.new.stacks.links ≤ length self.old.stacks.links + 1) }
         ensures splits { OnOk result (self.new.spans.splits ≡ self.old.spans.splits) }
-        ensures trail { OnOk result ((self.new.trail ≡ self.old.trail) × (self.new.parts ≡ self.old.parts)) }
+        ensures trail { OnOk result ((self.new.trails ≡ self.old.trails) × (self.new.parts ≡ self.old.parts)) }
         ensures stands { StandsButKernels (G.means graph.old) (G.means graph.new) }
         ensures never_back { steps.old ≤ steps.new }
     {
@@ -208,7 +208,7 @@ impl Parser {
         ensures few { OnOk result (HasFewNodes self.new) }
         ensures count { OnOk result (length self.new.stacks.links ≤ length self.old.stacks.links + 2) }
         ensures splits { OnOk result (self.new.spans.splits ≡ self.old.spans.splits) }
-        ensures trail { OnOk result ((self.new.trail ≡ self.old.trail) × (self.new.parts ≡ self.old.parts)) }
+        ensures trail { OnOk result ((self.new.trails ≡ self.old.trails) × (self.new.parts ≡ self.old.parts)) }
         ensures stands { StandsButKernels (G.means graph.old) (G.means graph.new) }
         ensures never_back { steps.old ≤ steps.new }
     {

@@ -1,10 +1,19 @@
 //! The parser: its states, its stacks and what it has packed.
 
 use crate::level::Level;
-use gss::StackGraph;
+use gss::{StackGraph, Trails, Walk};
 use packed_spans::PackedSpans;
 use parser_states::States;
 use std::alloc::Global;
+
+/// The walk over the trail of no links, down from the first node.
+pub(crate) const NO_LINKS: Walk = Walk {
+    top: 0,
+    length: 0,
+    last: 0,
+    through: None,
+    floor: 0,
+};
 
 /// The buffers of a parse, which keep their memory from text to text.
 #[derive(Drop)]
@@ -19,8 +28,8 @@ pub struct Parser {
     pub(crate) owners: Vec<u32>,
     /// Of each place of the text, a node before which none there moves on a left side.
     pub(crate) openers: Vec<u32>,
-    /// The links of the walk that is under way, the lowest first.
-    pub(crate) trail: Vec<u32>,
+    /// The walk that is under way.
+    pub(crate) trails: Trails,
     /// The labels of the trail.
     pub(crate) parts: Vec<u32>,
     /// The last place, where nodes and links are added.
@@ -38,7 +47,7 @@ impl Parser {
             spans: PackedSpans::new(alloc),
             owners: Vec::new(alloc),
             openers: Vec::new(alloc),
-            trail: Vec::new(alloc),
+            trails: Trails::new(alloc, NO_LINKS),
             parts: Vec::new(alloc),
             level: Level {
                 at: 0,

@@ -10,7 +10,7 @@ ghost use Rattle.rekers.specs.Sound.{IsSoundParser};
 ghost use Rattle.rekers.specs.Steps.{IsStep, IsWithinLimit, IsAboveLimit, IsOfLevel, IsAnyFresh, IsNodeWalked, GoesOn};
 
 use crate::parse_error::ParseError;
-use crate::parser::Parser;
+use crate::parser::{NO_LINKS, Parser};
 use crate::walk::Walk;
 use forest::Token;
 use live_graph::Graph;
@@ -49,7 +49,7 @@ impl Parser {
         ensures stands { StandsButKernels (G.means graph.old) (G.means graph.new) }
         ensures never_back { steps.old ≤ steps.new }
     {
-        self.trail.clear();
+        self.trails.begin(NO_LINKS);
         let state = self.stacks.place(queue.node).state;
         for k in 0..self.states.empties(state).len() {
             let reduction = self.states.empties(state)[k];

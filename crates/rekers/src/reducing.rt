@@ -1,13 +1,13 @@
 //! Reductions, each along one trail of links.
 
-ghost use Rattle.std.specs.Prelude.{◌≡◌, ◌≤◌, ◌<◌, ◌+◌, ◌^◌, ◌++◌, ◌∷◌, [], IfErr, IfSome, OnOk, ℕ, length, Contains};
+ghost use Rattle.std.specs.Prelude.{◌≡◌, ◌≤◌, ◌<◌, ◌+◌, ◌^◌, ◌++◌, ◌∷◌, [], IfErr, IfSome, OnOk, ℕ, length, reverse, Contains};
 ghost use Rattle.packed_spans.specs.Packed.{ArePartsOf};
 ghost use Rattle.parser_states.specs.Asked.{StandsButKernels};
 ghost use Rattle.rekers.specs.Answers.{kinds_of, UnlessParseNoMemory};
 ghost use Rattle.rekers.specs.Found.{found, Grows};
 ghost use Rattle.rekers.specs.Reductions.{IsLinkTo};
 ghost use Rattle.rekers.specs.Sound.{IsSoundParser};
-ghost use Rattle.rekers.specs.Steps.{IsStep, IsToReduce, Reduces, HasFewNodes, IsWithinLimit, IsAboveLimit, labels_of, IsLinkBy, IsUnlinked};
+ghost use Rattle.rekers.specs.Steps.{IsStep, IsToReduce, Reduces, HasFewNodes, IsWithinLimit, IsAboveLimit, labels_of, trail_of, IsLinkBy, IsUnlinked};
 
 use crate::limits::SIZE_LIMIT;
 use crate::parse_error::ParseError;
@@ -19,14 +19,16 @@ use parser_states::Reduction;
 use std::sync::ledger::Ledger;
 use steps::Steps;
 
-/// Puts the labels of the links into the buffer.
+/// Puts the labels of the links into the buffer, the lowest first.
 fn fill(stacks: &StackGraph, trail: &[u32], parts: &mut Vec<u32>) -> Result<(), NoMemory>
     requires { (link : ℕ) → Contains trail.now link → link < length stacks.now.links }
-    ensures { OnOk result (parts.new.items ≡ labels_of stacks.now.links trail.now) }
+    ensures { OnOk result (parts.new.items ≡ labels_of stacks.now.links (reverse trail.now)) }
 {
     parts.clear();
-    for link in trail {
-        parts.push(stacks.edge(*link).label)?;
+    let mut left = trail.len();
+    'links: while left > 0 {
+        left -= 1;
+        parts.push(stacks.edge(trail[left]).label)?;
     }
     Ok(())
 }
@@ -34,7 +36,7 @@ fn fill(stacks: &StackGraph, trail: &[u32], parts: &mut Vec<u32>) -> Result<(), 
 /// The label of the link, if it is one.
 fn only_of(stacks: &StackGraph, trail: &[u32]) -> Option<[u32; 1]>
     requires { (link : ℕ) → Contains trail.now link → link < length stacks.now.links }
-    ensures { IfSome result (λ labels. labels ≡ labels_of stacks.now.links trail.now) }
+    ensures { IfSome result (λ labels. labels ≡ labels_of stacks.now.links (reverse trail.now)) }
 {
     let [link] = trail else {
         return None;
@@ -42,15 +44,15 @@ fn only_of(stacks: &StackGraph, trail: &[u32]) -> Option<[u32; 1]>
     Some([stacks.edge(*link).label])
 }
 
-/// The labels of the links, if they are two.
+/// The labels of the links, if they are two, the lower one first.
 fn pair_of(stacks: &StackGraph, trail: &[u32]) -> Option<[u32; 2]>
     requires { (link : ℕ) → Contains trail.now link → link < length stacks.now.links }
-    ensures { IfSome result (λ labels. labels ≡ labels_of stacks.now.links trail.now) }
+    ensures { IfSome result (λ labels. labels ≡ labels_of stacks.now.links (reverse trail.now)) }
 {
-    let [first, second] = trail else {
+    let [upper, lower] = trail else {
         return None;
     };
-    Some([stacks.edge(*first).label, stacks.edge(*second).label])
+    Some([stacks.edge(*lower).label, stacks.edge(*upper).label])
 }
 
 impl Parser {
@@ -74,18 +76,18 @@ impl Parser {
     #[inline(never)]
     fn add_other_trail(&mut self, span: u32, rule: RuleId) -> Result<(), NoMemory>
         requires span { span < length self.old.spans.spans }
-        requires links { (link : ℕ) → Contains self.old.trail.items link → link < length self.old.stacks.links }
-        requires parts { ArePartsOf self.old.spans.spans (labels_of self.old.stacks.links self.old.trail.items) }
+        requires links { (link : ℕ) → Contains self.old.trails.trail link → link < length self.old.stacks.links }
+        requires parts { ArePartsOf self.old.spans.spans (labels_of self.old.stacks.links (trail_of self.old)) }
         ensures spans { OnOk result (self.new.spans.spans ≡ self.old.spans.spans) }
         ensures splits { OnOk result (self.new.spans.splits
-            ≡ self.old.spans.splits ++ record { span = span; rule = rule; parts = labels_of self.old.stacks.links self.old.trail.items } ∷ []) }
+            ≡ self.old.spans.splits ++ record { span = span; rule = rule; parts = labels_of self.old.stacks.links (trail_of self.old) } ∷ []) }
         ensures same { OnOk result (self.new ≡ record self.old { spans = self.new.spans; parts = self.new.parts }) }
     {
-        if let Some(parts) = only_of(&self.stacks, &self.trail) {
+        if let Some(parts) = only_of(&self.stacks, self.trails.links()) {
             self.spans.add_split(span, rule, &parts)?;
             return Ok(());
         }
-        fill(&self.stacks, &self.trail, &mut self.parts)?;
+        fill(&self.stacks, self.trails.links(), &mut self.parts)?;
         self.spans.add_split(span, rule, &self.parts)?;
         Ok(())
     }
@@ -94,14 +96,14 @@ impl Parser {
     #[inline(always)]
     fn add_trail(&mut self, span: u32, rule: RuleId) -> Result<(), NoMemory>
         requires span { span < length self.old.spans.spans }
-        requires links { (link : ℕ) → Contains self.old.trail.items link → link < length self.old.stacks.links }
-        requires parts { ArePartsOf self.old.spans.spans (labels_of self.old.stacks.links self.old.trail.items) }
+        requires links { (link : ℕ) → Contains self.old.trails.trail link → link < length self.old.stacks.links }
+        requires parts { ArePartsOf self.old.spans.spans (labels_of self.old.stacks.links (trail_of self.old)) }
         ensures spans { OnOk result (self.new.spans.spans ≡ self.old.spans.spans) }
         ensures splits { OnOk result (self.new.spans.splits
-            ≡ self.old.spans.splits ++ record { span = span; rule = rule; parts = labels_of self.old.stacks.links self.old.trail.items } ∷ []) }
+            ≡ self.old.spans.splits ++ record { span = span; rule = rule; parts = labels_of self.old.stacks.links (trail_of self.old) } ∷ []) }
         ensures same { OnOk result (self.new ≡ record self.old { spans = self.new.spans; parts = self.new.parts }) }
     {
-        if let Some(parts) = pair_of(&self.stacks, &self.trail) {
+        if let Some(parts) = pair_of(&self.stacks, self.trails.links()) {
             self.spans.add_split(span, rule, &parts)?;
             return Ok(());
         }
@@ -122,11 +124,11 @@ impl Parser {
     ) -> Result<(), NoMemory>
         requires sound { IsSoundParser (G.means _graph.now).grammar.rules (kinds_of _tokens.now) self.old }
         requires link { IsLinkBy (found self.old) link lower reduction.left self.old.level.at }
-        requires reduces { IsToReduce (G.means _graph.now).grammar.rules (found self.old) reduction lower self.old.trail.items top self.old.level.at }
+        requires reduces { IsToReduce (G.means _graph.now).grammar.rules (found self.old) reduction lower (trail_of self.old) top self.old.level.at }
         ensures sound { OnOk result (IsSoundParser (G.means _graph.now).grammar.rules (kinds_of _tokens.now) self.new) }
         ensures grows { OnOk result (Grows (found self.old) (found self.new)) }
         ensures reduced { OnOk result (Reduces (G.means _graph.now).grammar.rules (found self.old)
-            (found self.new) reduction lower self.old.trail.items top self.old.level.at) }
+            (found self.new) reduction lower (trail_of self.old) top self.old.level.at) }
         ensures same { OnOk result (self.new ≡ record self.old { spans = self.new.spans; parts = self.new.parts }) }
         ensures spans { OnOk result (self.new.spans.spans ≡ self.old.spans.spans) }
     {
@@ -151,14 +153,14 @@ impl Parser {
     ) -> Result<(), ParseError>
         requires sound { IsSoundParser (G.means graph.old).grammar.rules (kinds_of tokens.now) self.old }
         requires within { IsWithinLimit self.old }
-        requires reduces { IsToReduce (G.means graph.old).grammar.rules (found self.old) reduction lower self.old.trail.items top self.old.level.at }
+        requires reduces { IsToReduce (G.means graph.old).grammar.rules (found self.old) reduction lower (trail_of self.old) top self.old.level.at }
         requires unlinked { IsUnlinked (found self.old) self.old.level.first_link lower reduction.left }
         ensures step { UnlessParseNoMemory result (IsStep (kinds_of tokens.now) self.old self.new (G.means graph.old) (G.means graph.new) steps.old steps.new) }
         ensures reduced { OnOk result (Reduces (G.means graph.old).grammar.rules (found self.old)
-            (found self.new) reduction lower self.old.trail.items top self.old.level.at) }
+            (found self.new) reduction lower (trail_of self.old) top self.old.level.at) }
         ensures within { OnOk result (IsWithinLimit self.new) }
         ensures above { IfErr result (IsAboveLimit self.new) }
-        ensures trail { OnOk result (self.new.trail ≡ self.old.trail) }
+        ensures trail { OnOk result (self.new.trails ≡ self.old.trails) }
         ensures stands { StandsButKernels (G.means graph.old) (G.means graph.new) }
         ensures never_back { steps.old ≤ steps.new }
     {
@@ -182,13 +184,13 @@ impl Parser {
     ) -> Result<(), ParseError>
         requires sound { IsSoundParser (G.means graph.old).grammar.rules (kinds_of tokens.now) self.old }
         requires within { IsWithinLimit self.old }
-        requires reduces { IsToReduce (G.means graph.old).grammar.rules (found self.old) reduction lower self.old.trail.items top self.old.level.at }
+        requires reduces { IsToReduce (G.means graph.old).grammar.rules (found self.old) reduction lower (trail_of self.old) top self.old.level.at }
         ensures step { UnlessParseNoMemory result (IsStep (kinds_of tokens.now) self.old self.new (G.means graph.old) (G.means graph.new) steps.old steps.new) }
         ensures reduced { OnOk result (Reduces (G.means graph.old).grammar.rules (found self.old)
-            (found self.new) reduction lower self.old.trail.items top self.old.level.at) }
+            (found self.new) reduction lower (trail_of self.old) top self.old.level.at) }
         ensures within { OnOk result (IsWithinLimit self.new) }
         ensures above { IfErr result (IsAboveLimit self.new) }
-        ensures trail { OnOk result (self.new.trail ≡ self.old.trail) }
+        ensures trail { OnOk result (self.new.trails ≡ self.old.trails) }
         ensures stands { StandsButKernels (G.means graph.old) (G.means graph.new) }
         ensures never_back { steps.old ≤ steps.new }
     {

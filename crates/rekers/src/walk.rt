@@ -1,4 +1,4 @@
-//! What a walk is for, and where it begins.
+//! What a walk is for.
 
 use parser_states::Reduction;
 
@@ -11,16 +11,4 @@ pub(crate) struct Walk {
     pub(crate) top: u32,
     /// The newest link of each trail.
     pub(crate) through: u32,
-}
-
-/// The node that a walk begins at, how many links are left to go down from it, and whether the link to go through was
-/// met before.
-#[derive(Clone, Copy)]
-pub(crate) struct Start {
-    /// The node that it begins at.
-    pub(crate) node: u32,
-    /// How many links are left to go down from there.
-    pub(crate) left: u32,
-    /// Whether the trail goes through the link already.
-    pub(crate) met: bool,
 }

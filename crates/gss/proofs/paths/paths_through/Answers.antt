@@ -4,14 +4,15 @@ use Rattle.gss.specs.declared.paths.Path.{Path}
 use Rattle.gss.specs.declared.trails.Walk.{Walk}
 use Rattle.gss.specs.Trails.{Standing, IsNextTrail, IsAtEnd}
 use Rattle.gss.specs.Views.{AddsNew, path_along}
-use Rattle.gss.proofs.PathTrails.{ArePathsSoFar, calls_left, new_walk, paths_first, paths_more, paths_fewer, paths_all, here_within}
+use Rattle.gss.proofs.TrailSteps.{calls_left}
+use Rattle.gss.proofs.PathTrails.{ArePathsSoFar, new_walk, paths_first, paths_more, paths_fewer, paths_all, here_within}
 use Rattle.gss.proofs.paths.paths_through.Goals as goal
 
 pub trails-init : goal.trails-init
 trails-init c =
     let links = c.args.graph.now.links in
     let is : c.new-trails.result ≡ new_walk links c.args.node c.args.count c.args.through =
-    c.new-trails.ensures ∙ ap (λ (w : Walk). let s : Standing = record { walk = w; is_begun = false; trail = [] } in s) c.walk_for.ensures in
+    c.new-trails.ensures.is ∙ ap (λ (w : Walk). let s : Standing = record { walk = w; is_begun = false; trail = [] } in s) c.walk_for.ensures in
     subst (λ (found : List Path). ArePathsSoFar links c.args.node c.args.count c.args.through c.next.new.self c.in_ok-is_more.is_more found)
     (sym c.new-found.ensures.items)
     (paths_first links c.args.node c.args.count c.args.through c.next.new.self c.in_ok-is_more.is_more
@@ -32,7 +33,7 @@ trails-smaller c =
     let links = c.args.graph.now.links in
     let so_far = subst (λ (b : Bool). ArePathsSoFar links c.args.node c.args.count c.args.through c.trails.trails b c.trails.found.items) c.trails-test.true
     c.trails.invariant in
-    subst (λ (b : Bool). calls_left links c.next-in-trails.new.self c.in_ok-is_more-2.is_more < calls_left links c.trails.trails b) (sym c.trails-test.true)
+    subst (λ (b : Bool). calls_left c.next-in-trails.new.self c.in_ok-is_more-2.is_more < calls_left c.trails.trails b) (sym c.trails-test.true)
     (paths_fewer links c.args.node c.args.count c.args.through c.trails.trails c.next-in-trails.new.self c.in_ok-is_more-2.is_more c.trails.found.items
     c.add_new.new.found.items so_far c.in_ok-is_more-2.ensures.walk c.in_ok-is_more-2.ensures.begun c.in_ok-is_more-2.ensures.on
     c.in_ok-is_more-2.ensures.next c.in_ok-is_more-2.ensures.end)

@@ -161,6 +161,6 @@ returns-clause-splits g c =
 
 pub returns-clause-trail : goal.returns-clause-trail
 returns-clause-trail g c = (
-  ap (λ (q : Parser). q.trail) c.in_ok-link.ensures.same ∙ ap (λ (q : Parser). q.trail) c.in_ok-upper.ensures.same ∙ c.in_ok-owner.ensures.trail.0,
+  ap (λ (q : Parser). q.trails) c.in_ok-link.ensures.same ∙ ap (λ (q : Parser). q.trails) c.in_ok-upper.ensures.same ∙ c.in_ok-owner.ensures.trail.0,
   ap (λ (q : Parser). q.parts) c.in_ok-link.ensures.same ∙ ap (λ (q : Parser). q.parts) c.in_ok-upper.ensures.same ∙ c.in_ok-owner.ensures.trail.1,
 )

@@ -101,6 +101,6 @@ returns-clause-splits g c = c.in_ok-link.ensures.splits ∙ ap (λ (q : Parser).
 
 pub returns-clause-trail : goal.returns-clause-trail
 returns-clause-trail g c = (
-  ap (λ (q : Parser). q.trail) c.in_ok-link.ensures.same ∙ ap (λ (q : Parser). q.trail) c.in_ok-upper.ensures.same,
+  ap (λ (q : Parser). q.trails) c.in_ok-link.ensures.same ∙ ap (λ (q : Parser). q.trails) c.in_ok-upper.ensures.same,
   ap (λ (q : Parser). q.parts) c.in_ok-link.ensures.same ∙ ap (λ (q : Parser). q.parts) c.in_ok-upper.ensures.same,
 )

@@ -1,10 +1,8 @@
 -- A reduction whose link is there: its split is added where the link made the span, and else nothing is new.
-use Rattle.std.proofs.Common.{◌<◌, length, ap, subst, arith}
+use Rattle.std.proofs.Common.{◌<◌, length, ap, arith}
 use Rattle.std.proofs.lemmas.Option.{slice_get_within}
 use Rattle.rekers.specs.declared.parser.Parser.{Parser}
 use Rattle.rekers.specs.Answers.{kinds_of}
-use Rattle.rekers.specs.Found.{found}
-use Rattle.rekers.specs.Steps.{IsLinkBy, IsStep}
 use Rattle.rekers.proofs.Stepping.{step_none}
 use Rattle.rekers.proofs.Reduced.{reduced_by, span_owned, no_split, step_more, few_on, unless_any}
 use Rattle.rekers.proofs.parser.Parser.reduce.Goals as goal
@@ -59,4 +57,4 @@ returns-clause-step g c =
     c.in_ok-split.ensures.same c.in_ok-split.ensures.sound c.in_ok-split.ensures.grows
 
 pub returns-clause-trail : goal.returns-clause-trail
-returns-clause-trail g c = ap (λ (q : Parser). q.trail) c.in_ok-split.ensures.same
+returns-clause-trail g c = ap (λ (q : Parser). q.trails) c.in_ok-split.ensures.same

@@ -1,15 +1,16 @@
-use Rattle.std.proofs.Common.{◌<◌, ◌≤◌, length, arith}
+use Rattle.std.proofs.Common.{◌<◌, ◌≤◌, length, ap, arith}
 use Rattle.std.proofs.lemmas.Result.{err_from_is_err_and}
+use Rattle.gss.specs.Trails.{Standing}
 use Rattle.rekers.specs.Answers.{kinds_of}
 use Rattle.rekers.proofs.Stepping.{step_on}
-use Rattle.rekers.proofs.DownLinks.{unless_on}
+use Rattle.rekers.proofs.Unless.{unless_on}
 use Rattle.rekers.proofs.EmptiedNodes.{none_emptied, state_inside, still_inside, none_behind, read_at, next_empty, emptied_more, emptied_all}
 use Rattle.rekers.proofs.parser.Parser.reduce_empties.Goals as goal
 
 pub loop-k-init : goal.loop-k-init
 loop-k-init g c =
-    none_emptied (kinds_of c.args.tokens.now) c.args.self.now c.clear.new.self (g.G.Graph.means c.args.graph.now) c.args.steps.now c.args.queue.node
-    c.place-state.result c.empties-k-end.result.now c.requires.sound c.requires.within c.clear.ensures.items c.requires.of_level c.place-state.ensures
+    none_emptied (kinds_of c.args.tokens.now) c.args.self.now c.begin.new.self (g.G.Graph.means c.args.graph.now) c.args.steps.now c.args.queue.node
+    c.place-state.result c.empties-k-end.result.now c.requires.sound c.requires.within (ap (λ (s : Standing). s.trail) c.begin.ensures.is) c.requires.of_level c.place-state.ensures
     c.empties-k-end.ensures
 
 pub empties-requires : goal.empties-requires

@@ -3,7 +3,7 @@ use Rattle.std.proofs.Common.{◌≤◌, refl, arith}
 use Rattle.std.proofs.lemmas.Result.{err_from_is_err_and}
 use Rattle.rekers.specs.Answers.{kinds_of}
 use Rattle.rekers.specs.Found.{found}
-use Rattle.rekers.proofs.DownLinks.{unless_on}
+use Rattle.rekers.proofs.Unless.{unless_on}
 use Rattle.rekers.proofs.LinkReductions.{none_through, link_way_none, link_still, node_still, still_fresh, link_way_on, link_way_more, link_way_all}
 use Rattle.rekers.proofs.LinkReductions.{upper_within, upper_worked}
 use Rattle.rekers.proofs.parser.Parser.reduce_link.Goals as goal

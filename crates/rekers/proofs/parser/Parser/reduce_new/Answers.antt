@@ -56,4 +56,4 @@ returns-clause-reduced g c =
     c.in_ok-link.ensures.splits c.in_ok-link.ensures.step.level c.in_ok-link.ensures.trail.0 c.in_ok-split.ensures.reduced
 
 pub returns-clause-trail : goal.returns-clause-trail
-returns-clause-trail g c = ap (λ (q : Parser). q.trail) c.in_ok-split.ensures.same ∙ c.in_ok-link.ensures.trail.0
+returns-clause-trail g c = ap (λ (q : Parser). q.trails) c.in_ok-split.ensures.same ∙ c.in_ok-link.ensures.trail.0

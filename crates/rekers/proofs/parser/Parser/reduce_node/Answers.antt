@@ -3,7 +3,7 @@ use Rattle.std.proofs.Common.{◌<◌, length, refl, arith}
 use Rattle.std.proofs.lemmas.Option.{slice_get-get_or}
 use Rattle.std.proofs.lemmas.Result.{err_from_is_err_and}
 use Rattle.rekers.specs.Answers.{kinds_of}
-use Rattle.rekers.proofs.DownLinks.{unless_on}
+use Rattle.rekers.proofs.Unless.{unless_on}
 use Rattle.rekers.proofs.NodeReductions.{state_within, under_way_none, state_still, more_reductions, next_top, next_link, next_is_fresh}
 use Rattle.rekers.proofs.NodeReductions.{under_way_more, under_way_all, way_on}
 use Rattle.rekers.proofs.parser.Parser.reduce_node.Goals as goal

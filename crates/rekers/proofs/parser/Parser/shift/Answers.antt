@@ -3,7 +3,7 @@ use Rattle.std.proofs.Common.{ap}
 use Rattle.std.proofs.lemmas.Result.{err_from_is_err_and}
 use Rattle.edit_log.specs.History.{Grammar}
 use Rattle.rekers.specs.Answers.{kinds_of}
-use Rattle.rekers.proofs.DownLinks.{unless_on}
+use Rattle.rekers.proofs.Unless.{unless_on}
 use Rattle.rekers.proofs.LevelShifted.{advance_within, nodes_before, no_links, shift_grows, shift_placed, shift_asks, shift_at, shift_worked, shift_shifted}
 use Rattle.rekers.proofs.Unless.{unless_memory}
 use Rattle.rekers.proofs.parser.Parser.shift.Goals as goal

@@ -2,7 +2,7 @@
 use Rattle.std.proofs.Common.{arith}
 use Rattle.std.proofs.lemmas.Result.{err_from_is_err_and}
 use Rattle.rekers.specs.Answers.{kinds_of}
-use Rattle.rekers.proofs.DownLinks.{unless_on}
+use Rattle.rekers.proofs.Unless.{unless_on}
 use Rattle.rekers.proofs.ShiftedNodes.{none_shifted, next_shift, next_unlinked, shifted_on, step_before, splits_before, all_shifted, nodes_past}
 use Rattle.rekers.proofs.parser.Parser.shift_nodes.Goals as goal
 

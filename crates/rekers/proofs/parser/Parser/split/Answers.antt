@@ -5,8 +5,9 @@ use Rattle.rekers.specs.declared.parser.Parser.{Parser}
 use Rattle.rekers.specs.Answers.{kinds_of}
 use Rattle.rekers.specs.Found.{found, Grows}
 use Rattle.rekers.specs.Sound.{IsSoundParser}
-use Rattle.rekers.specs.Steps.{Reduces, labels_of}
+use Rattle.rekers.specs.Steps.{Reduces, labels_of, trail_of}
 use Rattle.rekers.proofs.Growth.{grows_same, trail_links}
+use Rattle.rekers.proofs.TrailWalks.{in_reverse}
 use Rattle.rekers.proofs.Reduced.{labels_parts, span_owned, no_split, one_split}
 use Rattle.rekers.proofs.parser.Parser.split.Goals as goal
 
@@ -37,7 +38,7 @@ add_trail-requires-clause-span g c =
     omega (arith, owned, c.requires.sound.graph.owned)
 
 pub add_trail-requires-clause-links : goal.add_trail-requires-clause-links
-add_trail-requires-clause-links g c = λ link has. trail_links c.requires.reduces.reducible.along link has
+add_trail-requires-clause-links g c = λ link has. trail_links c.requires.reduces.reducible.along link (in_reverse c.args.self.now.trails.trail link has)
 
 pub add_trail-requires-clause-parts : goal.add_trail-requires-clause-parts
 add_trail-requires-clause-parts g c =
@@ -50,7 +51,7 @@ returns-clause-sound g c =
     (one_split (g.G.Graph.means c.args._graph.now).grammar.rules
     (kinds_of c.args._tokens.now) c.args.self.now c.requires.sound c.args.reduction c.args.link c.args.lower c.args.top
     c.requires.link c.requires.reduces c.edge-span.result c.edge-span.ensures c.index.result.now c.index.ensures c.if-index-link.false
-    (labels_of c.args.self.now.stacks.links c.args.self.now.trail.items) refl c.add_trail.new.self.parts c.add_trail.new.self.spans
+    (labels_of c.args.self.now.stacks.links (trail_of c.args.self.now)) refl c.add_trail.new.self.parts c.add_trail.new.self.spans
     c.in_ok-add_trail.ensures.spans c.in_ok-add_trail.ensures.splits).stays
 
 pub returns-clause-grows : goal.returns-clause-grows
@@ -59,15 +60,15 @@ returns-clause-grows g c =
     (one_split (g.G.Graph.means c.args._graph.now).grammar.rules
     (kinds_of c.args._tokens.now) c.args.self.now c.requires.sound c.args.reduction c.args.link c.args.lower c.args.top
     c.requires.link c.requires.reduces c.edge-span.result c.edge-span.ensures c.index.result.now c.index.ensures c.if-index-link.false
-    (labels_of c.args.self.now.stacks.links c.args.self.now.trail.items) refl c.add_trail.new.self.parts c.add_trail.new.self.spans
+    (labels_of c.args.self.now.stacks.links (trail_of c.args.self.now)) refl c.add_trail.new.self.parts c.add_trail.new.self.spans
     c.in_ok-add_trail.ensures.spans c.in_ok-add_trail.ensures.splits).more
 
 pub returns-clause-reduced : goal.returns-clause-reduced
 returns-clause-reduced g c =
     subst (λ (q : Parser). Reduces (g.G.Graph.means c.args._graph.now).grammar.rules (found c.args.self.now) (found q) c.args.reduction c.args.lower
-    c.args.self.now.trail.items c.args.top c.args.self.now.level.at) (sym c.in_ok-add_trail.ensures.same)
+    (trail_of c.args.self.now) c.args.top c.args.self.now.level.at) (sym c.in_ok-add_trail.ensures.same)
     (one_split (g.G.Graph.means c.args._graph.now).grammar.rules
     (kinds_of c.args._tokens.now) c.args.self.now c.requires.sound c.args.reduction c.args.link c.args.lower c.args.top
     c.requires.link c.requires.reduces c.edge-span.result c.edge-span.ensures c.index.result.now c.index.ensures c.if-index-link.false
-    (labels_of c.args.self.now.stacks.links c.args.self.now.trail.items) refl c.add_trail.new.self.parts c.add_trail.new.self.spans
+    (labels_of c.args.self.now.stacks.links (trail_of c.args.self.now)) refl c.add_trail.new.self.parts c.add_trail.new.self.spans
     c.in_ok-add_trail.ensures.spans c.in_ok-add_trail.ensures.splits).made
