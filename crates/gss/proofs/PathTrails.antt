@@ -25,7 +25,7 @@ use Rattle.gss.specs.Chains.{none}
 use Rattle.gss.specs.PlaceGraphs.{edge_of}
 use Rattle.gss.specs.KernelGraphs.{Link}
 use Rattle.gss.specs.Paths.{node_id, IsPathDown, HasStep, GoesThrough, IsPathOf}
-use Rattle.gss.specs.Trails.{LeadsDown, IsTrailOf, IsTrailBefore, IsPartOfTrail, IsOn, Standing, IsToCome, IsNextTrail, IsAtEnd}
+use Rattle.gss.specs.Trails.{LeadsDown, IsTrailOf, IsTrailBefore, IsOn, Standing, IsNextTrail, IsAtEnd}
 use Rattle.gss.specs.Views.{link_in, links_in, AddsNew, named, walk_of, lower_of, path_along}
 use Rattle.gss.proofs.Columns.{to_column, from_column}
 use Rattle.gss.proofs.TrailOrders.{down_within, from_before}
@@ -164,7 +164,8 @@ module _ (links : List Edge) (node : NodeId) (count : ℕ) where
       → (trail : List ℕ) × IsTrailOf links (walk_of node count through) trail × (path ≡ path_along links node trail)
   trail_of_path few None path is =
       let has = path_down links none few count node path.nodes is.down in
-      (has.trail, record { node = has.end; down = has.down; size = has.size; passes = tt; above = λ front rest link at e on unmet. omega arith }, path_is links node has.trail path has.nodes_are)
+      (has.trail, record { node = has.end; down = has.down; size = has.size; passes = tt; above = λ front rest link at e on unmet. omega arith },
+        path_is links node has.trail path has.nodes_are)
   trail_of_path few (Some l) path is =
       let (link, at, (k, upper, lower)) = is.passes in
       let (edge, at', same) = from_column link_in links l.0 link at in
@@ -172,7 +173,8 @@ module _ (links : List Edge) (node : NodeId) (count : ℕ) where
       let lower' : slice_get path.nodes (suc k) ≡ Some (node_id edge.lower) =
       subst (λ n. slice_get path.nodes n ≡ Some (node_id link.lower)) (add-one k) lower ∙ ap (λ (q : Link). Some (node_id q.lower)) (sym same) in
       let (has, passes) = step_passes links none few l.0 edge at' count node path.nodes is.down k upper' lower' in
-      (has.trail, record { node = has.end; down = has.down; size = has.size; passes = passes; above = λ front rest link at e on unmet. omega arith }, path_is links node has.trail path has.nodes_are)
+      (has.trail, record { node = has.end; down = has.down; size = has.size; passes = passes; above = λ front rest link at e on unmet. omega arith },
+        path_is links node has.trail path has.nodes_are)
 
 -- ---- the list that the walk is made into
 

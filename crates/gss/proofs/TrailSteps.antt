@@ -10,7 +10,7 @@ use Rattle.gss.specs.Trails.{LeadsDown, PassesLink, IsTrailOf, IsTrailBefore, Is
 use Rattle.gss.specs.Descents.{IsMetAfter, GoesTo, TurnsTo, FindsTrail}
 use Rattle.gss.proofs.TrailOrders.{from_here, from_on, from_before, before_from, from_pushed, before_newer, before_longer, from_whole}
 use Rattle.gss.proofs.TrailOrders.{down_pushed, down_popped, from_first, from_stuck, from_next, before_shorter}
-use Rattle.gss.proofs.TrailParts.{above_none, above_pushed, above_popped, above_turned, from_below, met_told, met_popped}
+use Rattle.gss.proofs.TrailParts.{above_none, above_pushed, above_popped, above_turned, from_below}
 use Rattle.gss.proofs.TrailRanks.{lists_of, rank, rank_below, rank_before, fits_down}
 
 pub part_of_trail : (links : List Edge) (walk : Walk) (trail : List ℕ) → IsTrailOf links walk trail → IsPartOfTrail links walk trail
@@ -98,9 +98,6 @@ pub record IsAscending (links : List Edge) (walk : Walk) (old new : List ℕ) (m
   pub met_is : IsMetAfter walk.through new met
 
 module _ (links : List Edge) (walk : Walk) (old : List ℕ) where
-  pub rising_none : IsPartOfTrail links walk old → IsRising links walk old old
-  rising_none part = record { part = part; before = λ trail is. is; rest = λ trail is before. before }
-
   module _ (part : List ℕ) (link : ℕ) (rising : IsRising links walk old (part ++ link ∷ [])) where
     shorter : length part ≤ walk.length
     shorter = omega (arith, rising.part.few, length-append part (link ∷ []))
@@ -135,9 +132,6 @@ module _ (links : List Edge) (walk : Walk) (old : List ℕ) where
             (rising.rest trail is before),
       )
 
-  pub turned_none : IsRising links walk old [] → TurnsTo links walk old [] false
-  turned_none rising trail is before = rising.rest trail is before
-
 -- ---- both
 
 -- the walk has come past no trail, and knows whether it has met the link that is named
@@ -162,13 +156,6 @@ module _ (links : List Edge) (walk : Walk) (old part : List ℕ) (goes : GoesTo 
   pub finds_none : (new : List ℕ) → TurnsTo links walk part new false → FindsTrail links walk old new false
   finds_none new turns trail is from = turns trail (part_of_trail links walk trail is) (behind trail is from)
 
-pub finds_whole : (links : List Edge) (walk : Walk) (old new : List ℕ) → GoesTo links walk old new true → FindsTrail links walk old new true
-finds_whole links walk old new goes = record {
-  is = goes.whole refl;
-  from = goes.from;
-  first = λ other is from. elim (goes.rest other is from) [ inl same ↦ inl same.1 | inr later ↦ inr later ];
-}
-
 -- how many lists of numbers come from the part on
 abbrev pub left_from : Walk → List ℕ → ℕ
 left_from walk part = lists_of (suc walk.last) walk.length - rank (suc walk.last) walk.length part
@@ -185,15 +172,6 @@ module _ (links : List Edge) (walk : Walk) (old new : List ℕ) (part : IsPartOf
 -- ---- what is told of it
 
 module _ (links : List Edge) (at : Standing) where
-  pub next_first : (trail : List ℕ) → (IsTrue at.is_begun → ⊥) → FindsTrail links at.walk at.trail trail true → IsNextTrail links at trail
-  next_first trail new finds = record {
-    is = finds.is;
-    to_come = (finds.from, λ begun. absurd (new begun));
-    first = λ other is to_come. finds.first other is to_come.0;
-  }
-
-  pub end_first : (trail : List ℕ) → FindsTrail links at.walk at.trail trail false → IsAtEnd links at
-  end_first trail finds other is to_come = finds other is to_come.0
 
   module _ (begun : IsTrue at.is_begun) where
     pub next_turned : (middle trail : List ℕ) → TurnsTo links at.walk at.trail middle true → FindsTrail links at.walk middle trail true

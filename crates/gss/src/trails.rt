@@ -1,6 +1,6 @@
 //! Walks over trails, which are links one after the other down from a top node.
 
-ghost use Rattle.std.specs.Prelude.{◌≡◌, ◌<◌, ◌≤◌, ◌↔◌, ℕ, List, false, [], ◌∷◌, IfSome, IfNone, IfOk, OnOk, IsTrue};
+ghost use Rattle.std.specs.Prelude.{◌≡◌, ◌<◌, ◌≤◌, ℕ, List, false, [], ◌∷◌, IfSome, IfNone, IfOk, OnOk, IsTrue};
 ghost use Rattle.gss.specs.declared.stack_graph.Edge.{Edge};
 ghost use Rattle.gss.specs.Numbers.{IsLeast};
 ghost use Rattle.gss.specs.PlaceGraphs.{LeadsDownFrom, LeadsFromSame};

@@ -1,12 +1,10 @@
 -- What a link is known by, before and after a step.
-use Rattle.std.proofs.Common.{◌≡◌, ℕ, ◌<◌, ◌≤◌, ◌≢◌, inl, inr, List, [], ◌∷◌, ◌++◌, length, sym, ◌∙◌, ap, subst, arith, Contains, slice_get, Some}
-use Rattle.std.proofs.lemmas.Bool.{cases_lt}
+use Rattle.std.proofs.Common.{◌≡◌, ℕ, ◌<◌, ◌≤◌, ◌≢◌, inl, inr, List, [], ◌∷◌, ◌++◌, length, sym, ◌∙◌, ap, subst, arith, slice_get, Some}
 use Rattle.std.proofs.lemmas.Option.{slice_get_within}
 use Rattle.forest.specs.declared.symbols.SymbolId.{SymbolId}
 use Rattle.forest.specs.declared.rules.Rule.{Rule}
 use Rattle.forest.specs.Derivation.{Derives, IsNonterminal}
 use Rattle.item_sets.specs.declared.item.Item.{Item}
-use Rattle.item_sets.specs.Expansions.{HasMove}
 use Rattle.gss.specs.declared.stack_graph.Place.{Place}
 use Rattle.gss.specs.declared.stack_graph.Edge.{Edge}
 use Rattle.gss.specs.PlaceGraphs.{place_with, edge_of, LeadsToBy}
@@ -47,15 +45,6 @@ module _ (rules : List Rule) (tokens : List SymbolId) (p : Parser) (sound : IsSo
         upper_is = subst (λ i. slice_get p.stacks.nodes edge.upper ≡ Some (place_with ends.upper_is.state i)) at ends.upper_is.there;
       } in
       record { label = edge.label; is = is; owned = label_owned nonterminal is }
-
-  -- the first node that moves on a left side is not before the one that is noted
-  pub opener_first : (node i from : ℕ) (kernel : List Item) (x : SymbolId) → IsNode (found p) node kernel i → HasMove rules (Contains kernel) x
-      → IsNonterminal rules x
-      → slice_get p.openers.items i ≡ Some from → from ≤ node
-  opener_first node i from kernel x n moves nonterminal noted = elim (cases_lt node from) [
-    | inl below ↦ absurd ((sound.openers.each i from noted).none_before node kernel n below (x, moves, nonterminal))
-    | inr above ↦ above
-  ]
 
   -- a node between the noted one and one of the place is at the place too
   pub between_openers : (node other i from : ℕ) (kernel : List Item) → IsNode (found p) node kernel i → slice_get p.openers.items i ≡ Some from → from ≤ other
@@ -116,10 +105,6 @@ pub unlinked_on : (p q : Parser) (lower : ℕ) (x : SymbolId) → q.stacks.links
     → IsUnlinked (found p) p.level.first_link lower x → IsUnlinked (found q) q.level.first_link lower x
 unlinked_on p q lower x links level none = λ link (here, edge, there, low, symbol). none link
     (subst (λ (l : Level). l.first_link ≤ link) level here, edge, subst (λ ls. slice_get ls link ≡ Some edge) links there, low, symbol)
-
-pub link_by_on : (p q : Parser) (link lower : ℕ) (x : SymbolId) → q.level ≡ p.level → IsLinkBy (found q) link lower x q.level.at
-    → IsLinkBy (found q) link lower x p.level.at
-link_by_on p q link lower x level is = subst (λ (l : Level). IsLinkBy (found q) link lower x l.at) level is
 
 -- the link of the first node is linkable as the node itself is
 pub linkable_first : (rules : List Rule) (tokens : List SymbolId) (f : Findings) {lower at first : ℕ} {x : SymbolId} (is : IsFirstOf rules f lower x first)

@@ -12,7 +12,6 @@ use Rattle.packed_spans.specs.declared.span.Span.{Span}
 use Rattle.packed_spans.specs.Complete.{IsPartAt}
 use Rattle.forest.specs.Numbers.{KeepsNumbers}
 use Rattle.rekers.specs.Found.{Findings, Grows}
-use Rattle.rekers.specs.Reductions.{IsLinkTo}
 use Rattle.rekers.specs.Sound.{IsSoundGraph, IsSoundLink, IsOwner, IsFirstMover, IsLevel, AreOpeners}
 use Rattle.rekers.specs.Steps.{IsLinkable, IsUpper, IsUnlinked}
 use Rattle.rekers.proofs.Growth.{one_at, one_kernel, keeps_same, keeps_append, node_grows, node_below, told_grows}
@@ -171,6 +170,3 @@ module _ (rules : List Rule) (tokens : List SymbolId) (f : Findings) (sound : Is
           none_before = λ other kernel n l. is.none_before other kernel (record { state = n.state; there = n.there; is_kernel = n.is_kernel }) l;
         };
   }
-
-  pub link_there : IsLinkTo (with_link f (edge_of upper x lower label) spans owners) (length f.links) lower x at label
-  link_there = record { upper = upper; state = is_upper.state; there = at_end f.links edge; upper_is = is_upper.there }

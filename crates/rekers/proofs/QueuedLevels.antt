@@ -77,11 +77,6 @@ none_queued tokens p graph steps sound within worked = record {
 
 module _ {Base : Type 0} (tokens : List SymbolId) (p q : Parser) (graph graph' : GraphMeaning Base) (before between node link : ℕ)
     (so_far : IsQueued tokens p q graph graph' before between node link) where
-  pub worked_now : IsWorked graph'.grammar.rules (found q) link node
-  worked_now = subst (λ (gr : Grammar). IsWorked gr.rules (found q) link node) (sym so_far.stands.grammar) so_far.worked
-
-  pub node_here : q.level.first_node ≤ node
-  node_here = subst (λ (l : Level). l.first_node ≤ node) (sym so_far.step.level) so_far.node_of_level
 
   pub link_here : q.level.first_link ≤ link
   link_here = subst (λ (l : Level). l.first_link ≤ link) (sym so_far.step.level) so_far.link_of_level

@@ -73,10 +73,6 @@ module _ (p q r : Parser) (first : q ≡ record p { states = q.states }) (then :
   pub links_same : r.stacks.links ≡ p.stacks.links
   links_same = links ∙ ap (λ (g : PlaceGraph). g.links) nodes_from
 
-  pub only_nodes : r ≡ record p { states = r.states; stacks = r.stacks; openers = r.openers }
-  only_nodes = then ∙ ap (λ (x : Parser). let it : Parser = record x { stacks = r.stacks; openers = r.openers } in it) first
-      ∙ ap (λ ss. let it : Parser = record p { states = ss; stacks = r.stacks; openers = r.openers } in it) (sym states_same)
-
   pub upper_grows : Grows (found p) (found r)
   upper_grows = record {
     kernels = subst (λ ss. KeepsNumbers p.states.kernels ss.kernels) (sym states_same) keeps;
@@ -86,9 +82,6 @@ module _ (p q r : Parser) (first : q ≡ record p { states = q.states }) (then :
     splits = λ split c. subst (λ ss. Contains ss.splits split) (sym spans_same) c;
     owners = subst (λ os. KeepsNumbers p.owners.items os.items) (sym owners_same) (keeps_same p.owners.items);
   }
-
-  pub upper_count : length r.stacks.nodes ≤ length p.stacks.nodes + 1
-  upper_count = subst (λ (g : PlaceGraph). length r.stacks.nodes ≤ length g.nodes + 1) nodes_from (adds_keeps q.stacks.nodes r.stacks.nodes state at adds).1
 
   -- the new state has its node
   pub upper_placed : (node : ℕ) → slice_get r.stacks.nodes node ≡ Some (place_with state at)

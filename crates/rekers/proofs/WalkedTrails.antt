@@ -328,7 +328,8 @@ module _ {Base : Type 0} (tokens : List SymbolId) (old p : Parser) (graph first 
             begun = begun;
             on = on;
             here = λ more. subst (λ w. IsTrailOf q.stacks.links w at.trail) (sym same) (next more).is;
-            walked = walked_more rules tokens now.numbered (found old) (found p) (found q) now.graph step.grows walk old.level.at old.level.first_node p.trails at
+            walked = walked_more rules tokens now.numbered (found old) (found p) (found q) now.graph step.grows walk old.level.at
+                old.level.first_node p.trails at
                 is_more way.walked way.walk_is way.begun lower (way.here refl) (leads lower down) by_level below
                 (node_grows (found old) (found p) way.step.grows top.partial.top_is) of_walk next_here end_here;
           }
@@ -338,7 +339,8 @@ module _ {Base : Type 0} (tokens : List SymbolId) (old p : Parser) (graph first 
           (same ∙ ap (λ (s : Standing). s.walk) trails) on next_here
 
   -- an error in the reduction
-  pub way_step : (q : Parser) (second : GraphMeaning Base) (after : ℕ) → IsStep tokens p q first second between after → IsStep tokens old q graph second before after
+  pub way_step : (q : Parser) (second : GraphMeaning Base) (after : ℕ) → IsStep tokens p q first second between after
+        → IsStep tokens old q graph second before after
   way_step q second after step = step_on tokens old p q graph first second before between after way.step step
 
 -- the walk has come to all trails

@@ -1,6 +1,6 @@
 //! Nodes of the level.
 
-ghost use Rattle.std.specs.Prelude.{◌≡◌, ◌≤◌, ◌<◌, ◌+◌, ◌-◌, ◌^◌, ◌⊎◌, ℕ, List, Some, IfOk, OnOk, length, slice_get, Contains};
+ghost use Rattle.std.specs.Prelude.{◌≡◌, ◌≤◌, ◌<◌, ◌+◌, ◌-◌, ◌^◌, ◌⊎◌, ℕ, List, Some, IfOk, OnOk, length, slice_get};
 ghost use Rattle.item_sets.specs.declared.item.Item.{Item};
 ghost use Rattle.gss.specs.declared.stack_graph.Place.{Place};
 ghost use Rattle.gss.specs.PlaceGraphs.{place_with};

@@ -1,6 +1,6 @@
 //! The parse of a text.
 
-ghost use Rattle.std.specs.Prelude.{◌≡◌, ◌≤◌, ◌+◌, length, IfOk, IfErr, OnOk};
+ghost use Rattle.std.specs.Prelude.{◌≡◌, ◌≤◌, length, IfOk, IfErr, OnOk};
 ghost use Rattle.edit_log.specs.declared.limits.TheConstants.{TOKEN_LIMIT};
 ghost use Rattle.forest.specs.declared.symbols.TheConstants.{START};
 ghost use Rattle.forest.specs.Derivation.{AreTerminals};
@@ -12,7 +12,7 @@ ghost use Rattle.rekers.specs.Asked.{AsksStates, AsksSomeStates};
 ghost use Rattle.rekers.specs.Found.{found};
 ghost use Rattle.rekers.specs.Reductions.{IsWorked};
 ghost use Rattle.rekers.specs.Sound.{IsSoundParser};
-ghost use Rattle.rekers.specs.Steps.{AreShifted, IsWithinLimit};
+ghost use Rattle.rekers.specs.Steps.{AreShifted};
 
 use crate::parse_error::ParseError;
 use crate::parsed::Parsed;

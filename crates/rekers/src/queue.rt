@@ -1,6 +1,6 @@
 //! The queue of links and nodes whose reductions are made.
 
-ghost use Rattle.std.specs.Prelude.{◌≡◌, ◌⊎◌, ◌↔◌, ◌≤◌, ◌<◌, ◌+◌, IfErr, IfOk, OnOk, IsTrue, ℕ, length};
+ghost use Rattle.std.specs.Prelude.{◌≡◌, ◌⊎◌, ◌↔◌, ◌≤◌, ◌<◌, ◌+◌, IfErr, IfOk, OnOk, IsTrue, length};
 ghost use Rattle.parser_states.specs.declared.reduction.Reduction.{Reduction as ReductionBy};
 ghost use Rattle.parser_states.specs.Asked.{StandsButKernels};
 ghost use Rattle.rekers.specs.Answers.{kinds_of, UnlessParseNoMemory};

@@ -1,11 +1,10 @@
 //! Reductions, each along one trail of links.
 
-ghost use Rattle.std.specs.Prelude.{◌≡◌, ◌≤◌, ◌<◌, ◌+◌, ◌^◌, ◌++◌, ◌∷◌, [], IfErr, IfSome, OnOk, ℕ, length, reverse, Contains};
+ghost use Rattle.std.specs.Prelude.{◌≡◌, ◌≤◌, ◌<◌, ◌+◌, ◌++◌, ◌∷◌, [], IfErr, IfSome, OnOk, ℕ, length, reverse, Contains};
 ghost use Rattle.packed_spans.specs.Packed.{ArePartsOf};
 ghost use Rattle.parser_states.specs.Asked.{StandsButKernels};
 ghost use Rattle.rekers.specs.Answers.{kinds_of, UnlessParseNoMemory};
 ghost use Rattle.rekers.specs.Found.{found, Grows};
-ghost use Rattle.rekers.specs.Reductions.{IsLinkTo};
 ghost use Rattle.rekers.specs.Sound.{IsSoundParser};
 ghost use Rattle.rekers.specs.Steps.{IsStep, IsToReduce, Reduces, HasFewNodes, IsWithinLimit, IsAboveLimit, labels_of, trail_of, IsLinkBy, IsUnlinked};
 

@@ -1,6 +1,6 @@
 //! Shifts: the links of tokens, from each level to the next.
 
-ghost use Rattle.std.specs.Prelude.{◌≡◌, ◌≤◌, ◌<◌, ◌+◌, ◌≢◌, [], IfErr, OnOk, IfOk, ℕ, List, Some, length, slice_get, Contains};
+ghost use Rattle.std.specs.Prelude.{◌≡◌, ◌≤◌, ◌<◌, ◌+◌, ◌≢◌, [], IfErr, OnOk, ℕ, List, Some, length, slice_get, Contains};
 ghost use Rattle.forest.specs.Derivation.{AreTerminals};
 ghost use Rattle.item_sets.specs.declared.item.Item.{Item};
 ghost use Rattle.item_sets.specs.Expansions.{HasMove};

@@ -52,8 +52,8 @@ pub data IsOutcome (grammar : Grammar) (text : List ℕ) : Outcome → Type 0 wh
 
 -- ---- commands
 
--- The reply to a command, under the grammar that the commands before it made. What is held depends on a table and not on the grammar alone, so which numbers these
--- are is said where there is a table
+-- The reply to a command, under the grammar that the commands before it made. What is held depends on a table and not on the grammar alone,
+-- so which numbers these are is said where there is a table
 pub data IsReply (grammar : Grammar) : Command → Reply → Type 0 where
   taken : {edit : AnEdit} → verdict grammar edit ≡ None → IsReply grammar (Edit edit) (Edited (grammar.version + 1))
   refused : {edit : AnEdit} {why : Refusal} → verdict grammar edit ≡ Some why → IsReply grammar (Edit edit) (Refused why)

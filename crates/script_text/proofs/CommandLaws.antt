@@ -19,7 +19,8 @@ use Rattle.script_text.specs.declared.limits.TheConstants.{TEXT_LIMIT}
 use Rattle.script_text.specs.Forms.{Sort, EditLine, ParseLine, TokensLine, StatsLine}
 use Rattle.script_text.specs.Expressions.{AddsExpression}
 use Rattle.script_text.specs.Texts.{text_written}
-use Rattle.script_text.specs.Commands.{SpellsText, SpellsAs, an_edit, a_text, a_scan, a_count, IsWrongText, bad_escape, too_long, IsWrongAs, no_edit, no_expression}
+use Rattle.script_text.specs.Commands.{SpellsText, SpellsAs, an_edit, a_text, a_scan, a_count, IsWrongText, bad_escape, too_long, IsWrongAs}
+use Rattle.script_text.specs.Commands.{no_edit, no_expression}
 use Rattle.script_text.specs.Commands.{no_text, no_scan}
 use Rattle.script_text.proofs.ExpressionLaws.{edit_judged}
 

@@ -90,7 +90,8 @@ front_of_part old new part whole on prefix =
 pub part_is_front : (old new : Option (List ℕ)) (bytes : List ℕ) → TakesProperPrefix old new bytes → TakesPrefix old new bytes
 part_is_front old new bytes part = let less = part.1 in (part.0, omega (arith, less), part.2)
 
-pub front_of_output : (script : List ℕ) (old new : Option (List ℕ)) → StopsInOutput old new script → HasNoStats script → (output : List ℕ) → IsOutput script output
+pub front_of_output : (script : List ℕ) (old new : Option (List ℕ)) → StopsInOutput old new script → HasNoStats script
+      → (output : List ℕ) → IsOutput script output
     → TakesPrefix old new output
 front_of_output script old new (of_replies read spelled first) without output (replies {last = ends} other short spelled' are) =
     let same = one_script script other read spelled' spelled in

@@ -3,7 +3,7 @@ use Rattle.std.proofs.Common.{List, ℕ, true, sym, subst}
 use Rattle.gss.specs.Trails.{IsPartOfTrail}
 use Rattle.gss.specs.Descents.{IsMetAfter, TurnsTo}
 use Rattle.gss.proofs.TrailParts.{met_popped}
-use Rattle.gss.proofs.TrailSteps.{IsRising, rising_none, rising_more, turned_part, turned}
+use Rattle.gss.proofs.TrailSteps.{IsRising, rising_more, turned_part, turned}
 use Rattle.gss.proofs.trails.turn.Goals as goal
 
 pub returns-in-Some-next_until-clause-part : goal.returns-in-Some-next_until-clause-part

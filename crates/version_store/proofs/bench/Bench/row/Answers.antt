@@ -87,8 +87,9 @@ returns-in-None g c = let b = c.args.self.now in let e = b.editor in let n = c.r
         (
           subst (λ (t : TableId × ℕ). LoadsPlace (bench_meaning v (table_of e.hand)) (bench_meaning w t) c.args.place None) (sym c.read_at.ensures.table)
               (loads_place v w (table_of e.hand) e.sizes c.args.place None q.0 q.1 e.measured q.2 all known lt once),
-          reads_at g.C.Content.lawful g.C.Content.fits v w (table_of e.hand) (table_of n.hand) e.sizes c.args.place None q.0 q.1 e.measured q.2 all known lt once
-              _ (none_stands v w (table_of e.hand) e.sizes c.args.place None q.0 q.1 e.measured q.2 all known lt once refl) c.read_at.ensures.told n.editor,
+          reads_at g.C.Content.lawful g.C.Content.fits v w (table_of e.hand) (table_of n.hand) e.sizes c.args.place None q.0 q.1 e.measured q.2 all known
+              lt once _ (none_stands v w (table_of e.hand) e.sizes c.args.place None q.0 q.1 e.measured q.2 all known lt once refl)
+              c.read_at.ensures.told n.editor,
         ),
       ),
       record { lent = tt; told = tt },
