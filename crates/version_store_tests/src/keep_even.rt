@@ -14,6 +14,8 @@ impl Chooser<AnyRow> for KeepEven {
 
     ghost keeps = { λ _ row. slice_index row 2 % 2 ≡ 0 };
 
+    ghost moves = { λ _ _ _. Unit {0} };
+
     fn keep(&mut self, row: &[u64]) -> bool {
         match row.get(2) {
             Some(word) => word % 2 == 0,
