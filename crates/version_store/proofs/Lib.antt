@@ -20,6 +20,7 @@ pub mod OldestNoted
 pub mod SparePages
 pub mod KnownPlaces
 pub mod GraphRows
+pub mod AskedRows
 pub mod EmptyPages
 pub mod KnownAgain
 pub mod PlaceRead

@@ -27,11 +27,12 @@ count_taken (suc n ∷ ns) = suc (count_taken ns)
 abbrev pub PutsAtFirst : Sizes → List ℕ → ℕ → List ℕ → List ℕ → Type 0
 PutsAtFirst z key word old new = (place : ℕ) × (place < z.places) × (slice_index old place ≡ 0) × (new ≡ slice_set old place word) × IsPast z old key place
 
--- the row was read whole, and where it is kept it was put at its place
-pub record ChoosesRow (keeps next : List ℕ → Type 0) (c : Current) (v w : View) (row : ℕ) (old new : List ℕ) : Type 0 where
+-- the row was read whole and asked about, and where it is kept it was put at its place
+pub record ChoosesRow (keeps next Asks : List ℕ → Type 0) (c : Current) (v w : View) (row : ℕ) (old new : List ℕ) : Type 0 where
   pub words : List ℕ
   pub is_whole : IsWholeRow words
   pub reads : ReadsRow c v w row words
+  pub asked : Asks words
   pub chosen : (keeps words × next words × PutsAtFirst c.sizes (key_in words) (suc row) old new) ⊎ ((¬ (keeps words)) × (new ≡ old))
 
 -- of the rows found, those that are kept stand on the paths of their keys, and no others

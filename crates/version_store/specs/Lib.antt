@@ -9,6 +9,7 @@ pub mod Dividing
 pub mod Learning
 pub mod Stages
 pub mod Choices
+pub mod Asking
 pub mod PlaceReading
 pub mod BenchRows
 pub mod Placed

@@ -5,7 +5,8 @@ ghost use Rattle.pin_rule.specs.declared.content.Entry.{Entry};
 ghost use Rattle.pin_rule.specs.Hands.{view_of, table_of};
 ghost use Rattle.pin_rule.specs.Steps.{version_of};
 ghost use Rattle.pin_rule.specs.Told.{Tells};
-ghost use Rattle.version_store.specs.Rows.{Found};
+ghost use Rattle.version_store.specs.Asking.{AsksEach};
+ghost use Rattle.version_store.specs.Rows.{Found, rows_found};
 ghost use Rattle.version_store.specs.Stages.{IsEditorOf, next_log_of, FindsRows};
 ghost use Rattle.version_store.specs.Choices.{count_taken, ChoosesRow, HasChosen};
 
@@ -34,8 +35,8 @@ fn choose_row<C: Content, H: Chooser<C>>(
     requires places { length places.old ≡ current.sizes.places }
     requires few { count_taken places.old < current.sizes.places }
     ensures table { table_of hand.new ≡ table_of hand.old }
-    ensures chosen { ChoosesRow (H.keeps chooser.old) (C.fits (next_log_of (view_of hand.old))) current (view_of hand.old) (view_of hand.new) row places.old
-        places.new }
+    ensures chosen { ChoosesRow (H.keeps chooser.old) (C.fits (next_log_of (view_of hand.old))) (λ words. H.moves chooser.old words chooser.new) current
+        (view_of hand.old) (view_of hand.new) row places.old places.new }
     ensures told { Tells C.lawful C.fits (view_of hand.new) }
     ensures buffer { length buffer.new ≡ current.sizes.width }
     ensures same_leads { (first next : List Entry) → H.leads chooser.new first next ↔ H.leads chooser.old first next }
@@ -48,8 +49,8 @@ fn choose_row<C: Content, H: Chooser<C>>(
     }
 }
 
-/// Reads the page, place by place and each row once, and places the rows that
-/// are kept. The places are empty at first.
+/// Reads the page, place by place and each row once, asks about each row, and
+/// places those that are kept. The places are empty at first.
 pub(crate) fn choose_rows<C: Content, H: Chooser<C>>(
     hand: &mut Hand<C>,
     current: Current,
@@ -65,7 +66,8 @@ pub(crate) fn choose_rows<C: Content, H: Chooser<C>>(
     ensures table { table_of hand.new ≡ table_of hand.old }
     ensures chosen { (found : List (Option Found)) × (length found ≡ current.sizes.places)
         × FindsRows current (view_of hand.old) (view_of hand.new) found
-        × HasChosen (H.keeps chooser.old) (C.fits (next_log_of (view_of hand.old))) current.sizes found places.new }
+        × HasChosen (H.keeps chooser.old) (C.fits (next_log_of (view_of hand.old))) current.sizes found places.new
+        × AsksEach H.moves chooser.old (rows_found found) chooser.new }
     ensures buffer { length buffer.new ≡ current.sizes.width }
     ensures same_leads { (first next : List Entry) → H.leads chooser.new first next ↔ H.leads chooser.old first next }
     ensures same_keeps { (words : List ℕ) → H.keeps chooser.new words ↔ H.keeps chooser.old words }

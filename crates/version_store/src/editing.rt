@@ -4,7 +4,8 @@ ghost use Rattle.std.specs.Prelude.{◌≡◌, ◌<◌, ◌↔◌, ◌+◌, [], 
 ghost use Rattle.pin_rule.specs.declared.content.Entry.{Entry};
 ghost use Rattle.pin_rule.specs.Hands.{view_of};
 ghost use Rattle.pin_rule.specs.Views.{whole};
-ghost use Rattle.version_store.specs.Graphs.{IsWholeKnown};
+ghost use Rattle.version_store.specs.Asking.{AsksRows};
+ghost use Rattle.version_store.specs.Graphs.{rows_known, IsWholeKnown};
 ghost use Rattle.version_store.specs.Choices.{KeepsRows};
 ghost use Rattle.version_store.specs.Edits.{MakesVersion, HasRoom, Edits, Refuses, IsSameEditor, IsSameVersion};
 ghost use Rattle.version_store.specs.Means.{editor_of};
@@ -27,6 +28,8 @@ impl<C: Content> Editor<C> {
         ensures same { IsSameEditor (editor_of self.old) (editor_of self.new) }
         ensures graph { (view_of self.old.hand).share ≡ whole → IsWholeKnown self.old.sizes (view_of self.old.hand).known
             → KeepsRows (H.keeps chooser.old) self.old.sizes (view_of self.old.hand).known (view_of self.new.hand).known }
+        ensures asked { (view_of self.old.hand).share ≡ whole → IsWholeKnown self.old.sizes (view_of self.old.hand).known
+            → AsksRows H.moves chooser.old chooser.new (rows_known (view_of self.old.hand).known) self.old.sizes.places }
         ensures same_leads { (first next : List Entry) → H.leads chooser.new first next ↔ H.leads chooser.old first next }
         ensures same_keeps { (words : List ℕ) → H.keeps chooser.new words ↔ H.keeps chooser.old words }
     {

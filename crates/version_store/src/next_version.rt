@@ -3,10 +3,12 @@
 ghost use Rattle.std.specs.Prelude.{◌≡◌, ◌<◌, ◌↔◌, [], ◌∷◌, ◌++◌, ℕ, List, None, length};
 ghost use Rattle.pin_rule.specs.declared.content.Entry.{Entry};
 ghost use Rattle.pin_rule.specs.Hands.{view_of, table_of};
-ghost use Rattle.pin_rule.specs.Views.{pages_taken};
+ghost use Rattle.pin_rule.specs.Views.{whole, pages_taken};
 ghost use Rattle.pin_rule.specs.Making.{spare_page};
+ghost use Rattle.version_store.specs.Asking.{AsksRows};
 ghost use Rattle.version_store.specs.Roles.{role_of};
 ghost use Rattle.version_store.specs.Stages.{IsEditorOf};
+ghost use Rattle.version_store.specs.Graphs.{rows_known, IsWholeKnown};
 ghost use Rattle.version_store.specs.Choices.{MakesNext};
 
 use crate::choosing::choose_rows;
@@ -38,6 +40,8 @@ pub(crate) fn make_next<C: Content, H: Chooser<C>>(
     requires places { length places.old ≡ current.sizes.places }
     ensures table { table_of hand.new ≡ table_of hand.old }
     ensures made { MakesNext (H.keeps chooser.old) current (view_of hand.old) (view_of hand.new) entry.now places.new result }
+    ensures asked { (view_of hand.old).share ≡ whole → IsWholeKnown current.sizes (view_of hand.old).known
+        → AsksRows H.moves chooser.old chooser.new (rows_known (view_of hand.old).known) current.sizes.places }
     ensures buffer { length buffer.new ≡ current.sizes.width }
     ensures places { length places.new ≡ current.sizes.places }
     ensures same_leads { (first next : List Entry) → H.leads chooser.new first next ↔ H.leads chooser.old first next }

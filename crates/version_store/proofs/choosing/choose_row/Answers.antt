@@ -24,6 +24,7 @@ returns-then-keep-clause-chosen g c = let r = c.requires in let e = c.read_row-c
       words = words;
       is_whole = e.is_whole;
       reads = e.read;
+      asked = c.keep.ensures.moves;
       chosen = inl (
         c.keep.ensures.exact.0 c.if-keep.true,
         c.keep.ensures.fits c.if-keep.true w.log (next_log_of v) asked,

@@ -8,6 +8,7 @@ use Rattle.slot_store.proofs.Passing.{row_met}
 use Rattle.version_store.specs.Rows.{Found}
 use Rattle.version_store.specs.Stages.{next_log_of}
 use Rattle.version_store.proofs.PageRows as finds
+use Rattle.version_store.proofs.AskedRows as asked
 use Rattle.version_store.proofs.Chosen as chosen
 use Rattle.version_store.proofs.choosing.choose_rows.Goals as goal
 
@@ -21,6 +22,7 @@ loop-place-init g c = record {
     finds.begins c.args.current (view_of c.args.hand.now),
     chosen.begins (g.H.Chooser.keeps c.args.chooser.now) (g.C.Content.fits (next_log_of (view_of c.args.hand.now))) c.args.current.sizes c.args.places.now
         c.requires.places,
+    refl,
   );
   same_leads = λ _ _. ((λ h. h), (λ h. h));
   same_keeps = λ _. ((λ h. h), (λ h. h));
@@ -44,6 +46,7 @@ loop-place-preserved-then-met-eq0 g c =
         finds.empty k v w c.requires.editor ch.0 ch.2 c.loop-place.place met (sym ch.1) u c.load_place_at-met.ensures.view g.C.Content.lawful g.C.Content.fits
             c.load_place_at-met.ensures.told c.load_place_at-met.ensures.met.0 c.if-met-eq0.true,
         chosen.empty (g.H.Chooser.keeps c.args.chooser.now) (g.C.Content.fits (next_log_of v)) k.sizes ch.0 c.loop-place.places ch.3,
+        asked.asks_none g.H.Chooser.moves c.args.chooser.now c.loop-place.chooser ch.0 ch.4,
       );
       same_leads = i.same_leads;
       same_keeps = i.same_keeps;
@@ -85,6 +88,7 @@ loop-place-preserved g c =
             (chosen.choice_as keeps keeps' (F (next_log_of v)) (F (next_log_of u)) r.words _ _ i.same_keeps
             (λ words h. subst (λ (log : List Entry). F log words) same h) r.chosen)
             more.rows_once,
+        asked.asks_row g.H.Chooser.moves c.args.chooser.now c.loop-place.chooser c.choose_row.new.chooser ch.0 f ch.4 r.asked,
       );
       same_leads = λ a b. (
         (λ h. (i.same_leads a b).0 ((c.choose_row.ensures.same_leads a b).0 h)),

@@ -3,6 +3,7 @@ use Rattle.pin_rule.specs.declared.content.Entry.{Entry}
 use Rattle.pin_rule.specs.declared.view.Making.{Making}
 use Rattle.pin_rule.specs.Hands.{view_of}
 use Rattle.version_store.specs.Stages.{next_log_of}
+use Rattle.version_store.proofs.AskedRows.{asks_rows}
 use Rattle.version_store.proofs.NextVersions as next
 use Rattle.version_store.proofs.next_version.make_next.Goals as goal
 
@@ -36,3 +37,8 @@ returns-clause-made g c =
     (view_of c.choose_rows.new.hand) (view_of c.write_page.new.hand) c.args.entry.now ch.0 c.choose_rows.new.places c.requires.editor long
     c.write_entry.ensures.wrote ch.2 ch.3 c.write_page.ensures.wrote ch.1 (view_of c.swap_current.new.self) c.swap_current.result c.swap_current.ensures.view
     c.swap_current.ensures.met
+
+pub returns-clause-asked : goal.returns-clause-asked
+returns-clause-asked g c = let ch = c.choose_rows.ensures.chosen in
+    asks_rows g.H.Chooser.moves c.args.chooser.now c.choose_rows.new.chooser c.args.current (view_of c.args.hand.now) (view_of c.write_entry.new.hand)
+    (view_of c.choose_rows.new.hand) c.args.entry.now ch.0 c.write_entry.ensures.wrote ch.2 ch.1 ch.4

@@ -3,6 +3,7 @@ use Rattle.pin_rule.specs.declared.sizes.Sizes.{Sizes}
 use Rattle.pin_rule.specs.declared.view.KnownPlace.{KnownPlace}
 use Rattle.pin_rule.specs.Hands.{view_of}
 use Rattle.pin_rule.specs.Lists.{In}
+use Rattle.version_store.specs.Asking.{AsksRows}
 use Rattle.version_store.specs.Means.{editor_of}
 use Rattle.version_store.specs.Graphs.{rows_known, IsWholeKnown}
 use Rattle.version_store.proofs.GivenUp.{alike_all}
@@ -65,3 +66,9 @@ returns-clause-made g c = let b = c.args.self.now in let e = b.editor in let k =
       kept = λ row i. rows.kept row (subst (λ (ks : List KnownPlace). In row (rows_known ks)) c.give_up.ensures.known i);
       every = λ row i keep. subst (λ (ks : List KnownPlace). In row (rows_known ks)) (sym c.give_up.ensures.known) (rows.every row i keep);
     }
+
+pub returns-clause-asked : goal.returns-clause-asked
+returns-clause-asked g c = let b = c.args.self.now in let e = b.editor in
+    let k = c.make_version-version.ensures.asked b.has_all (known_again e.sizes (view_of e.hand).known b.all_known) in
+    subst (AsksRows g.H.Chooser.moves c.args.chooser.now c.make_version-version.new.chooser (rows_known (view_of e.hand).known))
+    (ap (λ (z : Sizes). z.places) (sym e.measured)) k
