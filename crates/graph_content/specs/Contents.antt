@@ -1,5 +1,5 @@
 -- The logs and the rows of a table that keeps expansions: which logs are lawful, which rows fit one, and which an edit leaves.
-use Rattle.std.specs.Prelude.{◌≡◌, ℕ, List, [], ◌∷◌, ◌++◌, map}
+use Rattle.std.specs.Prelude.{◌≡◌, ◌↔◌, ℕ, Bool, IsTrue, List, [], ◌∷◌, ◌++◌, map}
 use Rattle.grammar_text.specs.declared.edit.Edit.{Edit}
 use Rattle.edit_entry.specs.Entries.{entry_of}
 use Rattle.edit_log.specs.declared.touch.Touch.{Touch}
@@ -7,11 +7,11 @@ use Rattle.edit_log.specs.History.{Grammar, grammar_of}
 use Rattle.edit_log.specs.Verdict.{IsAccepted, IsHistory}
 use Rattle.edit_log.specs.Touches.{IsTouchOf}
 use Rattle.pin_rule.specs.declared.content.Entry.{Entry}
-use Rattle.row_coding.specs.Rows.{Key}
+use Rattle.row_coding.specs.Rows.{Key, kind_of_key}
 use Rattle.graph_content.specs.Affected.{IsUnaffected}
 use Rattle.graph_content.specs.Changes.{IsChange}
 use Rattle.graph_content.specs.Rows.{IsRowOf, Fits}
-use Rattle.graph_content.specs.Modifications.{Modification}
+use Rattle.graph_content.specs.Modifications.{Modification, after_row}
 
 -- the log has an entry for each edit of the history, in order
 pub record IsLogOf (log : List Entry) (history : List Edit) : Type 0 where
@@ -55,3 +55,10 @@ LeadsByTouch m = LeadsByEdit m.grammar m.touch
 -- this row is kept
 abbrev pub KeepsRow : Modification → List ℕ → Type 0
 KeepsRow m = IsUntouched m.grammar m.touch
+
+-- the row, which is one of the grammar, was kept, or it was refused and counted with its kind
+pub record CountsRow (m : Modification) (row : List ℕ) (n : Modification) : Type 0 where
+  pub fits : Fits m.grammar row
+  pub kept : Bool
+  pub exact : IsTrue kept ↔ KeepsRow m row
+  pub counted : (key : Key) → IsRowOf m.grammar key row → n ≡ after_row m (kind_of_key key) kept

@@ -5,11 +5,13 @@ use crate::modify::Modify;
 use pin_rule::choosers::Chooser;
 
 impl Chooser<GraphRows> for Modify<'_> {
-    ghost use Rattle.graph_content.specs.Contents.{LeadsByTouch, KeepsRow};
+    ghost use Rattle.graph_content.specs.Contents.{LeadsByTouch, KeepsRow, CountsRow};
 
     ghost leads = { LeadsByTouch };
 
     ghost keeps = { KeepsRow };
+
+    ghost moves = { CountsRow };
 
     fn keep(&mut self, row: &[u64]) -> bool {
         self.keep(row)

@@ -21,3 +21,11 @@ pub returns-clause-same_keeps : goal.returns-clause-same_keeps
 returns-clause-same_keeps c =
     same_keeps c.args.self.now c.keep.new.self c.args.row.now c.keep.result
     (row_fits c.args.self.now c.args.row.now c.requires.0 c.requires.1 c.requires.2) c.keep.ensures.counted
+
+pub returns-clause-moves : goal.returns-clause-moves
+returns-clause-moves c = record {
+  fits = row_fits c.args.self.now c.args.row.now c.requires.0 c.requires.1 c.requires.2;
+  kept = c.keep.result;
+  exact = exact c.args.self.now c.args.row.now c.requires.0 c.requires.1 c.keep.result c.requires.2 c.keep.ensures.kept;
+  counted = c.keep.ensures.counted;
+}
