@@ -7,5 +7,6 @@ pub mod AskedKeys
 pub mod TextUses
 pub mod RowCounts
 pub mod RowsHeld
+pub mod DroppedRows
 pub mod KeysFollow
 pub mod RoomyLists

@@ -1,18 +1,23 @@
 -- What a command asks of the graph of the bench that serves it alone, and which rows it leaves there.
-use Rattle.std.specs.Prelude.{◌≡◌, ℕ, List}
+use Rattle.std.specs.Prelude.{◌≡◌, ℕ, List, Option, Some, None}
 use Rattle.grammar_text.specs.declared.edit.Edit.{Edit as AnEdit}
 use Rattle.forest.specs.Distinct.{AreAll}
-use Rattle.edit_log.specs.History.{Grammar}
+use Rattle.edit_log.specs.declared.refusal.Refusal.{Refusal}
+use Rattle.edit_log.specs.History.{Grammar, after_edit}
+use Rattle.edit_log.specs.Verdict.{verdict}
 use Rattle.script_text.specs.declared.command.Command.{Command}
 use Rattle.script_text.specs.declared.command.Command.TheVariants.{Edit, Parse, Tokens, Stats}
 use Rattle.pin_rule.specs.declared.sizes.Sizes.{Sizes}
+use Rattle.row_coding.specs.Rows.{kernel, scan}
+use Rattle.graph_content.specs.Affected.{IsUnaffected}
 use Rattle.live_graph.specs.declared.tally.Tallies.{Tallies}
+use Rattle.live_graph.specs.Growing.{HasRowOf}
 use Rattle.live_graph.specs.Tallying.{none_counted}
 use Rattle.replies.specs.declared.reply.Reply.{Reply}
 use Rattle.replies.specs.declared.reply.Reply.TheVariants.{Edited, Refused, Parse as Parsing, Tokens as Scanning, Held}
 use Rattle.sections.specs.declared.alone.AloneError.{AloneError}
 use Rattle.sections.specs.declared.alone.AloneError.TheVariants.{Spent, NoMemory}
-use Rattle.sections.specs.Held.{ScansKey, AsksFor, UsesKeys}
+use Rattle.sections.specs.Held.{ScansKey, AsksFor, IsCount, UsesKeys}
 use Rattle.sections.specs.Holding.{HoldsCounts, HasSameRows}
 use Rattle.sections.specs.Editing.{LeavesRows}
 
@@ -32,21 +37,21 @@ ParsesOver z grammar text (Parsing version outcome) tallies before after first l
 ParsesOver z grammar text (Scanning version result) tallies before after first last = ⊥
 ParsesOver z grammar text (Edited version) tallies before after first last = ⊥
 ParsesOver z grammar text (Refused why) tallies before after first last = ⊥
-ParsesOver z grammar text (Held items scan) tallies before after first last = ⊥
+ParsesOver z grammar text (Held items scan_keys) tallies before after first last = ⊥
 
 -- a text that is scanned asks for exactly the keys that its scan reaches
 abbrev pub ScansOver : Sizes → Grammar → List ℕ → Tallies → (before after : ℕ) → (first last : List (List ℕ)) → Type 0
 ScansOver z grammar text tallies before after first last = UsesKeys z grammar (AreAll (ScansKey grammar text)) tallies before after first last
 
 -- so many keys were held and were told, no row came or went, and no key was asked for
-pub record CountsRows (grammar : Grammar) (items scan : ℕ) (tallies : Tallies) (first last : List (List ℕ)) : Type 0 where
-  pub counts : HoldsCounts grammar first items scan
+pub record CountsRows (grammar : Grammar) (items scan_keys : ℕ) (tallies : Tallies) (first last : List (List ℕ)) : Type 0 where
+  pub counts : HoldsCounts grammar first items scan_keys
   pub stays : HasSameRows first last
   pub asks_none : tallies ≡ none_tallied
 
 -- the keys of the graph are counted; no other reply is told of that
 abbrev pub CountsOver : Grammar → Reply → Tallies → (first last : List (List ℕ)) → Type 0
-CountsOver grammar (Held items scan) tallies first last = CountsRows grammar items scan tallies first last
+CountsOver grammar (Held items scan_keys) tallies first last = CountsRows grammar items scan_keys tallies first last
 CountsOver grammar (Edited version) tallies first last = ⊥
 CountsOver grammar (Refused why) tallies first last = ⊥
 CountsOver grammar (Parsing version outcome) tallies first last = ⊥
@@ -59,13 +64,22 @@ SharesRows z grammar (Parse text) reply tallies before after first last = Parses
 SharesRows z grammar (Tokens text) reply tallies before after first last = ScansOver z grammar text tallies before after first last
 SharesRows z grammar Stats reply tallies before after first last = CountsOver grammar reply tallies first last × (after ≡ before)
 
--- but for an edit that was taken, no row was dropped
-abbrev pub DropsFor : Reply → ℕ × ℕ → Type 0
-DropsFor (Edited version) dropped = Unit {0}
-DropsFor (Refused why) dropped = dropped ≡ (0, 0)
-DropsFor (Parsing version outcome) dropped = dropped ≡ (0, 0)
-DropsFor (Scanning version result) dropped = dropped ≡ (0, 0)
-DropsFor (Held items scan) dropped = dropped ≡ (0, 0)
+-- so many keys of either kind lost their rows to the edit: those that the graph held and that the edit affects
+pub record DropsCounts (grammar : Grammar) (edit : AnEdit) (first : List (List ℕ)) (dropped : ℕ × ℕ) : Type 0 where
+  pub kernels : IsCount (λ key. HasRowOf grammar (kernel key) first × (¬ (IsUnaffected grammar (after_edit grammar edit) (kernel key)))) dropped.0
+  pub scans : IsCount (λ key. HasRowOf grammar (scan key) first × (¬ (IsUnaffected grammar (after_edit grammar edit) (scan key)))) dropped.1
+
+-- a refused edit drops none
+abbrev pub DropsBy : Option Refusal → Grammar → AnEdit → List (List ℕ) → ℕ × ℕ → Type 0
+DropsBy None grammar edit first dropped = DropsCounts grammar edit first dropped
+DropsBy (Some why) grammar edit first dropped = dropped ≡ (0, 0)
+
+-- but for an edit that is taken, no command drops a row
+abbrev pub DropsRows : Grammar → Command → List (List ℕ) → ℕ × ℕ → Type 0
+DropsRows grammar (Edit edit) first dropped = DropsBy (verdict grammar edit) grammar edit first dropped
+DropsRows grammar (Parse text) first dropped = dropped ≡ (0, 0)
+DropsRows grammar (Tokens text) first dropped = dropped ≡ (0, 0)
+DropsRows grammar Stats first dropped = dropped ≡ (0, 0)
 
 -- Where a command is not answered, the bench comes back as it was, unless memory ran out over a text. What is held is always told
 abbrev pub ComesBack : {Bench : Type 0} → Command → AloneError → (old new : Bench) → Type 0

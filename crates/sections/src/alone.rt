@@ -5,7 +5,7 @@ ghost use Rattle.script_text.specs.declared.command.Command.TheVariants.{Edit as
 ghost use Rattle.script_text.specs.declared.limits.TheConstants.{TEXT_LIMIT};
 ghost use Rattle.edit_log.specs.declared.limits.TheConstants.{LOG_LIMIT};
 ghost use Rattle.edit_log.specs.History.{Grammar};
-ghost use Rattle.edit_log.specs.Verdict.{IsProper};
+ghost use Rattle.edit_log.specs.Verdict.{IsProper, verdict};
 ghost use Rattle.graph_content.specs.Contents.{IsLogOfGrammar};
 ghost use Rattle.version_store.specs.Means.{bench_of};
 ghost use Rattle.replies.specs.Replies.{IsReply, grammar_after};
@@ -13,7 +13,7 @@ ghost use Rattle.replies.specs.Blocks.{IsProperCommand};
 ghost use Rattle.sections.specs.Commands.{pins_for};
 ghost use Rattle.sections.specs.Alone.{ServesNext, IsSpent};
 ghost use Rattle.sections.specs.Held.{AddsRowsOf};
-ghost use Rattle.sections.specs.Laziness.{none_tallied, EditsRows, ParsesOver, ScansOver, CountsOver, SharesRows, DropsFor, ComesBack};
+ghost use Rattle.sections.specs.Laziness.{none_tallied, EditsRows, ParsesOver, ScansOver, CountsOver, SharesRows, DropsBy, DropsRows, ComesBack};
 
 use crate::crew::Crew;
 use crate::editing::edit_bench;
@@ -38,8 +38,7 @@ pub struct Alone {
     pub reply: Reply,
     /// How the expansions came that the command asked for.
     pub tallies: Tallies,
-    /// How many rows of item sets and of scanner states the command dropped. An edit's counts are those of its chooser, and
-    /// no clause ties them to the rows that went.
+    /// How many rows of item sets and of scanner states the command dropped: those of the keys that an edit affects.
     pub dropped: (u32, u32),
 }
 
@@ -86,7 +85,7 @@ fn edit_alone(
     ensures back { IfErr result (λ refused. ServesNext (bench_of bench) (bench_of refused.0) crew.new) }
     ensures pins { IfOk result (λ alone. (bench_of alone.bench).pins_left ≡ (bench_of bench).pins_left) }
     ensures edits { IfOk result (λ alone. EditsRows crew.old edit.now alone.tallies (bench_of bench).graph (bench_of alone.bench).graph) }
-    ensures drops { IfOk result (λ alone. DropsFor alone.reply alone.dropped) }
+    ensures drops { IfOk result (λ alone. DropsBy (verdict crew.old edit.now) crew.old edit.now (bench_of bench).graph alone.dropped) }
     ensures untouched { IfErr result (λ refused. refused.0 ≡ bench) }
     ensures not_spent { IfErr result (λ refused. refused.1 ≡ AloneError.NoMemory) }
 {
@@ -119,7 +118,7 @@ fn parse_alone<L: Ledger>(
     ensures pins { IfOk result (λ alone. (bench_of alone.bench).pins_left + 1 ≡ (bench_of bench).pins_left) }
     ensures parses { IfOk result (λ alone. ParsesOver (bench_of bench).sizes crew.old text.now alone.reply alone.tallies steps.old steps.new
         (bench_of bench).graph (bench_of alone.bench).graph) }
-    ensures drops { IfOk result (λ alone. DropsFor alone.reply alone.dropped) }
+    ensures drops { IfOk result (λ alone. alone.dropped ≡ (0, 0)) }
     ensures untouched { IfErr result (λ refused. refused.1 ≡ AloneError.Spent → refused.0 ≡ bench) }
     ensures rows { IfErr result (λ refused. AddsRowsOf crew.old (bench_of bench).graph (bench_of refused.0).graph) }
     ensures spent { IsSpent result ↔ ((bench_of bench).pins_left ≡ 0) }
@@ -166,7 +165,7 @@ fn scan_alone<L: Ledger>(
     ensures pins { IfOk result (λ alone. (bench_of alone.bench).pins_left + 1 ≡ (bench_of bench).pins_left) }
     ensures scans { IfOk result (λ alone. ScansOver (bench_of bench).sizes crew.old text.now alone.tallies steps.old steps.new
         (bench_of bench).graph (bench_of alone.bench).graph) }
-    ensures drops { IfOk result (λ alone. DropsFor alone.reply alone.dropped) }
+    ensures drops { IfOk result (λ alone. alone.dropped ≡ (0, 0)) }
     ensures untouched { IfErr result (λ refused. refused.1 ≡ AloneError.Spent → refused.0 ≡ bench) }
     ensures rows { IfErr result (λ refused. AddsRowsOf crew.old (bench_of bench).graph (bench_of refused.0).graph) }
     ensures spent { IsSpent result ↔ ((bench_of bench).pins_left ≡ 0) }
@@ -197,7 +196,7 @@ fn count_alone(bench: Bench<GraphRows>) -> Alone
     ensures pins { (bench_of result.bench).pins_left ≡ (bench_of bench).pins_left }
     ensures counts { (grammar : Grammar) → IsLogOfGrammar (bench_of bench).log grammar
         → CountsOver grammar result.reply result.tallies (bench_of bench).graph (bench_of result.bench).graph }
-    ensures drops { DropsFor result.reply result.dropped }
+    ensures drops { result.dropped ≡ (0, 0) }
 {
     let mut bench = bench;
     let (items, scan) = count_held(&mut bench);
@@ -233,7 +232,7 @@ pub fn run_alone<L: Ledger>(
     ensures pins { IfOk result (λ alone. (bench_of alone.bench).pins_left + pins_for command.now ≡ (bench_of bench).pins_left) }
     ensures shares { IfOk result (λ alone. SharesRows (bench_of bench).sizes crew.old command.now alone.reply alone.tallies steps.old steps.new
         (bench_of bench).graph (bench_of alone.bench).graph) }
-    ensures drops { IfOk result (λ alone. DropsFor alone.reply alone.dropped) }
+    ensures drops { IfOk result (λ alone. DropsRows crew.old command.now (bench_of bench).graph alone.dropped) }
     ensures untouched { IfErr result (λ refused. ComesBack command.now refused.1 bench refused.0) }
     ensures rows { IfErr result (λ refused. AddsRowsOf crew.old (bench_of bench).graph (bench_of refused.0).graph) }
     ensures spent { IsSpent result ↔ ((bench_of bench).pins_left < pins_for command.now) }

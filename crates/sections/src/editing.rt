@@ -3,13 +3,13 @@
 ghost use Rattle.std.specs.Prelude.{◌≡◌, IfOk, OnOk, OnErr};
 ghost use Rattle.script_text.specs.declared.command.Command.TheVariants.{Edit as an_edit};
 ghost use Rattle.edit_log.specs.declared.limits.TheConstants.{LOG_LIMIT};
-ghost use Rattle.edit_log.specs.Verdict.{IsProper};
+ghost use Rattle.edit_log.specs.Verdict.{IsProper, verdict};
 ghost use Rattle.graph_content.specs.Contents.{IsLogOfGrammar};
 ghost use Rattle.version_store.specs.Means.{bench_of};
 ghost use Rattle.replies.specs.Replies.{IsReply, grammar_after};
 ghost use Rattle.sections.specs.Editing.{LeavesRows};
 ghost use Rattle.sections.specs.Alone.{ServesNext};
-ghost use Rattle.sections.specs.Laziness.{DropsFor};
+ghost use Rattle.sections.specs.Laziness.{DropsBy};
 
 use edit_log::{Grammar, Refusal, may};
 use grammar_text::Edit;
@@ -35,7 +35,7 @@ pub(crate) fn edit_bench(
     ensures serves { ServesNext (bench_of bench.old) (bench_of bench.new) grammar.new.grammar }
     ensures pins { (bench_of bench.new).pins_left ≡ (bench_of bench.old).pins_left }
     ensures kept { OnOk result (LeavesRows grammar.old.grammar edit.now (bench_of bench.old).graph (bench_of bench.new).graph) }
-    ensures drops { IfOk result (λ done. DropsFor done.0 done.1) }
+    ensures drops { IfOk result (λ done. DropsBy (verdict grammar.old.grammar edit.now) grammar.old.grammar edit.now (bench_of bench.old).graph done.1) }
     ensures bench_stays { OnErr result (bench.new ≡ bench.old) }
     ensures grammar_stays { OnErr result (grammar.new.grammar ≡ grammar.old.grammar) }
 {

@@ -1,4 +1,4 @@
-use Rattle.std.proofs.Common.{◌≡◌, ◌+◌, ◌∙◌, Some, inl, inr, refl, ap, sym, subst, rules}
+use Rattle.std.proofs.Common.{◌≡◌, ◌+◌, ◌∙◌, Some, inl, inr, refl, ap, sym, subst, arith, rules}
 use Rattle.edit_log.specs.History.{after_edit}
 use Rattle.edit_log.specs.Touches.{IsTouchOf}
 use Rattle.edit_log.specs.Verdict.{verdict}
@@ -9,6 +9,8 @@ use Rattle.version_store.specs.Means.{bench_of}
 use Rattle.replies.specs.declared.reply.Reply.TheVariants.{Edited}
 use Rattle.replies.specs.Replies.{IsReply, taken, refused}
 use Rattle.replies.proofs.ReplySteps.{refused_stays}
+use Rattle.sections.specs.Laziness.{DropsCounts}
+use Rattle.sections.proofs.DroppedRows.{drops_counts, drops_taken, drops_refused}
 use Rattle.sections.proofs.EditedLogs.{room_by_verdict, version_by_log, lawful_longer, log_longer, edited_log, edited_version}
 use Rattle.sections.proofs.EditedRows.{rows_refused, rows_taken}
 use Rattle.sections.proofs.editing.edit_bench.Goals as goal
@@ -31,6 +33,10 @@ returns-in-Err-clause-next c = refused_stays c.args.grammar.now.grammar c.args.e
 pub returns-in-Err-clause-kept : goal.returns-in-Err-clause-kept
 returns-in-Err-clause-kept c =
     rows_refused c.args.grammar.now.grammar c.args.edit.now c.in-Err.refusal (bench_of c.args.bench.now).graph (bench_of c.args.bench.now).graph (said c) refl
+
+pub returns-in-Err-clause-drops : goal.returns-in-Err-clause-drops
+returns-in-Err-clause-drops c =
+    drops_refused c.args.grammar.now.grammar c.args.edit.now c.in-Err.refusal (bench_of c.args.bench.now).graph (0, 0) (said c) refl
 
 -- ---- an edit that is taken
 
@@ -82,3 +88,20 @@ returns-clause-kept c =
     let same = ap (λ (m : Modification). m.grammar) c.new-modify.ensures ∙ c.in_ok-ready.ensures.history in
     rows_taken c.args.grammar.now.grammar edit c.new-modify.result (bench_of c.args.bench.now).graph (bench_of c.edit_alone-made.new.self).graph
     c.in-Ok.ensures.taken.taken same touches made.kept made.every
+
+pub returns-clause-drops : goal.returns-clause-drops
+returns-clause-drops c =
+    let edit = c.args.edit.now in
+    let grammar = c.args.grammar.now.grammar in
+    let m = c.new-modify.result in
+    let is = c.new-modify.ensures in
+    let ready = c.in_ok-ready.ensures.ready edit c.in-Ok.ensures.entry c.in-Ok.ensures.taken in
+    let same : m.grammar ≡ grammar = ap (λ (k : Modification). k.grammar) is ∙ c.in_ok-ready.ensures.history in
+    let touches : IsTouchOf m.grammar edit m.touch =
+    subst (λ (k : Modification). IsTouchOf k.grammar edit k.touch) (sym is) (c.touch.ensures c.prepare.new.self edit ready) in
+    let few = (bench_of c.args.bench.now).sizes.places_in in
+    let counts = drops_counts (bench_of c.args.bench.now).log grammar c.requires.log edit c.in-Ok.ensures.taken (bench_of c.args.bench.now).graph m
+    c.edit_alone-made.new.chooser (bench_of c.args.bench.now).sizes.places same (subst (λ g. IsTouchOf g edit m.touch) same touches)
+    (ap (λ (k : Modification). k.items) is) (ap (λ (k : Modification). k.scan) is) c.in-Ok-made.ensures.asked (omega (arith, few.1)) in
+    drops_taken grammar edit (bench_of c.args.bench.now).graph c.dropped-dropped.result c.in-Ok.ensures.taken.taken
+    (subst (DropsCounts grammar edit (bench_of c.args.bench.now).graph) (sym c.dropped-dropped.ensures) counts)
