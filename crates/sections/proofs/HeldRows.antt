@@ -18,12 +18,15 @@ use Rattle.graph_content.proofs.RowKeys.{one_key_of}
 use Rattle.live_graph.specs.Growing.{HasRowOf}
 use Rattle.live_graph.proofs.RowsOfKeys.{key_fits}
 use Rattle.version_store.specs.Meaning.{BenchMeaning}
+use Rattle.slot_store.specs.Quiet.{IsQuiet}
 use Rattle.version_store.specs.BenchRows.{LoadsPlace, TellsRow}
+use Rattle.version_store.specs.Edits.{place_loads}
 use Rattle.version_store.specs.Placed.{IsByPlaces, ReadsAt}
 use Rattle.version_store.specs.Rows.{Found}
 use Rattle.sections.specs.Held.{IsCount}
 use Rattle.sections.specs.Holding.{HoldsCounts}
 use Rattle.sections.specs.CountedPlaces.{IsSameBench, IsOfKind, MeetsKind, ReadsKind, counted_with}
+use Rattle.sections.proofs.AddedSteps.{place_quiet, adds_none, adds_join}
 
 -- ---- the keys of one kind
 
@@ -175,6 +178,7 @@ stays_same m n place x loads = record {
   table = loads.table;
   pins_left = loads.pins_left;
   rows = record { kept = loads.kept; every = loads.every };
+  steps = (place_loads m.sizes loads.page place x, loads.steps, place_quiet m.sizes loads.page place x);
 }
 
 module _ (m n : BenchMeaning) (Stood Stands : ℕ → List ℕ → Type 0) (place : ℕ) where
@@ -201,7 +205,14 @@ few_more (Some Items) held place few = omega (arith, few)
 few_more (Some Scan) held place few = omega (arith, few)
 
 pub same_bench : (m : BenchMeaning) → IsSameBench m m
-same_bench m = record { sizes = refl; log = refl; table = refl; pins_left = refl; rows = record { kept = λ row i. i; every = λ row i. i } }
+same_bench m = record {
+  sizes = refl;
+  log = refl;
+  table = refl;
+  pins_left = refl;
+  rows = record { kept = λ row i. i; every = λ row i. i };
+  steps = adds_none IsQuiet m.steps m.steps refl;
+}
 
 same_on : (first old new : BenchMeaning) → IsSameBench first old → IsSameBench old new → IsSameBench first new
 same_on first old new a b = record {
@@ -210,6 +221,7 @@ same_on first old new a b = record {
   table = b.table ∙ a.table;
   pins_left = b.pins_left ∙ a.pins_left;
   rows = record { kept = λ row i. a.rows.kept row (b.rows.kept row i); every = λ row i. b.rows.every row (a.rows.every row i) };
+  steps = adds_join IsQuiet first.steps old.steps new.steps a.steps b.steps;
 }
 
 pub starts : (first : BenchMeaning) (Stood : ℕ → List ℕ → Type 0) → CountsTo first first Stood Stood 0 (0, 0)

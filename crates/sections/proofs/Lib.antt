@@ -1,10 +1,12 @@
 pub mod EditedLogs
 pub mod EditedRows
+pub mod AddedSteps
 pub mod HeldRows
 pub mod OriginCounts
 pub mod UsedGraphs
 pub mod AskedKeys
 pub mod TextUses
+pub mod ShownTexts
 pub mod RowCounts
 pub mod RowsHeld
 pub mod DroppedRows

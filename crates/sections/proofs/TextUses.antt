@@ -19,7 +19,7 @@ use Rattle.sections.proofs.UsedGraphs.{asked_keys, used, rows_added}
 use Rattle.sections.proofs.AskedKeys.{exactly, asks_for}
 
 -- a graph over the page that was not asked for anything
-abbrev fresh : Grammar → PageMeaning → Shared
+abbrev pub fresh : Grammar → PageMeaning → Shared
 fresh grammar page = record { grammar = grammar; basis = page; page = page; scans = []; kernels = [] }
 
 module _ (grammar : Grammar) (page next : PageMeaning) (first graph : Shared) (tallies : Tallies) (is_log : IsLogOfGrammar page.log grammar)

@@ -77,7 +77,7 @@ asked_once kernels scans kernels_once scans_once =
 -- ---- the keys of one kind
 
 -- a key that was asked for has an origin
-origin_of : {K : Type 0} (kept : List (K × Origin)) (key : K) → Contains (keys_in kept) key → (origin : Origin) × Contains kept (key, origin)
+pub origin_of : {K : Type 0} (kept : List (K × Origin)) (key : K) → Contains (keys_in kept) key → (origin : Origin) × Contains kept (key, origin)
 origin_of {K} kept key there =
     let from = contains_map_from (λ (one : K × Origin). one.0) kept key there in
     (from.from.1, subst (λ k. Contains kept (k, from.from.1)) from.is from.there)

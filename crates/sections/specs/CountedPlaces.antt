@@ -1,21 +1,25 @@
 -- How the rows of a bench's page are counted, place by place.
 use Rattle.std.specs.Prelude.{◌≡◌, ◌↔◌, ℕ, ◌+◌, List, Option, Some, None}
 use Rattle.pin_rule.specs.declared.content.Entry.{Entry}
+use Rattle.pin_rule.specs.Lists.{Each}
 use Rattle.row_coding.specs.declared.kinds.Kind.{Kind}
 use Rattle.row_coding.specs.declared.kinds.Kind.TheVariants.{Items, Scan}
 use Rattle.row_coding.specs.Rows.{Key, kind_of_key, row_words}
 use Rattle.graph_content.specs.Contents.{FitsLog}
+use Rattle.slot_store.specs.Quiet.{IsQuiet}
 use Rattle.version_store.specs.Meaning.{BenchMeaning}
 use Rattle.version_store.specs.Placed.{IsByPlaces}
 use Rattle.sections.specs.Holding.{HasSameRows}
+use Rattle.sections.specs.Recording.{AddsSteps}
 
--- the bench is as it was in all but its steps
+-- the bench is as it was in all but its steps, to which quiet ones were added
 pub record IsSameBench (m n : BenchMeaning) : Type 0 where
   pub sizes : n.sizes ≡ m.sizes
   pub log : n.log ≡ m.log
   pub table : n.table ≡ m.table
   pub pins_left : n.pins_left ≡ m.pins_left
   pub rows : HasSameRows m.graph n.graph
+  pub steps : AddsSteps m n (Each IsQuiet)
 
 -- a row that fits the log, with the kind of its key
 pub record IsOfKind (log : List Entry) (row : List ℕ) (kind : Kind) : Type 0 where

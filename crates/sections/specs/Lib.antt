@@ -1,6 +1,7 @@
 pub mod Commands
 pub mod Held
 pub mod Holding
+pub mod Recording
 pub mod CountedPlaces
 pub mod Asked
 pub mod Editing

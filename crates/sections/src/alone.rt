@@ -7,13 +7,16 @@ ghost use Rattle.edit_log.specs.declared.limits.TheConstants.{LOG_LIMIT};
 ghost use Rattle.edit_log.specs.History.{Grammar};
 ghost use Rattle.edit_log.specs.Verdict.{IsProper, verdict};
 ghost use Rattle.graph_content.specs.Contents.{IsLogOfGrammar};
+ghost use Rattle.pin_rule.specs.Lists.{Each};
+ghost use Rattle.slot_store.specs.Quiet.{IsQuiet};
 ghost use Rattle.version_store.specs.Means.{bench_of};
 ghost use Rattle.replies.specs.Replies.{IsReply, grammar_after};
 ghost use Rattle.replies.specs.Blocks.{IsProperCommand};
 ghost use Rattle.sections.specs.Commands.{pins_for};
 ghost use Rattle.sections.specs.Alone.{ServesNext, IsSpent};
-ghost use Rattle.sections.specs.Held.{AddsRowsOf};
 ghost use Rattle.sections.specs.Laziness.{none_tallied, EditsRows, ParsesOver, ScansOver, CountsOver, SharesRows, DropsBy, DropsRows, ComesBack};
+ghost use Rattle.sections.specs.Held.{ScansKey, AddsRowsOf};
+ghost use Rattle.sections.specs.Recording.{AddsSteps, RecordsText, RecordsEdit, RecordsParse, RecordsCommand};
 
 use crate::crew::Crew;
 use crate::editing::edit_bench;
@@ -86,6 +89,7 @@ fn edit_alone(
     ensures pins { IfOk result (λ alone. (bench_of alone.bench).pins_left ≡ (bench_of bench).pins_left) }
     ensures edits { IfOk result (λ alone. EditsRows crew.old edit.now alone.tallies (bench_of bench).graph (bench_of alone.bench).graph) }
     ensures drops { IfOk result (λ alone. DropsBy (verdict crew.old edit.now) crew.old edit.now (bench_of bench).graph alone.dropped) }
+    ensures records { IfOk result (λ alone. AddsSteps (bench_of bench) (bench_of alone.bench) (RecordsEdit alone.reply)) }
     ensures untouched { IfErr result (λ refused. refused.0 ≡ bench) }
     ensures not_spent { IfErr result (λ refused. refused.1 ≡ AloneError.NoMemory) }
 {
@@ -119,6 +123,8 @@ fn parse_alone<L: Ledger>(
     ensures parses { IfOk result (λ alone. ParsesOver (bench_of bench).sizes crew.old text.now alone.reply alone.tallies steps.old steps.new
         (bench_of bench).graph (bench_of alone.bench).graph) }
     ensures drops { IfOk result (λ alone. alone.dropped ≡ (0, 0)) }
+    ensures records { IfOk result (λ alone. AddsSteps (bench_of bench) (bench_of alone.bench)
+        (RecordsParse (bench_of bench).sizes (bench_of bench).log crew.old text.now alone.reply)) }
     ensures untouched { IfErr result (λ refused. refused.1 ≡ AloneError.Spent → refused.0 ≡ bench) }
     ensures rows { IfErr result (λ refused. AddsRowsOf crew.old (bench_of bench).graph (bench_of refused.0).graph) }
     ensures spent { IsSpent result ↔ ((bench_of bench).pins_left ≡ 0) }
@@ -166,6 +172,8 @@ fn scan_alone<L: Ledger>(
     ensures scans { IfOk result (λ alone. ScansOver (bench_of bench).sizes crew.old text.now alone.tallies steps.old steps.new
         (bench_of bench).graph (bench_of alone.bench).graph) }
     ensures drops { IfOk result (λ alone. alone.dropped ≡ (0, 0)) }
+    ensures records { IfOk result (λ alone. AddsSteps (bench_of bench) (bench_of alone.bench)
+        (RecordsText (bench_of bench).sizes (bench_of bench).log crew.old (ScansKey crew.old text.now))) }
     ensures untouched { IfErr result (λ refused. refused.1 ≡ AloneError.Spent → refused.0 ≡ bench) }
     ensures rows { IfErr result (λ refused. AddsRowsOf crew.old (bench_of bench).graph (bench_of refused.0).graph) }
     ensures spent { IsSpent result ↔ ((bench_of bench).pins_left ≡ 0) }
@@ -197,6 +205,7 @@ fn count_alone(bench: Bench<GraphRows>) -> Alone
     ensures counts { (grammar : Grammar) → IsLogOfGrammar (bench_of bench).log grammar
         → CountsOver grammar result.reply result.tallies (bench_of bench).graph (bench_of result.bench).graph }
     ensures drops { result.dropped ≡ (0, 0) }
+    ensures records { AddsSteps (bench_of bench) (bench_of result.bench) (Each IsQuiet) }
 {
     let mut bench = bench;
     let (items, scan) = count_held(&mut bench);
@@ -233,6 +242,8 @@ pub fn run_alone<L: Ledger>(
     ensures shares { IfOk result (λ alone. SharesRows (bench_of bench).sizes crew.old command.now alone.reply alone.tallies steps.old steps.new
         (bench_of bench).graph (bench_of alone.bench).graph) }
     ensures drops { IfOk result (λ alone. DropsRows crew.old command.now (bench_of bench).graph alone.dropped) }
+    ensures records { IfOk result (λ alone. AddsSteps (bench_of bench) (bench_of alone.bench)
+        (RecordsCommand (bench_of bench).sizes (bench_of bench).log crew.old command.now alone.reply)) }
     ensures untouched { IfErr result (λ refused. ComesBack command.now refused.1 bench refused.0) }
     ensures rows { IfErr result (λ refused. AddsRowsOf crew.old (bench_of bench).graph (bench_of refused.0).graph) }
     ensures spent { IsSpent result ↔ ((bench_of bench).pins_left < pins_for command.now) }

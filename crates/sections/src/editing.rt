@@ -10,6 +10,7 @@ ghost use Rattle.replies.specs.Replies.{IsReply, grammar_after};
 ghost use Rattle.sections.specs.Editing.{LeavesRows};
 ghost use Rattle.sections.specs.Alone.{ServesNext};
 ghost use Rattle.sections.specs.Laziness.{DropsBy};
+ghost use Rattle.sections.specs.Recording.{AddsSteps, RecordsEdit};
 
 use edit_log::{Grammar, Refusal, may};
 use grammar_text::Edit;
@@ -36,6 +37,7 @@ pub(crate) fn edit_bench(
     ensures pins { (bench_of bench.new).pins_left ≡ (bench_of bench.old).pins_left }
     ensures kept { OnOk result (LeavesRows grammar.old.grammar edit.now (bench_of bench.old).graph (bench_of bench.new).graph) }
     ensures drops { IfOk result (λ done. DropsBy (verdict grammar.old.grammar edit.now) grammar.old.grammar edit.now (bench_of bench.old).graph done.1) }
+    ensures records { IfOk result (λ done. AddsSteps (bench_of bench.old) (bench_of bench.new) (RecordsEdit done.0)) }
     ensures bench_stays { OnErr result (bench.new ≡ bench.old) }
     ensures grammar_stays { OnErr result (grammar.new.grammar ≡ grammar.old.grammar) }
 {

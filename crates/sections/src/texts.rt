@@ -13,6 +13,7 @@ ghost use Rattle.live_graph.specs.Cost.{RisesAsCost};
 ghost use Rattle.rekers.specs.Answers.{kinds_of};
 ghost use Rattle.sections.specs.Asked.{AsksAll, AsksText, AsksTokens};
 ghost use Rattle.sections.specs.Held.{ScansKey, AsksFor, UsesKeys, AddsRowsOf};
+ghost use Rattle.sections.specs.Recording.{ShowsText, shown_for};
 ghost use Rattle.replies.specs.Replies.{IsParse, IsOutcome, IsResult};
 
 use edit_log::Grammar;
@@ -112,7 +113,8 @@ pub(crate) fn parse_text<P: Page<GraphRows>, L: Ledger>(
     ensures outcome { IfOk result (λ done. IsOutcome grammar.now.grammar text.now done.1) }
     ensures uses { IfOk result (λ done. WhereBothTold (P.means page).graph (P.means done.0).graph
         (UsesKeys (P.means page).sizes grammar.now.grammar (AsksFor grammar.now.grammar text.now done.1) done.2 steps.old steps.new)) }
-    ensures page { IfOk result (λ done. HasStepped (P.means page) (P.means done.0)) }
+    ensures shown { IfOk result (λ done. ShowsText (P.means page) (P.means done.0) grammar.now.grammar
+        (shown_for grammar.now.grammar text.now done.1)) }
     ensures refused { IfErr result (λ refused. HasStepped (P.means page) (P.means refused.0)) }
     ensures rows { IfErr result (λ refused. WhereBothTold (P.means page).graph (P.means refused.0).graph (AddsRowsOf grammar.now.grammar)) }
 {
@@ -142,7 +144,7 @@ pub(crate) fn scan_text<P: Page<GraphRows>, L: Ledger>(
     ensures scanned { IfOk result (λ done. IsResult grammar.now.grammar text.now done.1) }
     ensures uses { IfOk result (λ done. WhereBothTold (P.means page).graph (P.means done.0).graph
         (UsesKeys (P.means page).sizes grammar.now.grammar (AreAll (ScansKey grammar.now.grammar text.now)) done.2 steps.old steps.new)) }
-    ensures page { IfOk result (λ done. HasStepped (P.means page) (P.means done.0)) }
+    ensures shown { IfOk result (λ done. ShowsText (P.means page) (P.means done.0) grammar.now.grammar (ScansKey grammar.now.grammar text.now)) }
     ensures refused { IfErr result (λ refused. HasStepped (P.means page) (P.means refused.0)) }
     ensures rows { IfErr result (λ refused. WhereBothTold (P.means page).graph (P.means refused.0).graph (AddsRowsOf grammar.now.grammar)) }
 {

@@ -1,4 +1,4 @@
-use Rattle.std.proofs.Common.{◌≡◌, ◌+◌, ◌∙◌, Some, inl, inr, refl, ap, sym, subst, arith, rules}
+use Rattle.std.proofs.Common.{◌≡◌, ◌+◌, ◌∙◌, Some, inl, inr, [], refl, ap, sym, subst, append-nil, arith, rules}
 use Rattle.edit_log.specs.History.{after_edit}
 use Rattle.edit_log.specs.Touches.{IsTouchOf}
 use Rattle.edit_log.specs.Verdict.{verdict}
@@ -13,6 +13,7 @@ use Rattle.sections.specs.Laziness.{DropsCounts}
 use Rattle.sections.proofs.DroppedRows.{drops_counts, drops_taken, drops_refused}
 use Rattle.sections.proofs.EditedLogs.{room_by_verdict, version_by_log, lawful_longer, log_longer, edited_log, edited_version}
 use Rattle.sections.proofs.EditedRows.{rows_refused, rows_taken}
+use Rattle.sections.proofs.AddedSteps.{edit_adds}
 use Rattle.sections.proofs.editing.edit_bench.Goals as goal
 
 -- ---- a refused edit
@@ -37,6 +38,9 @@ returns-in-Err-clause-kept c =
 pub returns-in-Err-clause-drops : goal.returns-in-Err-clause-drops
 returns-in-Err-clause-drops c =
     drops_refused c.args.grammar.now.grammar c.args.edit.now c.in-Err.refusal (bench_of c.args.bench.now).graph (0, 0) (said c) refl
+
+pub returns-in-Err-clause-records : goal.returns-in-Err-clause-records
+returns-in-Err-clause-records c = ([], sym (append-nil (bench_of c.args.bench.now).steps), refl)
 
 -- ---- an edit that is taken
 
@@ -105,3 +109,7 @@ returns-clause-drops c =
     (ap (λ (k : Modification). k.items) is) (ap (λ (k : Modification). k.scan) is) c.in-Ok-made.ensures.asked (omega (arith, few.1)) in
     drops_taken grammar edit (bench_of c.args.bench.now).graph c.dropped-dropped.result c.in-Ok.ensures.taken.taken
     (subst (DropsCounts grammar edit (bench_of c.args.bench.now).graph) (sym c.dropped-dropped.ensures) counts)
+
+pub returns-clause-records : goal.returns-clause-records
+returns-clause-records c =
+    edit_adds (KeepsRow c.new-modify.result) c.in-Ok.entry.words (bench_of c.args.bench.now) (bench_of c.edit_alone-made.new.self) c.in-Ok-made.ensures.made
