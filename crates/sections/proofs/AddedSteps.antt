@@ -1,5 +1,5 @@
 -- Steps that were added one behind the other, of kinds that are told.
-use Rattle.std.proofs.Common.{◌≡◌, ℕ, zero, suc, List, inl, inr, [], ◌∷◌, ◌++◌, Option, Some, None, append_assoc, refl, sym, ap, ◌∙◌, append-nil}
+use Rattle.std.proofs.Common.{◌≡◌, ℕ, zero, suc, List, inl, inr, [], ◌∷◌, ◌++◌, Option, Some, None, append_assoc, sym, ap, ◌∙◌, append-nil}
 use Rattle.std.specs.Prelude.{Bool, true, false, cond}
 use Rattle.pin_rule.specs.declared.sizes.Sizes.{Sizes}
 use Rattle.pin_rule.specs.declared.view.Step.{Step}
@@ -8,7 +8,7 @@ use Rattle.pin_rule.specs.Steps.{freed_row}
 use Rattle.pin_rule.proofs.Lists.{each_append}
 use Rattle.slot_store.specs.Quiet.{IsQuiet}
 use Rattle.version_store.specs.Alone.{EditsAlone}
-use Rattle.version_store.specs.Edits.{entry_stores, row_loads, place_loads, page_loads, page_stores, edit_steps, MakesVersion}
+use Rattle.version_store.specs.Edits.{entry_stores, row_loads, place_loads, page_loads, page_stores, edit_steps}
 use Rattle.version_store.specs.GivingUp.{place_frees, page_frees, GivesUpOldest, KeepsOldest, GivesUp, Stops}
 use Rattle.version_store.specs.Meaning.{BenchMeaning, EditorMeaning}
 use Rattle.version_store.specs.Rows.{Found}

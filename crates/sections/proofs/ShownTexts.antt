@@ -1,7 +1,6 @@
 -- What the steps of a text show of the keys that it reaches.
 use Rattle.std.proofs.Common.{◌≡◌, inr, ℕ, List, [], ◌∷◌, ◌++◌, append_assoc, refl, sym, ap, ◌∙◌, subst}
 use Rattle.edit_log.specs.History.{Grammar}
-use Rattle.pin_rule.specs.declared.sizes.Sizes.{Sizes}
 use Rattle.pin_rule.specs.declared.view.Step.{Step}
 use Rattle.pin_rule.specs.Steps.{pinned, unpinned}
 use Rattle.pin_rule.specs.Layout.{page_named}
