@@ -188,8 +188,9 @@ fn scan_alone<L: Ledger>(
         Ok(done) => done,
         Err((page, _)) => return Err((page.unpin(), AloneError::NoMemory)),
     };
+    let bench = page.unpin();
     Ok(Alone {
-        bench: page.unpin(),
+        bench,
         reply: Reply::Tokens { version, result },
         tallies,
         dropped: (0, 0),

@@ -20,7 +20,7 @@ returns-clause-records g c =
     let by_bytes : ShowsText page next c.crew.inside.grammar.grammar (ScansKey c.crew.inside.grammar.grammar c.args.text.now) =
     subst (λ text. ShowsText page next c.crew.inside.grammar.grammar (ScansKey c.crew.inside.grammar.grammar text)) c.bytes.ensures
     c.in-Ok-scanned.ensures.shown in
-    text_records (bench_of c.args.bench) (bench_of c.unpin-2.result) page next c.args.crew.now (ScansKey c.args.crew.now c.args.text.now)
+    text_records (bench_of c.args.bench) (bench_of c.unpin-bench.result) page next c.args.crew.now (ScansKey c.args.crew.now c.args.text.now)
     c.in-Ok.ensures.pins
     (subst (λ (grammar : Grammar). ShowsText page next grammar (ScansKey grammar c.args.text.now)) c.crew.view_is by_bytes)
-    c.unpin-2.ensures
+    c.unpin-bench.ensures
