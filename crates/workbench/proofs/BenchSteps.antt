@@ -1,6 +1,6 @@
 -- What the blocks make of a bench, one after the other.
 use Rattle.std.proofs.Common.{◌≡◌, ℕ, ◌+◌, ◌≤◌, ◌<◌, List, [], ◌∷◌, ◌++◌, length, take, Option, Some, None, refl, ap, sym, ◌∙◌, subst, arith}
-use Rattle.std.proofs.Common.{length-take}
+use Rattle.std.proofs.Common.{append_assoc, append-nil, length-take}
 use Rattle.bench_io.specs.Known.{Takes}
 use Rattle.edit_log.specs.declared.limits.TheConstants.{LOG_LIMIT}
 use Rattle.edit_log.specs.History.{Grammar, empty_grammar}
@@ -11,6 +11,7 @@ use Rattle.script_text.specs.declared.command.Block.TheVariants.{Alone, Par}
 use Rattle.script_text.specs.declared.limits.TheConstants.{COMMAND_LIMIT}
 use Rattle.pin_rule.specs.declared.limits.TheConstants.{MOST_PINS}
 use Rattle.pin_rule.specs.declared.content.Entry.{Entry}
+use Rattle.pin_rule.specs.declared.view.Step.{Step}
 use Rattle.pin_rule.specs.declared.sizes.Sizes.{Sizes}
 use Rattle.pin_rule.specs.Layout.{full_sizes}
 use Rattle.version_store.specs.declared.bench.Bench.{Bench}
@@ -20,7 +21,9 @@ use Rattle.graph_content.specs.Contents.{IsLogOfGrammar}
 use Rattle.replies.specs.Replies.{grammar_after}
 use Rattle.replies.specs.Blocks.{grammar_behind, grammar_after_all}
 use Rattle.sections.specs.Commands.{pins_for}
-use Rattle.workbench.specs.Benches.{AnswersBlock, pins_for_all, IsBenchBehind}
+use Rattle.sections.specs.Recording.{RecordsCommand}
+use Rattle.workbench.specs.Benches.{AnswersCommand, AnswersBlock, pins_for_all, IsBenchBehind}
+use Rattle.workbench.specs.Recorded.{RecordsFor, AreRecorded, none_recorded, more_recorded}
 use Rattle.workbench.specs.Pieces.{TakesPrefix}
 use Rattle.workbench.specs.Runs.{AnswersAll, WritesAll, StopsInReplies}
 use Rattle.workbench.specs.Serving.{HasBench, bench_in}
@@ -39,6 +42,7 @@ bench_none bench is =
       log = subst (λ (log : List Entry). IsLogOfGrammar log empty_grammar) (sym is.log) log_none;
       sizes = is.sizes;
       pins = omega (arith, pins);
+      records = subst (AreRecorded full_sizes empty_grammar []) (sym is.steps) none_recorded;
     }
 
 -- ---- a block more
@@ -47,6 +51,28 @@ pins_push : (blocks : List Block) (command : Command) → pins_for_all (blocks +
 pins_push [] command = omega arith
 pins_push (Alone one ∷ blocks) command = omega (arith, pins_push blocks command)
 pins_push (Par commands ∷ blocks) command = pins_push blocks command
+
+recorded_push : (z : Sizes) (grammar : Grammar) (blocks : List Block) (command : Command) (steps added : List Step) → AreRecorded z grammar blocks steps
+    → RecordsFor z (grammar_after_all grammar blocks) command added → AreRecorded z grammar (blocks ++ Alone command ∷ []) (steps ++ added)
+recorded_push z grammar [] command _ added none_recorded last =
+    subst (AreRecorded z grammar (Alone command ∷ [])) (append-nil added) (more_recorded last none_recorded)
+recorded_push z grammar (Par commands ∷ blocks) command steps added records last = elim records [ ]
+recorded_push z grammar (Alone one ∷ blocks) command _ added (more_recorded {added = its} {steps = rest} by others) last =
+    subst (AreRecorded z grammar (Alone one ∷ (blocks ++ Alone command ∷ []))) (sym (append_assoc its rest added))
+    (more_recorded by (recorded_push z (grammar_after grammar one) blocks command rest added others last))
+
+records_more : (blocks : List Block) (command : Command) (grammar : Grammar) (old new : BenchMeaning) (out appended : List ℕ) → IsBenchBehind blocks old
+    → grammar ≡ grammar_after_all empty_grammar blocks → AnswersCommand grammar command old new out appended
+    → AreRecorded full_sizes empty_grammar (blocks ++ Alone command ∷ []) new.steps
+records_more blocks command grammar old new out appended behind same answers =
+    let (added, is, records) = answers.records in
+    let sized : RecordsCommand full_sizes old.log grammar command answers.reply added =
+    subst (λ (z : Sizes). RecordsCommand z old.log grammar command answers.reply added) behind.sizes records in
+    let last : RecordsFor full_sizes grammar command added =
+    record { reply = answers.reply; is = answers.is; log = old.log; log_is = subst (IsLogOfGrammar old.log) (sym same) behind.log; records = sized } in
+    subst (AreRecorded full_sizes empty_grammar (blocks ++ Alone command ∷ [])) (sym is)
+    (recorded_push full_sizes empty_grammar blocks command old.steps added behind.records
+    (subst (λ (g : Grammar). RecordsFor full_sizes g command added) same last))
 
 pub bench_more : (blocks : List Block) (block : Block) (grammar : Grammar) (old new : BenchMeaning) (out appended : List ℕ) → IsBenchBehind blocks old
     → grammar ≡ grammar_after_all empty_grammar blocks → AnswersBlock grammar block old new out appended → IsBenchBehind (blocks ++ block ∷ []) new
@@ -61,6 +87,7 @@ bench_more blocks (Alone command) grammar old new out appended behind same answe
       log = subst (IsLogOfGrammar new.log) (sym (grammar_after_all-push empty_grammar blocks (Alone command))) log;
       sizes = answers.sizes ∙ behind.sizes;
       pins = omega (arith, before, taken, pushed);
+      records = records_more blocks command grammar old new out appended behind same answers;
     }
 
 -- ---- what the bench has for the next block

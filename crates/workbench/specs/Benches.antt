@@ -19,6 +19,8 @@ use Rattle.replies.specs.Replies.{IsReply, grammar_after}
 use Rattle.replies.specs.Blocks.{grammar_after_all}
 use Rattle.sections.specs.Commands.{pins_for}
 use Rattle.sections.specs.Laziness.{SharesRows}
+use Rattle.sections.specs.Recording.{AddsSteps, RecordsCommand}
+use Rattle.workbench.specs.Recorded.{AreRecorded}
 
 -- ---- one command
 
@@ -30,7 +32,7 @@ pub record LeavesGraph (z : Sizes) (grammar : Grammar) (command : Command) (repl
   pub shares : SharesRows z grammar command reply tallies before after first last
 
 -- The command was answered under the grammar that those before it made: the lines of its reply were appended, and the bench serves the next one. Its log is
--- that of the next grammar, and it lacks the pins that the command took.
+-- that of the next grammar, it lacks the pins that the command took, and the command's steps were added.
 pub record AnswersCommand (grammar : Grammar) (command : Command) (old new : BenchMeaning) (out_old out_new : List ℕ) : Type 0 where
   pub reply : Reply
   pub is : IsReply grammar command reply
@@ -39,6 +41,7 @@ pub record AnswersCommand (grammar : Grammar) (command : Command) (old new : Ben
   pub sizes : new.sizes ≡ old.sizes
   pub pins : new.pins_left + pins_for command ≡ old.pins_left
   pub graph : LeavesGraph old.sizes grammar command reply old.graph new.graph
+  pub records : AddsSteps old new (RecordsCommand old.sizes old.log grammar command reply)
 
 abbrev pub AnswersBlock : Grammar → Block → (old new : BenchMeaning) → (out_old out_new : List ℕ) → Type 0
 AnswersBlock grammar (Alone command) old new out_old out_new = AnswersCommand grammar command old new out_old out_new
@@ -64,12 +67,13 @@ pins_for_all [] = 0
 pins_for_all (Alone command ∷ blocks) = pins_for command + pins_for_all blocks
 pins_for_all (Par commands ∷ blocks) = pins_for_all blocks
 
--- The bench of the largest sizes that was new before the first block, and has served all of them: its log is that of the grammar behind them, and it lacks a
--- pin for each text.
+-- The bench of the largest sizes that was new before the first block, and has served all of them: its log is that of the grammar behind them, it lacks a pin
+-- for each text, and its steps are theirs.
 pub record IsBenchBehind (blocks : List Block) (bench : BenchMeaning) : Type 0 where
   pub log : IsLogOfGrammar bench.log (grammar_after_all empty_grammar blocks)
   pub sizes : bench.sizes ≡ full_sizes
   pub pins : bench.pins_left + pins_for_all blocks ≡ MOST_PINS
+  pub records : AreRecorded full_sizes empty_grammar blocks bench.steps
 
 -- these are the lines of the replies to the blocks, which ran over this new bench
 pub record AnswersOver (blocks : List Block) (bench : BenchMeaning) (lines : List ℕ) : Type 0 where

@@ -1,5 +1,6 @@
 pub mod Pieces
 pub mod Serving
+pub mod Recorded
 pub mod Benches
 pub mod Output
 pub mod Runs

@@ -34,4 +34,5 @@ returns-clause-answers g c =
       sizes = c.in-Ok.ensures.serves.sizes;
       pins = c.in-Ok.ensures.pins;
       graph = record { tallies = c.in-Ok.alone.tallies; before = _; after = _; shares = c.in-Ok.ensures.shares };
+      records = c.in-Ok.ensures.records;
     }
