@@ -10,8 +10,6 @@ use Rattle.edit_log.specs.declared.touch.Touch.{Touch}
 use Rattle.edit_log.specs.History.{Grammar, after_edit}
 use Rattle.edit_log.specs.Touches.{IsTouchOf}
 use Rattle.edit_log.specs.Verdict.{IsAccepted, verdict}
-use Rattle.item_sets.specs.declared.item.Item.{Item}
-use Rattle.isg_states.specs.declared.scan_key.ScanKey.{ScanKey}
 use Rattle.pin_rule.specs.declared.content.Entry.{Entry}
 use Rattle.pin_rule.specs.Lists.{In}
 use Rattle.row_coding.specs.Rows.{Key, kernel, scan, kind_of_key}
@@ -26,6 +24,7 @@ use Rattle.live_graph.specs.Growing.{HasRowOf}
 use Rattle.version_store.specs.Asking.{AsksEach, AsksRows}
 use Rattle.sections.specs.Held.{IsCount}
 use Rattle.sections.specs.Laziness.{DropsCounts, DropsBy}
+use Rattle.sections.proofs.HeldRows.{one_kernel, one_scan}
 use Rattle.sections.proofs.RowsHeld.{one_row, one_key_for}
 
 -- ---- the keys of one kind
@@ -98,12 +97,6 @@ abbrev with_row : Key → Bool → ℕ × ℕ → ℕ × ℕ
 with_row key true counts = counts
 with_row (kernel items) false counts = (suc counts.0, counts.1)
 with_row (scan key) false counts = (counts.0, suc counts.1)
-
-one_kernel : (a b : List Item) → kernel a ≡ kernel b → a ≡ b
-one_kernel a b e = cc e
-
-one_scan : (a b : ScanKey) → scan a ≡ scan b → a ≡ b
-one_scan a b e = cc e
 
 module _ (log : List Entry) (grammar : Grammar) (is_log : IsLogOfGrammar log grammar) (Kept : List ℕ → Type 0) (row : List ℕ) (rows : List (List ℕ))
     (counts : ℕ × ℕ) (so_far : CountsBoth grammar Kept rows counts) (new : In row rows → ⊥) where

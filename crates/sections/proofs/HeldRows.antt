@@ -116,10 +116,10 @@ pub record CountsKinds (grammar : Grammar) (Stands : ℕ → List ℕ → Type 0
   pub kernels : CountsFirst grammar Stands kernel places held.0
   pub scans : CountsFirst grammar Stands scan places held.1
 
-one_kernel : (a b : List Item) → kernel a ≡ kernel b → a ≡ b
+pub one_kernel : (a b : List Item) → kernel a ≡ kernel b → a ≡ b
 one_kernel a b e = cc e
 
-one_scan : (a b : ScanKey) → scan a ≡ scan b → a ≡ b
+pub one_scan : (a b : ScanKey) → scan a ≡ scan b → a ≡ b
 one_scan a b e = cc e
 
 module _ (log : List Entry) (grammar : Grammar) (is_log : IsLogOfGrammar log grammar) (Stands : ℕ → List ℕ → Type 0) (places : ℕ) (graph : List (List ℕ))
