@@ -1,4 +1,5 @@
 pub mod Lines
+pub mod TallyLines
 pub mod Replies
 pub mod Known
 pub mod Blocks

@@ -10,9 +10,11 @@ mod laws;
 mod reply;
 mod reply_lines;
 mod script_lines;
+mod tally_lines;
 mod text_lines;
 
 pub use laws::one_reply;
 pub use reply::{Outcome, Reply, TokenList};
 pub use reply_lines::put_reply;
 pub use script_lines::put_bad_script;
+pub use tally_lines::put_laziness;
