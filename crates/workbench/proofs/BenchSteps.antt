@@ -1,5 +1,5 @@
 -- What the blocks make of a bench, one after the other.
-use Rattle.std.proofs.Common.{◌≡◌, ℕ, ◌+◌, ◌≤◌, ◌<◌, List, [], ◌∷◌, ◌++◌, length, take, Option, Some, None, refl, ap, sym, ◌∙◌, subst, arith}
+use Rattle.std.proofs.Common.{◌≡◌, ℕ, ◌+◌, ◌≤◌, ◌<◌, Bool, List, [], ◌∷◌, ◌++◌, length, take, Option, Some, None, refl, ap, sym, ◌∙◌, subst, arith}
 use Rattle.std.proofs.Common.{append_assoc, append-nil, length-take}
 use Rattle.bench_io.specs.Known.{Takes}
 use Rattle.edit_log.specs.declared.limits.TheConstants.{LOG_LIMIT}
@@ -61,10 +61,10 @@ recorded_push z grammar (Alone one ∷ blocks) command _ added (more_recorded {a
     subst (AreRecorded z grammar (Alone one ∷ (blocks ++ Alone command ∷ []))) (sym (append_assoc its rest added))
     (more_recorded by (recorded_push z (grammar_after grammar one) blocks command rest added others last))
 
-records_more : (blocks : List Block) (command : Command) (grammar : Grammar) (old new : BenchMeaning) (out appended : List ℕ) → IsBenchBehind blocks old
-    → grammar ≡ grammar_after_all empty_grammar blocks → AnswersCommand grammar command old new out appended
+records_more : (stats : Bool) (blocks : List Block) (command : Command) (grammar : Grammar) (old new : BenchMeaning) (out appended : List ℕ) → IsBenchBehind blocks old
+    → grammar ≡ grammar_after_all empty_grammar blocks → AnswersCommand stats grammar command old new out appended
     → AreRecorded full_sizes empty_grammar (blocks ++ Alone command ∷ []) new.steps
-records_more blocks command grammar old new out appended behind same answers =
+records_more stats blocks command grammar old new out appended behind same answers =
     let (added, is, records) = answers.records in
     let sized : RecordsCommand full_sizes old.log grammar command answers.reply added =
     subst (λ (z : Sizes). RecordsCommand z old.log grammar command answers.reply added) behind.sizes records in
@@ -74,10 +74,11 @@ records_more blocks command grammar old new out appended behind same answers =
     (recorded_push full_sizes empty_grammar blocks command old.steps added behind.records
     (subst (λ (g : Grammar). RecordsFor full_sizes g command added) same last))
 
-pub bench_more : (blocks : List Block) (block : Block) (grammar : Grammar) (old new : BenchMeaning) (out appended : List ℕ) → IsBenchBehind blocks old
-    → grammar ≡ grammar_after_all empty_grammar blocks → AnswersBlock grammar block old new out appended → IsBenchBehind (blocks ++ block ∷ []) new
-bench_more blocks (Par commands) grammar old new out appended behind same answers = absurd answers
-bench_more blocks (Alone command) grammar old new out appended behind same answers =
+pub bench_more : (stats : Bool) (blocks : List Block) (block : Block) (grammar : Grammar) (old new : BenchMeaning) (out appended : List ℕ)
+    → IsBenchBehind blocks old
+    → grammar ≡ grammar_after_all empty_grammar blocks → AnswersBlock stats grammar block old new out appended → IsBenchBehind (blocks ++ block ∷ []) new
+bench_more stats blocks (Par commands) grammar old new out appended behind same answers = absurd answers
+bench_more stats blocks (Alone command) grammar old new out appended behind same answers =
     let log : IsLogOfGrammar new.log (grammar_after (grammar_after_all empty_grammar blocks) command) =
     subst (λ g. IsLogOfGrammar new.log (grammar_after g command)) same answers.log in
     let before = behind.pins in
@@ -87,7 +88,7 @@ bench_more blocks (Alone command) grammar old new out appended behind same answe
       log = subst (IsLogOfGrammar new.log) (sym (grammar_after_all-push empty_grammar blocks (Alone command))) log;
       sizes = answers.sizes ∙ behind.sizes;
       pins = omega (arith, before, taken, pushed);
-      records = records_more blocks command grammar old new out appended behind same answers;
+      records = records_more stats blocks command grammar old new out appended behind same answers;
     }
 
 -- ---- what the bench has for the next block
@@ -127,8 +128,8 @@ not_spent command left some less = omega (arith, pins_one command, some, less)
 -- ---- what serves the blocks
 
 -- the blocks are answered, and the bench is the one behind them
-pub record IsServed (old new : Option (List ℕ)) (first : List Block) (grammar : Grammar) (out : List ℕ) (bench : BenchMeaning) : Type 0 where
-  pub answered : IsAnswered old new first grammar bench.graph out
+pub record IsServed (stats : Bool) (old new : Option (List ℕ)) (first : List Block) (grammar : Grammar) (out : List ℕ) (bench : BenchMeaning) : Type 0 where
+  pub answered : IsAnswered stats old new first grammar bench.graph out
   pub behind : IsBenchBehind first bench
 
 -- what follows for a bench follows for the one that is there
@@ -141,70 +142,75 @@ from_bench : (P : BenchMeaning → Type 0) {Q : Type 0} (bench : Option BenchMea
 from_bench P None each there = absurd there
 from_bench P (Some b) each there = each b there
 
-pub served_none : (taken : Option (List ℕ)) (grammar : Grammar) (bench : Option BenchMeaning) → grammar ≡ empty_grammar → HasBench bench (IsNewBench full_sizes)
-    → HasBench bench (IsServed taken taken [] grammar [])
-served_none taken grammar bench same = has (IsNewBench full_sizes) (IsServed taken taken [] grammar []) bench
-    (λ b is. record { answered = answered_none taken grammar b.graph same is.graph; behind = bench_none b is })
+pub served_none : (stats : Bool) (taken : Option (List ℕ)) (grammar : Grammar) (bench : Option BenchMeaning) → grammar ≡ empty_grammar
+    → HasBench bench (IsNewBench full_sizes)
+    → HasBench bench (IsServed stats taken taken [] grammar [])
+served_none stats taken grammar bench same = has (IsNewBench full_sizes) (IsServed stats taken taken [] grammar []) bench
+    (λ b is. record { answered = answered_none stats taken grammar b.graph same is.graph; behind = bench_none b is })
 
-pub served_more : (old new : Option (List ℕ)) (first : List Block) (block : Block) (grammar next : Grammar) (before after : Option BenchMeaning)
-    (out appended : List ℕ) → HasBench before (IsServed old new first grammar out)
-    → HasBench before (λ b. HasBench after (λ a. AnswersBlock grammar block b a out appended)) → next ≡ grammar_behind grammar block
-    → HasBench after (IsServed old new (first ++ block ∷ []) next appended)
-served_more old new first block grammar next None after out appended served answers is = absurd served
-served_more old new first block grammar next (Some b) None out appended served answers is = absurd answers
-served_more old new first block grammar next (Some b) (Some a) out appended served answers is = record {
-  answered = answered_more old new first block grammar next b a out appended served.answered served.behind.sizes answers is;
-  behind = bench_more first block grammar b a out appended served.behind served.answered.same answers;
+pub served_more : (stats : Bool) (old new : Option (List ℕ)) (first : List Block) (block : Block) (grammar next : Grammar) (before after : Option BenchMeaning)
+    (out appended : List ℕ) → HasBench before (IsServed stats old new first grammar out)
+    → HasBench before (λ b. HasBench after (λ a. AnswersBlock stats grammar block b a out appended)) → next ≡ grammar_behind grammar block
+    → HasBench after (IsServed stats old new (first ++ block ∷ []) next appended)
+served_more stats old new first block grammar next None after out appended served answers is = absurd served
+served_more stats old new first block grammar next (Some b) None out appended served answers is = absurd answers
+served_more stats old new first block grammar next (Some b) (Some a) out appended served answers is = record {
+  answered = answered_more stats old new first block grammar next b a out appended served.answered served.behind.sizes answers is;
+  behind = bench_more stats first block grammar b a out appended served.behind served.answered.same answers;
 }
 
-pub served_flushed : (old between new : Option (List ℕ)) (first : List Block) (grammar : Grammar) (bench : Option BenchMeaning) (out gone left : List ℕ)
-    → HasBench bench (IsServed old between first grammar out) → Takes between new gone → out ≡ gone ++ left
-    → HasBench bench (IsServed old new first grammar left)
-served_flushed old between new first grammar bench out gone left served takes parts =
-    has (IsServed old between first grammar out) (IsServed old new first grammar left) bench
+pub served_flushed : (stats : Bool) (old between new : Option (List ℕ)) (first : List Block) (grammar : Grammar) (bench : Option BenchMeaning)
+    (out gone left : List ℕ)
+    → HasBench bench (IsServed stats old between first grammar out) → Takes between new gone → out ≡ gone ++ left
+    → HasBench bench (IsServed stats old new first grammar left)
+served_flushed stats old between new first grammar bench out gone left served takes parts =
+    has (IsServed stats old between first grammar out) (IsServed stats old new first grammar left) bench
     (λ b so_far. record {
-      answered = answered_flushed old between new first grammar b.graph out gone left so_far.answered takes parts;
+      answered = answered_flushed stats old between new first grammar b.graph out gone left so_far.answered takes parts;
       behind = so_far.behind;
     }) served
 
-pub served_stop : (old new : Option (List ℕ)) (blocks : List Block) (i : ℕ) (grammar : Grammar) (bench : Option BenchMeaning) (out : List ℕ)
-    → HasBench bench (IsServed old new (take i blocks) grammar out) → StopsInReplies old new blocks
-served_stop old new blocks i grammar bench out =
-    from_bench (IsServed old new (take i blocks) grammar out) bench (λ b so_far. answered_stop old new blocks i grammar b.graph out so_far.answered)
+pub served_stop : (stats : Bool) (old new : Option (List ℕ)) (blocks : List Block) (i : ℕ) (grammar : Grammar) (bench : Option BenchMeaning) (out : List ℕ)
+    → HasBench bench (IsServed stats old new (take i blocks) grammar out) → StopsInReplies stats old new blocks
+served_stop stats old new blocks i grammar bench out =
+    from_bench (IsServed stats old new (take i blocks) grammar out) bench (λ b so_far. answered_stop stats old new blocks i grammar b.graph out so_far.answered)
 
-pub served_refused : (old between new : Option (List ℕ)) (blocks first others : List Block) (grammar : Grammar) (bench : Option BenchMeaning) (out : List ℕ)
-    → blocks ≡ first ++ others → HasBench bench (IsServed old between first grammar out) → TakesPrefix between new out → StopsInReplies old new blocks
-served_refused old between new blocks first others grammar bench out parts served prefix =
-    from_bench (IsServed old between first grammar out) bench
-    (λ b so_far. answered_refused old between new blocks first others grammar b.graph out parts so_far.answered prefix) served
+pub served_refused : (stats : Bool) (old between new : Option (List ℕ)) (blocks first others : List Block) (grammar : Grammar) (bench : Option BenchMeaning)
+    (out : List ℕ)
+    → blocks ≡ first ++ others → HasBench bench (IsServed stats old between first grammar out) → TakesPrefix between new out
+    → StopsInReplies stats old new blocks
+served_refused stats old between new blocks first others grammar bench out parts served prefix =
+    from_bench (IsServed stats old between first grammar out) bench
+    (λ b so_far. answered_refused stats old between new blocks first others grammar b.graph out parts so_far.answered prefix) served
 
-pub served_whole : (old between new : Option (List ℕ)) (blocks : List Block) (i : ℕ) (grammar : Grammar) (bench : Option BenchMeaning) (out : List ℕ)
-    → length blocks ≤ i → HasBench bench (IsServed old between (take i blocks) grammar out) → Takes between new out
-    → HasBench bench (AnswersAll old new blocks)
-served_whole old between new blocks i grammar bench out all served takes =
-    has (IsServed old between (take i blocks) grammar out) (AnswersAll old new blocks) bench
-    (λ b so_far. answered_whole old between new blocks i grammar b out all so_far.answered so_far.behind takes) served
+pub served_whole : (stats : Bool) (old between new : Option (List ℕ)) (blocks : List Block) (i : ℕ) (grammar : Grammar) (bench : Option BenchMeaning)
+    (out : List ℕ)
+    → length blocks ≤ i → HasBench bench (IsServed stats old between (take i blocks) grammar out) → Takes between new out
+    → HasBench bench (AnswersAll stats old new blocks)
+served_whole stats old between new blocks i grammar bench out all served takes =
+    has (IsServed stats old between (take i blocks) grammar out) (AnswersAll stats old new blocks) bench
+    (λ b so_far. answered_whole stats old between new blocks i grammar b out all so_far.answered so_far.behind takes) served
 
 -- all blocks were answered over the bench that is handed back
-pub written_all : {C : Type 0} (old new : Option (List ℕ)) (blocks : List Block) (bench : Option (Bench C)) (meant : Option BenchMeaning)
-    → bench_in bench ≡ meant → HasBench meant (AnswersAll old new blocks) → WritesAll old new blocks bench
-written_all old new blocks None meant is all = absurd (subst (λ m. HasBench m (AnswersAll old new blocks)) (sym is) all)
-written_all old new blocks (Some bench) meant is all =
-    let whole : AnswersAll old new blocks (bench_of bench) = subst (λ m. HasBench m (AnswersAll old new blocks)) (sym is) all in
+pub written_all : (stats : Bool) {C : Type 0} (old new : Option (List ℕ)) (blocks : List Block) (bench : Option (Bench C)) (meant : Option BenchMeaning)
+    → bench_in bench ≡ meant → HasBench meant (AnswersAll stats old new blocks) → WritesAll stats old new blocks bench
+written_all stats old new blocks None meant is all = absurd (subst (λ m. HasBench m (AnswersAll stats old new blocks)) (sym is) all)
+written_all stats old new blocks (Some bench) meant is all =
+    let whole : AnswersAll stats old new blocks (bench_of bench) = subst (λ m. HasBench m (AnswersAll stats old new blocks)) (sym is) all in
     record { output = whole.output; over = whole.over; taken = whole.taken }
 
 -- ---- what the next block asks for
 
-module _ (old new : Option (List ℕ)) (blocks : List Block) (i : ℕ) (grammar : Grammar) (bench : Option BenchMeaning) (out : List ℕ)
-    (served : HasBench bench (IsServed old new (take i blocks) grammar out)) where
+module _ (stats : Bool) (old new : Option (List ℕ)) (blocks : List Block) (i : ℕ) (grammar : Grammar) (bench : Option BenchMeaning) (out : List ℕ)
+    (served : HasBench bench (IsServed stats old new (take i blocks) grammar out)) where
   pub served_log : HasBench bench (λ b. IsLogOfGrammar b.log grammar)
-  served_log = has (IsServed old new (take i blocks) grammar out) (λ b. IsLogOfGrammar b.log grammar) bench
+  served_log = has (IsServed stats old new (take i blocks) grammar out) (λ b. IsLogOfGrammar b.log grammar) bench
       (λ b so_far. log_for (take i blocks) b grammar so_far.behind so_far.answered.same) served
 
   pub served_full : HasBench bench (λ b. b.sizes.log ≡ LOG_LIMIT)
-  served_full = has (IsServed old new (take i blocks) grammar out) (λ b. b.sizes.log ≡ LOG_LIMIT) bench
+  served_full = has (IsServed stats old new (take i blocks) grammar out) (λ b. b.sizes.log ≡ LOG_LIMIT) bench
       (λ b so_far. log_is_full (take i blocks) b so_far.behind) served
 
   pub served_pins : i < length blocks → length blocks ≤ COMMAND_LIMIT → HasBench bench (λ b. 0 < b.pins_left)
-  served_pins less few = has (IsServed old new (take i blocks) grammar out) (λ b. 0 < b.pins_left) bench
+  served_pins less few = has (IsServed stats old new (take i blocks) grammar out) (λ b. 0 < b.pins_left) bench
       (λ b so_far. pins_there blocks i b less few so_far.behind) served

@@ -5,3 +5,4 @@ pub mod OneOutput
 pub mod RunEnds
 pub mod RunCauses
 pub mod RoomyRuns
+pub mod KnownWords

@@ -1,5 +1,5 @@
 -- Where there is room for all keys, the graph behind a run is what its commands reached.
-use Rattle.std.proofs.Common.{◌↔◌, ℕ, List, [], ◌∷◌}
+use Rattle.std.proofs.Common.{◌↔◌, ℕ, Bool, List, [], ◌∷◌}
 use Rattle.std.specs.List.{AllByRecursion}
 use Rattle.edit_log.specs.History.{Grammar, empty_grammar}
 use Rattle.script_text.specs.declared.command.Block.{Block}
@@ -16,13 +16,14 @@ use Rattle.workbench.specs.Benches.{AreAnswers, none, more, no_key}
 use Rattle.workbench.proofs.BenchSteps.{log_none}
 
 -- the lines aside, answers one after the other are graphs one after the other
-shared_by : (z : Sizes) (grammar : Grammar) (blocks : List Block) (first last : List (List ℕ)) (lines : List ℕ) → AreAnswers z grammar blocks first last lines
+shared_by : (stats : Bool) (z : Sizes) (grammar : Grammar) (blocks : List Block) (first last : List (List ℕ)) (lines : List ℕ)
+    → AreAnswers stats z grammar blocks first last lines
     → AreShared z grammar blocks first last
-shared_by z grammar [] _ _ _ none = none_shared
-shared_by z grammar (Par commands ∷ blocks) first last lines answers = elim answers [ ]
-shared_by z grammar (Alone command ∷ blocks) first last _ (more {reply = reply} {next = next} {lines = rest} is graph others) =
+shared_by stats z grammar [] _ _ _ none = none_shared
+shared_by stats z grammar (Par commands ∷ blocks) first last lines answers = elim answers [ ]
+shared_by stats z grammar (Alone command ∷ blocks) first last _ (more {reply = reply} {next = next} {lines = rest} is graph others) =
     more_shared (record { reply = reply; is = is; tallies = graph.tallies; before = graph.before; after = graph.after; shares = graph.shares })
-    (shared_by z (grammar_after grammar command) blocks next last rest others)
+    (shared_by stats z (grammar_after grammar command) blocks next last rest others)
 
 all_fit_at_first : AllFit empty_grammar []
 all_fit_at_first = λ row there. absurd there
@@ -30,9 +31,9 @@ all_fit_at_first = λ row there. absurd there
 none_held : (key : Key) → held_in empty_grammar [] key ↔ no_key key
 none_held key = (λ held. absurd held.1, λ never. absurd never)
 
-pub graph_of_roomy : (blocks : List Block) (last : List (List ℕ)) (lines : List ℕ) → AllByRecursion IsProperBlock blocks
-    → AreAnswers full_sizes empty_grammar blocks [] last lines → IsRoomy full_sizes empty_grammar blocks no_key → (key : Key)
+pub graph_of_roomy : (stats : Bool) (blocks : List Block) (last : List (List ℕ)) (lines : List ℕ) → AllByRecursion IsProperBlock blocks
+    → AreAnswers stats full_sizes empty_grammar blocks [] last lines → IsRoomy full_sizes empty_grammar blocks no_key → (key : Key)
     → held_in (grammar_after_all empty_grammar blocks) last key ↔ held_after full_sizes empty_grammar blocks no_key key
-graph_of_roomy blocks last lines proper answers roomy key =
+graph_of_roomy stats blocks last lines proper answers roomy key =
     held_last full_sizes [] empty_grammar blocks [] last no_key log_none proper all_fit_at_first none_held roomy
-    (shared_by full_sizes empty_grammar blocks [] last lines answers) key
+    (shared_by stats full_sizes empty_grammar blocks [] last lines answers) key

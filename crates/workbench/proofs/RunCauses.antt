@@ -1,5 +1,6 @@
 -- Where the bytes are told, how a run ends tells what was read and written.
-use Rattle.std.proofs.Common.{◌≡◌, ◌⊎◌, inl, inr, ℕ, ◌<◌, List, [], ◌++◌, length, take, Option, Some, None, codes, decimal, refl, ap, sym, ◌∙◌, subst, arith}
+use Rattle.std.proofs.Common.{◌≡◌, Bool, ◌⊎◌, inl, inr, ℕ, ◌<◌, List, [], ◌++◌, length, take, Option, Some, None, codes, decimal, refl, ap, sym, ◌∙◌}
+use Rattle.std.proofs.Common.{subst, arith}
 use Rattle.std.proofs.Common.{length-append, length-take}
 use Rattle.std.specs.Io.KnownBytes.{append_known}
 use Rattle.bench_io.specs.Known.{Takes, IsKnownAs}
@@ -53,10 +54,11 @@ silent_not_bad left left_new taken told runs =
     omega (arith, line_has_bytes runs.bad, amount)
 
 -- a sink that took a prefix of the output, where the line is not whole, did not take the line
-stopped_not_bad : (taken taken_new : Option (List ℕ)) (script : List ℕ) (line : ABadScript) → TellsBytes taken → StopsInOutput taken taken_new script
+stopped_not_bad : (stats : Bool) (taken taken_new : Option (List ℕ)) (script : List ℕ) (line : ABadScript) → TellsBytes taken
+    → StopsInOutput stats taken taken_new script
     → IsFirstBad script line → Takes taken taken_new (bad_line line) → ⊥
-stopped_not_bad taken taken_new script line told (of_replies read spelled first) is takes = not_both script read line spelled is
-stopped_not_bad taken taken_new script line told (of_refusal other first part) is takes =
+stopped_not_bad stats taken taken_new script line told (of_replies read spelled first) is takes = not_both script read line spelled is
+stopped_not_bad stats taken taken_new script line told (of_refusal other first part) is takes =
     let amount = one_amount taken taken_new (take part.0 (bad_line other)) (bad_line line) told part.2 takes in
     let same : length (bad_line other) ≡ length (bad_line line) = ap (λ bad. length (bad_line bad)) (one_bad script other line first is) in
     let less = part.1 in
@@ -67,28 +69,29 @@ stopped_not_bad taken taken_new script line told (of_refusal other first part) i
 told_one : (told : Option (List ℕ)) (a b : List ℕ) → TellsBytes told → IsKnownAs told a → IsKnownAs told b → a ≡ b
 told_one told a b is first second = sym (subst (λ known. IsKnownAs known a) is.1 first) ∙ subst (λ known. IsKnownAs known b) is.1 second
 
-ends_bad : (taken taken_new : Option (List ℕ)) (script : List ℕ) (line : ABadScript) (end : Status) → IsLate end
+ends_bad : (stats : Bool) (taken taken_new : Option (List ℕ)) (script : List ℕ) (line : ABadScript) (end : Status) → IsLate end
     → (end ≡ Done → (read : Script) × SpellsScript script read)
-    → (end ≡ WriteFault → StopsInOutput taken taken_new script) → (end ≡ NoMemory → (taken_new ≡ taken) ⊎ StopsInOutput taken taken_new script)
+    → (end ≡ WriteFault → StopsInOutput stats taken taken_new script) → (end ≡ NoMemory → (taken_new ≡ taken) ⊎ StopsInOutput stats taken taken_new script)
     → TellsBytes taken → IsFirstBad script line → Takes taken taken_new (bad_line line) → end ≡ BadScript
-ends_bad taken taken_new script line Done late done stopped no_memory told is takes = let read = done refl in absurd (not_both script read.0 line read.1 is)
-ends_bad taken taken_new script line BadWords late done stopped no_memory told is takes = absurd late
-ends_bad taken taken_new script line ReadFault late done stopped no_memory told is takes = absurd late
-ends_bad taken taken_new script line WriteFault late done stopped no_memory told is takes =
-    absurd (stopped_not_bad taken taken_new script line told (stopped refl) is takes)
-ends_bad taken taken_new script line NoMemory late done stopped no_memory told is takes = elim (no_memory refl) [
+ends_bad stats taken taken_new script line Done late done stopped no_memory told is takes = let read = done refl in absurd
+    (not_both script read.0 line read.1 is)
+ends_bad stats taken taken_new script line BadWords late done stopped no_memory told is takes = absurd late
+ends_bad stats taken taken_new script line ReadFault late done stopped no_memory told is takes = absurd late
+ends_bad stats taken taken_new script line WriteFault late done stopped no_memory told is takes =
+    absurd (stopped_not_bad stats taken taken_new script line told (stopped refl) is takes)
+ends_bad stats taken taken_new script line NoMemory late done stopped no_memory told is takes = elim (no_memory refl) [
   | inl same ↦
       let amount = one_amount taken taken_new (bad_line line) [] told takes (same ∙ Takes-none taken) in
       absurd (omega (arith, line_has_bytes line, amount))
-  | inr early ↦ absurd (stopped_not_bad taken taken_new script line told early is takes)
+  | inr early ↦ absurd (stopped_not_bad stats taken taken_new script line told early is takes)
 ]
-ends_bad taken taken_new script line BadScript late done stopped no_memory told is takes = refl
-ends_bad taken taken_new script line ScriptTooLong late done stopped no_memory told is takes = absurd late
+ends_bad stats taken taken_new script line BadScript late done stopped no_memory told is takes = refl
+ends_bad stats taken taken_new script line ScriptTooLong late done stopped no_memory told is takes = absurd late
 
-pub only_bad : (left left_new taken taken_new : Option (List ℕ)) (script : List ℕ) (end : Status) → IsKnownAs left script → IsLate end
+pub only_bad : (stats : Bool) (left left_new taken taken_new : Option (List ℕ)) (script : List ℕ) (end : Status) → IsKnownAs left script → IsLate end
     → (end ≡ Done → (read : Script) × SpellsScript script read)
-    → (end ≡ WriteFault → StopsInOutput taken taken_new script) → (end ≡ NoMemory → (taken_new ≡ taken) ⊎ StopsInOutput taken taken_new script)
+    → (end ≡ WriteFault → StopsInOutput stats taken taken_new script) → (end ≡ NoMemory → (taken_new ≡ taken) ⊎ StopsInOutput stats taken taken_new script)
     → TellsBytes left → TellsBytes taken → RunsBad left left_new taken taken_new → end ≡ BadScript
-only_bad left left_new taken taken_new script end known late done stopped no_memory told_left told_taken runs =
+only_bad stats left left_new taken taken_new script end known late done stopped no_memory told_left told_taken runs =
     let first = subst (λ s. IsFirstBad s runs.bad) (told_one left runs.script script told_left runs.is_read.given known) runs.first in
-    ends_bad taken taken_new script runs.bad end late done stopped no_memory told_taken first runs.taken
+    ends_bad stats taken taken_new script runs.bad end late done stopped no_memory told_taken first runs.taken

@@ -1,5 +1,6 @@
 -- How a run ends.
-use Rattle.std.proofs.Common.{◌≡◌, ◌⊎◌, inl, inr, ℕ, ◌+◌, ◌≤◌, List, ◌++◌, length, Option, Some, None, Result, Ok, Err, OnOk, OnErr, refl, ap, sym, ◌∙◌, subst}
+use Rattle.std.proofs.Common.{◌≡◌, false, ◌⊎◌, inl, inr, ℕ, ◌+◌, ◌≤◌, List, ◌++◌, length, Option, Some, None, Result, Ok, Err, OnOk, OnErr, refl, ap}
+use Rattle.std.proofs.Common.{sym, ◌∙◌, subst}
 use Rattle.std.proofs.Common.{arith, length-append}
 use Rattle.bench_io.specs.declared.fault.Fault.{Fault}
 use Rattle.bench_io.specs.declared.fault.Fault.TheVariants.{Failed, NoMemory as OutOfMemory}
@@ -32,9 +33,9 @@ pub not_bad : (script : List ℕ) (read : Script) → length script ≤ SCRIPT_L
 not_bad script read short spelled (is_too_long less) = absurd (omega (arith, short, less))
 not_bad script read short spelled (is_bad line first) = not_both script read line spelled first
 
-pub front_at_end : (end : Status) (script : List ℕ) (old new : Option (List ℕ)) → (end ≡ WriteFault → StopsInOutput old new script)
-    → (end ≡ NoMemory → (new ≡ old) ⊎ StopsInOutput old new script)
-    → StopsBeforeEnd end → HasNoStats script → (output : List ℕ) → IsOutput script output → TakesPrefix old new output
+pub front_at_end : (end : Status) (script : List ℕ) (old new : Option (List ℕ)) → (end ≡ WriteFault → StopsInOutput false old new script)
+    → (end ≡ NoMemory → (new ≡ old) ⊎ StopsInOutput false old new script)
+    → StopsBeforeEnd end → HasNoStats script → (output : List ℕ) → IsOutput false script output → TakesPrefix old new output
 front_at_end Done script old new stopped no_memory ends without output is = absurd ends
 front_at_end BadWords script old new stopped no_memory ends without output is = absurd ends
 front_at_end ReadFault script old new stopped no_memory ends without output is = absurd ends

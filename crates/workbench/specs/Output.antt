@@ -1,5 +1,5 @@
 -- What the workbench writes for a script.
-use Rattle.std.specs.Prelude.{◌<◌, ◌≤◌, ℕ, List, [], length}
+use Rattle.std.specs.Prelude.{◌<◌, ◌≤◌, ℕ, Bool, List, [], length}
 use Rattle.std.specs.List.{AllByRecursion}
 use Rattle.edit_log.specs.History.{empty_grammar}
 use Rattle.pin_rule.specs.Layout.{full_sizes}
@@ -13,12 +13,12 @@ use Rattle.script_text.specs.Scripts.{SpellsScript, IsFirstBad}
 use Rattle.replies.specs.Lines.{bad_line}
 use Rattle.workbench.specs.Benches.{AreAnswers}
 
--- The output of a script that is not too long: the replies to its commands, which run over one new bench of the largest sizes, or the line for its first bad
--- line.
-pub data IsOutput (script : List ℕ) : List ℕ → Type 0 where
+-- The output of a script that is not too long: the lines of its commands, which run over one new bench of the largest sizes, or the line for its first bad
+-- line. With `stats` each command tells how lazy it was.
+pub data IsOutput (stats : Bool) (script : List ℕ) : List ℕ → Type 0 where
   replies : {output : List ℕ} {last : List (List ℕ)} (read : Script) → length script ≤ SCRIPT_LIMIT → SpellsScript script read
-      → AreAnswers full_sizes empty_grammar read.blocks [] last output → IsOutput script output
-  refusal : (bad : BadScript) → length script ≤ SCRIPT_LIMIT → IsFirstBad script bad → IsOutput script (bad_line bad)
+      → AreAnswers stats full_sizes empty_grammar read.blocks [] last output → IsOutput stats script output
+  refusal : (bad : BadScript) → length script ≤ SCRIPT_LIMIT → IsFirstBad script bad → IsOutput stats script (bad_line bad)
 
 -- the script is too long or has a bad line
 pub data IsBadScript (script : List ℕ) : Type 0 where

@@ -10,6 +10,7 @@ mod server;
 mod sink_writing;
 mod source_reading;
 mod top_call;
+mod words;
 
-pub use laws::{good_or_bad, graph_of_roomy_script, one_output};
+pub use laws::{good_or_bad, graph_of_roomy_script, one_output, words_taken};
 pub use top_call::{Ended, Status, run};

@@ -59,11 +59,12 @@ impl Server {
         })
     }
 
-    /// Answers a block: the lines of the reply are appended.
+    /// Answers a block: the lines of the reply are appended, and those that tell how lazy it was, where they are asked for.
     pub(crate) fn answer(
         &mut self,
         alloc: Global,
         block: &Block,
+        stats: bool,
         out: &mut Vec<u8>,
     ) -> Result<(), AllocError>
         requires proper { IsProperBlock block.now }
@@ -72,12 +73,12 @@ impl Server {
         requires pins { HasBench self.old.bench (λ bench. 0 < bench.pins_left) }
         ensures next { OnOk result (self.new.grammar ≡ grammar_behind self.old.grammar block.now) }
         ensures answers { OnOk result (HasBench self.old.bench (λ old. HasBench self.new.bench (λ new.
-            AnswersBlock self.old.grammar block.now old new out.old.items out.new.items))) }
+            AnswersBlock stats self.old.grammar block.now old new out.old.items out.new.items))) }
     {
         let Some(bench) = self.bench.take() else {
             unreachable!()
         };
-        let bench = answer_block(alloc, bench, &mut self.crew, block, out)?;
+        let bench = answer_block(alloc, bench, &mut self.crew, block, stats, out)?;
         self.bench = Some(bench);
         Ok(())
     }

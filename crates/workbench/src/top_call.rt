@@ -1,6 +1,6 @@
 //! The top call: a script from a source, and the replies to a sink.
 
-ghost use Rattle.std.specs.Prelude.{◌≡◌, ◌≢◌, ◌≤◌, ◌<◌, ◌+◌, ◌↔◌, ◌⊎◌, ◌++◌, [], ℕ, List, length, Some, None, OnOk, OnErr, IfOk, IfSome, IsErrOf};
+ghost use Rattle.std.specs.Prelude.{◌≡◌, ◌≢◌, ◌≤◌, ◌<◌, ◌+◌, ◌↔◌, ◌⊎◌, ◌++◌, [], ℕ, List, length, Some, None, false, OnOk, OnErr, IfOk, IfSome, IsErrOf};
 ghost use Rattle.std.specs.List.{AllByRecursion};
 ghost use Rattle.bench_io.specs.Faults.{HasRisen};
 ghost use Rattle.bench_io.specs.Known.{Takes};
@@ -16,6 +16,8 @@ ghost use Rattle.pin_rule.specs.Layout.{full_sizes};
 ghost use Rattle.version_store.specs.Meaning.{IsNewBench};
 ghost use Rattle.workbench.specs.Serving.{HasBench, bench_in};
 ghost use Rattle.workbench.specs.Runs.{AnswersAll, WritesAll, StopsInReplies, StopsInOutput, RunsWhole, RunsBad, StopsEarly};
+ghost use Rattle.clap.specs.Walk.{texts};
+ghost use Rattle.workbench.specs.Words.{TakesWords, asks_stats};
 ghost use Rattle.workbench.specs.Output.{IsOutput, IsBadScript, HasNoStats};
 ghost use Rattle.workbench.specs.Pieces.{TakesPrefix, TakesProperPrefix, GivesCount, TellsBytes};
 ghost use Rattle.replies.specs.Lines.{bad_line};
@@ -23,6 +25,7 @@ ghost use Rattle.replies.specs.Lines.{bad_line};
 use crate::server::Server;
 use crate::sink_writing::write_all;
 use crate::source_reading::{ReadError, read_all};
+use crate::words::{WordsError, read_words};
 use bench_io::{Fault, Sink, Source};
 use graph_content::GraphRows;
 use replies::put_bad_script;
@@ -38,7 +41,7 @@ const WRITE_SIZE: usize = 65_536;
 pub enum Status {
     /// The whole script was read, it is good, and all its replies were written.
     Done = 0,
-    /// There is a word besides the program's name.
+    /// The words are not taken: behind the program's name only `--stats` may stand, once.
     BadWords = 2,
     /// The source failed.
     ReadFault = 3,
@@ -104,6 +107,7 @@ fn flush_full<K: Sink>(sink: &mut K, out: &mut Vec<u8>) -> Result<(), Fault>
 fn answer_each<K: Sink>(
     alloc: Global,
     blocks: &[Block],
+    stats: bool,
     server: &mut Server,
     sink: &mut K,
 ) -> Result<(), Fault>
@@ -111,14 +115,14 @@ fn answer_each<K: Sink>(
     requires few { length blocks.now ≤ COMMAND_LIMIT }
     requires grammar { server.old.grammar ≡ empty_grammar }
     requires bench { HasBench server.old.bench (IsNewBench full_sizes) }
-    ensures whole { OnOk result (HasBench server.new.bench (AnswersAll (K.taken sink.old) (K.taken sink.new) blocks.now)) }
-    ensures front { OnErr result (StopsInReplies (K.taken sink.old) (K.taken sink.new) blocks.now) }
+    ensures whole { OnOk result (HasBench server.new.bench (AnswersAll stats (K.taken sink.old) (K.taken sink.new) blocks.now)) }
+    ensures front { OnErr result (StopsInReplies stats (K.taken sink.old) (K.taken sink.new) blocks.now) }
     ensures counted { K.faults sink.old ≤ K.faults sink.new }
     ensures failed { IsErrOf result Fault.Failed → HasRisen (K.faults sink.old) (K.faults sink.new) }
 {
     let mut out = Vec::new(alloc);
     for block in blocks {
-        server.answer(alloc, block, &mut out)?;
+        server.answer(alloc, block, stats, &mut out)?;
         flush_full(sink, &mut out)?;
     }
     write_all(sink, &out)?;
@@ -126,16 +130,21 @@ fn answer_each<K: Sink>(
 }
 
 /// Writes the replies to the blocks, which run over one new bench of the largest sizes.
-fn answer_all<K: Sink>(alloc: Global, blocks: &[Block], sink: &mut K) -> Result<Server, Fault>
+fn answer_all<K: Sink>(
+    alloc: Global,
+    blocks: &[Block],
+    stats: bool,
+    sink: &mut K,
+) -> Result<Server, Fault>
     requires proper { AllByRecursion IsProperBlock blocks.now }
     requires few { length blocks.now ≤ COMMAND_LIMIT }
-    ensures whole { IfOk result (λ server. HasBench server.bench (AnswersAll (K.taken sink.old) (K.taken sink.new) blocks.now)) }
-    ensures front { OnErr result (StopsInReplies (K.taken sink.old) (K.taken sink.new) blocks.now) }
+    ensures whole { IfOk result (λ server. HasBench server.bench (AnswersAll stats (K.taken sink.old) (K.taken sink.new) blocks.now)) }
+    ensures front { OnErr result (StopsInReplies stats (K.taken sink.old) (K.taken sink.new) blocks.now) }
     ensures counted { K.faults sink.old ≤ K.faults sink.new }
     ensures failed { IsErrOf result Fault.Failed → HasRisen (K.faults sink.old) (K.faults sink.new) }
 {
     let mut server = Server::open(alloc)?;
-    answer_each(alloc, blocks, &mut server, sink)?;
+    answer_each(alloc, blocks, stats, &mut server, sink)?;
     Ok(server)
 }
 
@@ -180,19 +189,19 @@ fn status_after(written: Result<(), Fault>) -> Status
 }
 
 /// Reads the script, and writes the replies to its commands or the line for its first bad line.
-fn run_script<K: Sink>(alloc: Global, script: &[u8], sink: &mut K) -> Ended
+fn run_script<K: Sink>(alloc: Global, script: &[u8], stats: bool, sink: &mut K) -> Ended
     requires { length script.now ≤ SCRIPT_LIMIT }
     ensures late { IsLate result.status }
     ensures done { result.status ≡ Status.Done → (read : AScript) × SpellsScript script.now read
-        × WritesAll (K.taken sink.old) (K.taken sink.new) read.blocks result.bench }
+        × WritesAll stats (K.taken sink.old) (K.taken sink.new) read.blocks result.bench }
     ensures no_bench { result.status ≢ Status.Done → result.bench ≡ None }
     ensures bad_script { result.status ≡ Status.BadScript → (bad : ABadScript) × IsFirstBad script.now bad
         × Takes (K.taken sink.old) (K.taken sink.new) (bad_line bad) }
     ensures write_fault { result.status ≡ Status.WriteFault
         → HasRisen (K.faults sink.old) (K.faults sink.new) }
-    ensures stopped { result.status ≡ Status.WriteFault → StopsInOutput (K.taken sink.old) (K.taken sink.new) script.now }
+    ensures stopped { result.status ≡ Status.WriteFault → StopsInOutput stats (K.taken sink.old) (K.taken sink.new) script.now }
     ensures no_memory { result.status ≡ Status.NoMemory → (K.taken sink.new ≡ K.taken sink.old)
-        ⊎ StopsInOutput (K.taken sink.old) (K.taken sink.new) script.now }
+        ⊎ StopsInOutput stats (K.taken sink.old) (K.taken sink.new) script.now }
     ensures counted { K.faults sink.old ≤ K.faults sink.new }
 {
     let read = match read_script(alloc, script) {
@@ -203,29 +212,31 @@ fn run_script<K: Sink>(alloc: Global, script: &[u8], sink: &mut K) -> Ended
         }
         Err(ScriptError::NoMemory) => return without_bench(Status::NoMemory),
     };
-    let server = match answer_all(alloc, read.blocks.as_slice(), sink) {
+    let server = match answer_all(alloc, read.blocks.as_slice(), stats, sink) {
         Ok(server) => server,
         Err(fault) => return without_bench(status_of(fault)),
     };
     with_bench(server)
 }
 
-/// Reads a script from the source and writes to the sink the replies to its commands, or one line where it has
-/// a bad line.
+/// Reads a script from the source and writes the replies to its commands, with the lines that tell how lazy each was where
+/// they are asked for, or one line where it has a bad line.
 ///
-/// The words are those of the command line, of which the first is the program's name. Nothing is written
+/// The words are those of the command line, of which the first is the program's name. Where they are refused, nothing is
+/// read or written. Nothing is written
 /// before the script has been read whole, and no command is run before all its lines were found good. Want of
 /// memory may end a run at any point.
 pub fn run<S: Source, K: Sink>(alloc: Global, words: &[&str], source: &mut S, sink: &mut K) -> Ended
     requires { 0 < length words.now }
 
-    // Only the program's name may stand in the words.
-    ensures bad_words { (result.status ≡ Status.BadWords) ↔ (1 < length words.now) }
-    ensures unread { result.status ≡ Status.BadWords → source.new ≡ source.old }
+    // Behind the program's name only the flag may stand.
+    ensures bad_words { result.status ≡ Status.BadWords → TakesWords (texts words.now) → ⊥ }
+    ensures only_bad_words { (TakesWords (texts words.now) → ⊥) → (result.status ≡ Status.BadWords) ⊎ (result.status ≡ Status.NoMemory) }
+    ensures unread { (TakesWords (texts words.now) → ⊥) → (source.new ≡ source.old) × (sink.new ≡ sink.old) }
 
     // A run to the end.
     ensures done { result.status ≡ Status.Done
-        → RunsWhole (S.left source.old) (S.left source.new) (K.taken sink.old) (K.taken sink.new) result.bench }
+        → RunsWhole (asks_stats (texts words.now)) (S.left source.old) (S.left source.new) (K.taken sink.old) (K.taken sink.new) result.bench }
     ensures no_bench { result.status ≢ Status.Done → result.bench ≡ None }
     ensures bad_script { result.status ≡ Status.BadScript
         → RunsBad (S.left source.old) (S.left source.new) (K.taken sink.old) (K.taken sink.new) }
@@ -248,23 +259,25 @@ pub fn run<S: Source, K: Sink>(alloc: Global, words: &[&str], source: &mut S, si
     ensures counted { (S.faults source.old ≤ S.faults source.new) × (K.faults sink.old ≤ K.faults sink.new) }
 
     // Where no fault was counted, the script decides.
-    ensures complete { length words.now ≡ 1 → IsFree (S.faults source.old) (S.faults source.new) → IsFree (K.faults sink.old) (K.faults sink.new)
+    ensures complete { TakesWords (texts words.now) → IsFree (S.faults source.old) (S.faults source.new) → IsFree (K.faults sink.old) (K.faults sink.new)
         → (script : List ℕ) → S.left source.old ≡ Some script → EndsBy script result.status }
 
     // What the sink took where the run did not come to its end.
     ensures silent { IsSilent result.status → K.taken sink.new ≡ K.taken sink.old }
     ensures stopped { result.status ≡ Status.WriteFault
-        → StopsEarly (S.left source.old) (S.left source.new) (K.taken sink.old) (K.taken sink.new) }
+        → StopsEarly (asks_stats (texts words.now)) (S.left source.old) (S.left source.new) (K.taken sink.old) (K.taken sink.new) }
     ensures no_memory { result.status ≡ Status.NoMemory → (K.taken sink.new ≡ K.taken sink.old)
-        ⊎ StopsEarly (S.left source.old) (S.left source.new) (K.taken sink.old) (K.taken sink.new) }
-    ensures front { StopsBeforeEnd result.status → IfSome (S.left source.old) (λ script. HasNoStats script → (output : List ℕ)
-        → IsOutput script output → TakesPrefix (K.taken sink.old) (K.taken sink.new) output) }
+        ⊎ StopsEarly (asks_stats (texts words.now)) (S.left source.old) (S.left source.new) (K.taken sink.old) (K.taken sink.new) }
+    ensures front { StopsBeforeEnd result.status → asks_stats (texts words.now) ≡ false → IfSome (S.left source.old) (λ script. HasNoStats script
+        → (output : List ℕ) → IsOutput false script output → TakesPrefix (K.taken sink.old) (K.taken sink.new) output) }
 {
-    if words.len() > 1 {
-        return without_bench(Status::BadWords);
-    }
+    let stats = match read_words(alloc, words) {
+        Ok(stats) => stats,
+        Err(WordsError::Bad) => return without_bench(Status::BadWords),
+        Err(WordsError::NoMemory) => return without_bench(Status::NoMemory),
+    };
     match read_all(alloc, source, SCRIPT_LIMIT) {
-        Ok(script) => run_script(alloc, &script, sink),
+        Ok(script) => run_script(alloc, &script, stats, sink),
         Err(ReadError::Failed) => without_bench(Status::ReadFault),
         Err(ReadError::NoMemory) => without_bench(Status::NoMemory),
         Err(ReadError::TooLong) => without_bench(Status::ScriptTooLong),

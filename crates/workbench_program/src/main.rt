@@ -52,7 +52,7 @@ fn main(rt: HostRuntime) -> ExitCode {
         Err(error) => status_of(&error),
     };
     if status == Status::BadWords {
-        let _ = rt.eprintln("usage: workbench");
+        let _ = rt.eprintln("usage: workbench [--stats]");
     }
     ExitCode::from(exit_status(status))
 }

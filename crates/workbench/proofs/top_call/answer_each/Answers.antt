@@ -15,8 +15,8 @@ loop-block-init g c =
     let grammar = c.args.server.now.grammar in
     let bench = c.args.server.now.bench in
     record {
-      served = subst (λ out. HasBench bench (IsServed taken taken [] grammar out)) (sym c.new-out.ensures.items)
-          (served_none taken grammar bench c.requires.grammar c.requires.bench);
+      served = subst (λ out. HasBench bench (IsServed c.args.stats taken taken [] grammar out)) (sym c.new-out.ensures.items)
+          (served_none c.args.stats taken grammar bench c.requires.grammar c.requires.bench);
       counted = omega arith;
     }
 
@@ -26,23 +26,27 @@ answer-requires-clause-proper g c =
 
 pub answer-requires-clause-log : goal.answer-requires-clause-log
 answer-requires-clause-log g c =
-    served_log (g.K.Sink.taken c.args.sink.now) (g.K.Sink.taken c.loop-block.sink) c.args.blocks.now c.loop-block.block-index c.loop-block.server.grammar
+    served_log c.args.stats (g.K.Sink.taken c.args.sink.now) (g.K.Sink.taken c.loop-block.sink) c.args.blocks.now c.loop-block.block-index
+    c.loop-block.server.grammar
     c.loop-block.server.bench c.loop-block.out.items c.loop-block.invariant.served
 
 pub answer-requires-clause-full : goal.answer-requires-clause-full
 answer-requires-clause-full g c =
-    served_full (g.K.Sink.taken c.args.sink.now) (g.K.Sink.taken c.loop-block.sink) c.args.blocks.now c.loop-block.block-index c.loop-block.server.grammar
+    served_full c.args.stats (g.K.Sink.taken c.args.sink.now) (g.K.Sink.taken c.loop-block.sink) c.args.blocks.now c.loop-block.block-index
+    c.loop-block.server.grammar
     c.loop-block.server.bench c.loop-block.out.items c.loop-block.invariant.served
 
 pub answer-requires-clause-pins : goal.answer-requires-clause-pins
 answer-requires-clause-pins g c =
-    served_pins (g.K.Sink.taken c.args.sink.now) (g.K.Sink.taken c.loop-block.sink) c.args.blocks.now c.loop-block.block-index c.loop-block.server.grammar
+    served_pins c.args.stats (g.K.Sink.taken c.args.sink.now) (g.K.Sink.taken c.loop-block.sink) c.args.blocks.now c.loop-block.block-index
+    c.loop-block.server.grammar
     c.loop-block.server.bench c.loop-block.out.items c.loop-block.invariant.served c.loop-block-test.true c.requires.few
 
 pub returns-in_err-answer-clause-front : goal.returns-in_err-answer-clause-front
 returns-in_err-answer-clause-front g c =
     on_err c.from_residual.result
-    (served_stop (g.K.Sink.taken c.args.sink.now) (g.K.Sink.taken c.loop-block.sink) c.args.blocks.now c.loop-block.block-index c.loop-block.server.grammar
+    (served_stop c.args.stats (g.K.Sink.taken c.args.sink.now) (g.K.Sink.taken c.loop-block.sink) c.args.blocks.now c.loop-block.block-index
+    c.loop-block.server.grammar
     c.loop-block.server.bench c.loop-block.out.items c.loop-block.invariant.served)
 
 pub returns-in_err-flush_full-clause-front : goal.returns-in_err-flush_full-clause-front
@@ -52,12 +56,13 @@ returns-in_err-flush_full-clause-front g c =
     let block = c.block-item.result in
     let old = g.K.Sink.taken c.args.sink.now in
     let between = g.K.Sink.taken c.loop-block.sink in
-    let served = served_more old between (take i blocks) block c.loop-block.server.grammar c.answer.new.self.grammar c.loop-block.server.bench
+    let served = served_more c.args.stats old between (take i blocks) block c.loop-block.server.grammar c.answer.new.self.grammar c.loop-block.server.bench
     c.answer.new.self.bench c.loop-block.out.items c.answer.new.out.items c.loop-block.invariant.served c.in_ok-answer.ensures.answers
     c.in_ok-answer.ensures.next in
     let first : take (i + 1) blocks ≡ take i blocks ++ block ∷ [] = front_more blocks i block c.loop-block-test.true c.block-item.is in
     on_err c.from_residual-in_err-flush_full.result
-    (served_refused old between (g.K.Sink.taken c.flush_full.new.sink) blocks (take i blocks ++ block ∷ []) (drop (i + 1) blocks) c.answer.new.self.grammar
+    (served_refused c.args.stats old between (g.K.Sink.taken c.flush_full.new.sink) blocks (take i blocks ++ block ∷ []) (drop
+    (i + 1) blocks) c.answer.new.self.grammar
     c.answer.new.self.bench c.answer.new.out.items (sym (take-append-drop (i + 1) blocks) ∙ ap (λ bs. bs ++ drop (i + 1) blocks) first) served
     c.in_err-flush_full.ensures.refused)
 
@@ -72,13 +77,14 @@ loop-block-preserved g c =
     let grammar = c.answer.new.self.grammar in
     let bench = c.answer.new.self.bench in
     let left = c.flush_full.new.out.items in
-    let served = served_more old between (take i blocks) block c.loop-block.server.grammar grammar c.loop-block.server.bench bench c.loop-block.out.items
+    let served = served_more c.args.stats old between (take i blocks) block c.loop-block.server.grammar grammar c.loop-block.server.bench bench
+    c.loop-block.out.items
     c.answer.new.out.items c.loop-block.invariant.served c.in_ok-answer.ensures.answers c.in_ok-answer.ensures.next in
     let first : take (i + 1) blocks ≡ take i blocks ++ block ∷ [] = front_more blocks i block c.loop-block-test.true c.block-item.is in
     let gone = c.in_ok-flush_full.ensures.written in
     record {
-      served = subst (λ bs. HasBench bench (IsServed old new bs grammar left)) (sym first)
-          (served_flushed old between new (take i blocks ++ block ∷ []) grammar bench c.answer.new.out.items gone.0 left served gone.1 gone.2);
+      served = subst (λ bs. HasBench bench (IsServed c.args.stats old new bs grammar left)) (sym first)
+          (served_flushed c.args.stats old between new (take i blocks ++ block ∷ []) grammar bench c.answer.new.out.items gone.0 left served gone.1 gone.2);
       counted = omega (arith, c.loop-block.invariant.counted, c.flush_full.ensures.counted);
     }
 
@@ -90,7 +96,8 @@ returns-in_err-write_all-clause-front g c =
     subst (TakesProperPrefix (g.K.Sink.taken c.loop-block.sink) (g.K.Sink.taken c.write_all.new.sink)) c.deref.ensures.value c.in_err-write_all.ensures.refused
     in
     on_err c.from_residual-in_err-write_all.result
-    (served_refused (g.K.Sink.taken c.args.sink.now) (g.K.Sink.taken c.loop-block.sink) (g.K.Sink.taken c.write_all.new.sink) blocks (take i blocks)
+    (served_refused c.args.stats (g.K.Sink.taken c.args.sink.now) (g.K.Sink.taken c.loop-block.sink) (g.K.Sink.taken c.write_all.new.sink) blocks
+    (take i blocks)
     (drop i blocks) c.loop-block.server.grammar c.loop-block.server.bench c.loop-block.out.items (sym (take-append-drop i blocks))
     c.loop-block.invariant.served (part_is_front (g.K.Sink.taken c.loop-block.sink) (g.K.Sink.taken c.write_all.new.sink) c.loop-block.out.items refused))
 
@@ -98,6 +105,6 @@ pub returns-clause-whole : goal.returns-clause-whole
 returns-clause-whole g c =
     let whole : Takes (g.K.Sink.taken c.loop-block.sink) (g.K.Sink.taken c.write_all.new.sink) c.loop-block.out.items =
     subst (Takes (g.K.Sink.taken c.loop-block.sink) (g.K.Sink.taken c.write_all.new.sink)) c.deref.ensures.value c.in_ok-write_all.ensures.whole in
-    served_whole (g.K.Sink.taken c.args.sink.now) (g.K.Sink.taken c.loop-block.sink) (g.K.Sink.taken c.write_all.new.sink) c.args.blocks.now
+    served_whole c.args.stats (g.K.Sink.taken c.args.sink.now) (g.K.Sink.taken c.loop-block.sink) (g.K.Sink.taken c.write_all.new.sink) c.args.blocks.now
     c.loop-block.block-index c.loop-block.server.grammar c.loop-block.server.bench c.loop-block.out.items c.loop-block-test.false
     c.loop-block.invariant.served whole

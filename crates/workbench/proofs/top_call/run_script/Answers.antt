@@ -58,11 +58,11 @@ returns-in-Err-clause-write_fault g c = λ is.
 
 pub returns-in-Err-clause-stopped : goal.returns-in-Err-clause-stopped
 returns-in-Err-clause-stopped g c = λ is. of_replies c.in-Ok.read c.in-Ok.ensures.found
-    (subst (StopsInReplies (g.K.Sink.taken c.args.sink.now) (g.K.Sink.taken c.answer_all.new.sink)) c.as_slice.ensures c.in-Err.ensures.front)
+    (subst (StopsInReplies c.args.stats (g.K.Sink.taken c.args.sink.now) (g.K.Sink.taken c.answer_all.new.sink)) c.as_slice.ensures c.in-Err.ensures.front)
 
 pub returns-in-Err-clause-no_memory : goal.returns-in-Err-clause-no_memory
 returns-in-Err-clause-no_memory g c = λ is. inr (of_replies c.in-Ok.read c.in-Ok.ensures.found
-    (subst (StopsInReplies (g.K.Sink.taken c.args.sink.now) (g.K.Sink.taken c.answer_all.new.sink)) c.as_slice.ensures c.in-Err.ensures.front))
+    (subst (StopsInReplies c.args.stats (g.K.Sink.taken c.args.sink.now) (g.K.Sink.taken c.answer_all.new.sink)) c.as_slice.ensures c.in-Err.ensures.front))
 
 -- ---- all commands were answered
 
@@ -70,7 +70,8 @@ pub returns-clause-done : goal.returns-clause-done
 returns-clause-done g c = λ is. (
   c.in-Ok.read,
   c.in-Ok.ensures.found,
-  subst (λ blocks. WritesAll (g.K.Sink.taken c.args.sink.now) (g.K.Sink.taken c.answer_all.new.sink) blocks c.with_bench.result.bench) c.as_slice.ensures
-      (written_all (g.K.Sink.taken c.args.sink.now) (g.K.Sink.taken c.answer_all.new.sink) c.as_slice.result.now c.with_bench.result.bench
+  subst (λ blocks. WritesAll c.args.stats (g.K.Sink.taken c.args.sink.now) (g.K.Sink.taken c.answer_all.new.sink) blocks c.with_bench.result.bench)
+      c.as_slice.ensures
+      (written_all c.args.stats (g.K.Sink.taken c.args.sink.now) (g.K.Sink.taken c.answer_all.new.sink) c.as_slice.result.now c.with_bench.result.bench
       c.in-Ok-answer_all.server.bench c.with_bench.ensures.bench c.in-Ok-answer_all.ensures.whole),
 )
