@@ -61,8 +61,8 @@ recorded_push z grammar (Alone one ∷ blocks) command _ added (more_recorded {a
     subst (AreRecorded z grammar (Alone one ∷ (blocks ++ Alone command ∷ []))) (sym (append_assoc its rest added))
     (more_recorded by (recorded_push z (grammar_after grammar one) blocks command rest added others last))
 
-records_more : (stats : Bool) (blocks : List Block) (command : Command) (grammar : Grammar) (old new : BenchMeaning) (out appended : List ℕ) → IsBenchBehind blocks old
-    → grammar ≡ grammar_after_all empty_grammar blocks → AnswersCommand stats grammar command old new out appended
+records_more : (stats : Bool) (blocks : List Block) (command : Command) (grammar : Grammar) (old new : BenchMeaning) (out appended : List ℕ)
+    → IsBenchBehind blocks old → grammar ≡ grammar_after_all empty_grammar blocks → AnswersCommand stats grammar command old new out appended
     → AreRecorded full_sizes empty_grammar (blocks ++ Alone command ∷ []) new.steps
 records_more stats blocks command grammar old new out appended behind same answers =
     let (added, is, records) = answers.records in

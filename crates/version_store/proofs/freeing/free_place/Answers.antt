@@ -34,12 +34,13 @@ returns-then-has-clause-freed g c = λ role given h. let k = c.args.leaving in l
     let v = view_of c.args.hand.now in let is = row_met met c.if-met-eq0.false in
     let lt = freed.row_in k m role given c.args.place v h c.requires.place met (met - 1) c.load_place_at-met.ensures.met.1 is in (
       met,
-      freed.frees_carried k m role given c.args.place v h c.requires.place met (view_of c.load_place_at-met.new.self) c.load_place_at-met.ensures.view (met - 1) is
-          (sym (h.carried_are (met - 1) lt) ∙ sym c.has.ensures ∙ c.if-has.true),
+      freed.frees_carried k m role given c.args.place v h c.requires.place met (view_of c.load_place_at-met.new.self) c.load_place_at-met.ensures.view (met - 1)
+          is (sym (h.carried_are (met - 1) lt) ∙ sym c.has.ensures ∙ c.if-has.true),
     )
 
 pub free_row-requires-clause-row : goal.free_row-requires-clause-row
-free_row-requires-clause-row g c = let k = c.args.leaving in let m = c.args.carried.now in let q = c.requires.giving in let met : ℕ = c.load_place_at-met.result in
+free_row-requires-clause-row g c = let k = c.args.leaving in let m = c.args.carried.now in let q = c.requires.giving in
+    let met : ℕ = c.load_place_at-met.result in
     let v = view_of c.args.hand.now in let is = row_met met c.if-met-eq0.false in
     let lt = freed.row_in k m q.0 q.1 c.args.place v q.2 c.requires.place met (met - 1) c.load_place_at-met.ensures.met.1 is in
     subst (λ (z : Sizes). met - 1 < z.rows) (sym (freed.sizes_loaded k m q.0 q.1 c.args.place v q.2 c.requires.place met (view_of c.load_place_at-met.new.self)
