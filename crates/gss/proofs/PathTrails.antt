@@ -163,18 +163,22 @@ module _ (links : List Edge) (node : NodeId) (count : ℕ) where
       → IsPathOf (links_in links) node count through path
       → (trail : List ℕ) × IsTrailOf links (walk_of node count through) trail × (path ≡ path_along links node trail)
   trail_of_path few None path is =
-      let has = path_down links none few count node path.nodes is.down in
-      (has.trail, record { node = has.end; down = has.down; size = has.size; passes = tt; above = λ front rest link at e on unmet. omega arith },
-        path_is links node has.trail path has.nodes_are)
+      let has = path_down links none few count node path.nodes is.down in (
+        has.trail,
+        record { node = has.end; down = has.down; size = has.size; passes = tt; above = λ front rest link at e on unmet. omega arith },
+        path_is links node has.trail path has.nodes_are,
+      )
   trail_of_path few (Some l) path is =
       let (link, at, (k, upper, lower)) = is.passes in
       let (edge, at', same) = from_column link_in links l.0 link at in
       let upper' : slice_get path.nodes k ≡ Some (node_id edge.upper) = upper ∙ ap (λ (q : Link). Some (node_id q.upper)) (sym same) in
       let lower' : slice_get path.nodes (suc k) ≡ Some (node_id edge.lower) =
       subst (λ n. slice_get path.nodes n ≡ Some (node_id link.lower)) (add-one k) lower ∙ ap (λ (q : Link). Some (node_id q.lower)) (sym same) in
-      let (has, passes) = step_passes links none few l.0 edge at' count node path.nodes is.down k upper' lower' in
-      (has.trail, record { node = has.end; down = has.down; size = has.size; passes = passes; above = λ front rest link at e on unmet. omega arith },
-        path_is links node has.trail path has.nodes_are)
+      let (has, passes) = step_passes links none few l.0 edge at' count node path.nodes is.down k upper' lower' in (
+        has.trail,
+        record { node = has.end; down = has.down; size = has.size; passes = passes; above = λ front rest link at e on unmet. omega arith },
+        path_is links node has.trail path has.nodes_are,
+      )
 
 -- ---- the list that the walk is made into
 

@@ -172,7 +172,6 @@ module _ (links : List Edge) (walk : Walk) (old new : List ℕ) (part : IsPartOf
 -- ---- what is told of it
 
 module _ (links : List Edge) (at : Standing) where
-
   module _ (begun : IsTrue at.is_begun) where
     pub next_turned : (middle trail : List ℕ) → TurnsTo links at.walk at.trail middle true → FindsTrail links at.walk middle trail true
         → IsNextTrail links at trail

@@ -159,7 +159,7 @@ walked_node rules old g top through at kernel list count node lists size walked 
       } in
       let (place, within, has) = (lists.members reduction).1 is in
       walked.all place reduction (omega (arith, within, size)) (slice_get_read list (length list) place reduction refl within (sym has))
-        lower trail labels p by;
+      lower trail labels p by;
   only = λ split c. elim (walked.only split c) [
     | inl in_old ↦ inl in_old
     | inr (place, reduction, before, there, on) ↦ inr (on.trail, on.told, on.through)

@@ -77,7 +77,6 @@ none_queued tokens p graph steps sound within worked = record {
 
 module _ {Base : Type 0} (tokens : List SymbolId) (p q : Parser) (graph graph' : GraphMeaning Base) (before between node link : ℕ)
     (so_far : IsQueued tokens p q graph graph' before between node link) where
-
   pub link_here : q.level.first_link ≤ link
   link_here = subst (λ (l : Level). l.first_link ≤ link) (sym so_far.step.level) so_far.link_of_level
 

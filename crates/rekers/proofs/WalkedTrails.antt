@@ -340,7 +340,7 @@ module _ {Base : Type 0} (tokens : List SymbolId) (old p : Parser) (graph first 
 
   -- an error in the reduction
   pub way_step : (q : Parser) (second : GraphMeaning Base) (after : ℕ) → IsStep tokens p q first second between after
-        → IsStep tokens old q graph second before after
+      → IsStep tokens old q graph second before after
   way_step q second after step = step_on tokens old p q graph first second before between after way.step step
 
 -- the walk has come to all trails

@@ -18,4 +18,4 @@ pub returns : goal.returns
 returns c part size after =
     subst (λ n. IsMetAfter c.args.through (part ++ c.args.link ∷ []) (n + 2)) size
     (met_later c.args.through part c.args.link c.args.met after (omega (arith, c.if-met-count.false, size))
-      (λ is. let no = c.is_named.ensures.1 is in let f = c.if-is_named.false in cc))
+    (λ is. let no = c.is_named.ensures.1 is in let f = c.if-is_named.false in cc))

@@ -18,7 +18,7 @@ returns-clause-counts c =
     let first = c.args.bench.now in
     let some = (bench_of first).sizes.places_in in
     let all : c.loop-place.place ≡ (bench_of first).sizes.places =
-          omega (arith, c.loop-place-test.false, c.loop-place.auto.place-end, c.places-places.ensures) in
+    omega (arith, c.loop-place-test.false, c.loop-place.auto.place-end, c.places-places.ensures) in
     let begun : 0 < c.loop-place.place = omega (arith, all, some.0) in
     ends (bench_of first) (bench_of c.loop-place.bench) (StandsAt first) (StandsAt c.loop-place.bench) c.loop-place.place c.loop-place.held
     c.loop-place.invariant all begun

@@ -11,7 +11,7 @@ pub loop-k-init : goal.loop-k-init
 loop-k-init g c =
     none_emptied (kinds_of c.args.tokens.now) c.args.self.now c.begin.new.self (g.G.Graph.means c.args.graph.now) c.args.steps.now c.args.queue.node
     c.place-state.result c.empties-k-end.result.now c.requires.sound c.requires.within (ap (λ (s : Standing). s.trail) c.begin.ensures.is)
-      c.requires.of_level c.place-state.ensures
+    c.requires.of_level c.place-state.ensures
     c.empties-k-end.ensures
 
 pub empties-requires : goal.empties-requires
