@@ -18,7 +18,7 @@ use Rattle.pin_rule.specs.declared.sizes.Sizes.{Sizes}
 use Rattle.version_store.specs.Meaning.{BenchMeaning}
 use Rattle.replies.specs.declared.reply.Reply.{Reply}
 use Rattle.replies.specs.Replies.{IsReply, grammar_after}
-use Rattle.sections.specs.Laziness.{SharesRows}
+use Rattle.sections.specs.Laziness.{SharesRows, DropsRows}
 use Rattle.replies.specs.Blocks.{grammar_behind, grammar_after_all, IsProperBlock}
 use Rattle.workbench.specs.Benches.{LeavesGraph, lines_for, AnswersBlock, AreAnswers, none, more, IsBenchBehind}
 use Rattle.workbench.specs.Runs.{AnswersAll, StopsInReplies}
@@ -35,7 +35,7 @@ leaves_at z y old new command reply first last size grammar graph = record {
   shares = subst (λ g. SharesRows y g command reply graph.tallies graph.before graph.after first last) grammar
       (subst (λ x. SharesRows x old command reply graph.tallies graph.before graph.after first last) size graph.shares);
   dropped = graph.dropped;
-  drops = graph.drops;
+  drops = subst (λ g. DropsRows g command first graph.dropped) grammar graph.drops;
 }
 
 answers_push : (stats : Bool) (z : Sizes) (grammar : Grammar) (blocks : List Block) (command : Command) (first next last : List (List ℕ)) (lines : List ℕ)
