@@ -41,7 +41,7 @@ const WRITE_SIZE: usize = 65_536;
 pub enum Status {
     /// The whole script was read, it is good, and all its replies were written.
     Done = 0,
-    /// The words are not taken: behind the program's name only `--stats` may stand, once.
+    /// The words are not taken: behind the program's name only `--stats` may stand, once, and then `--`.
     BadWords = 2,
     /// The source failed.
     ReadFault = 3,
@@ -223,9 +223,8 @@ fn run_script<K: Sink>(alloc: Global, script: &[u8], stats: bool, sink: &mut K) 
 /// they are asked for, or one line where it has a bad line.
 ///
 /// The words are those of the command line, of which the first is the program's name. Where they are refused, nothing is
-/// read or written. Nothing is written
-/// before the script has been read whole, and no command is run before all its lines were found good. Want of
-/// memory may end a run at any point.
+/// read or written. Nothing is written before the script has been read whole, and no command is run before all its lines
+/// were found good. Want of memory may end a run at any point.
 pub fn run<S: Source, K: Sink>(alloc: Global, words: &[&str], source: &mut S, sink: &mut K) -> Ended
     requires { 0 < length words.now }
 
