@@ -5,7 +5,7 @@ use Rattle.version_store.specs.Meaning.{BenchMeaning, EditorMeaning}
 use Rattle.version_store.specs.Edits.{IsSameEditor}
 use Rattle.version_store.specs.GivingUp.{GivesUpAll}
 use Rattle.version_store.proofs.GivenUp.{alike_all}
-use Rattle.version_store_soak.specs.Working.{StaysSeated, IsSameBench}
+use Rattle.version_store_soak.specs.Working.{StaysSeated, HasSamePins}
 
 pub still_seated : (m : Meaning) → StaysSeated m m
 still_seated m = record { sizes = refl; table = refl; share = refl; pins_left = refl }
@@ -18,10 +18,10 @@ seated_on l m n a b = record {
   pins_left = b.pins_left ∙ a.pins_left;
 }
 
-pub same_bench : (m : BenchMeaning) → IsSameBench m m
+pub same_bench : (m : BenchMeaning) → HasSamePins m m
 same_bench m = record { sizes = refl; pins_left = refl }
 
-pub bench_on : (l m n : BenchMeaning) → IsSameBench l m → IsSameBench m n → IsSameBench l n
+pub bench_on : (l m n : BenchMeaning) → HasSamePins l m → HasSamePins m n → HasSamePins l n
 bench_on l m n a b = record { sizes = b.sizes ∙ a.sizes; pins_left = b.pins_left ∙ a.pins_left }
 
 pub same_editor : (m : EditorMeaning) → IsSameEditor m m

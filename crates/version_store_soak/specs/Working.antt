@@ -25,7 +25,7 @@ pub record AreBack (ps qs : List PassMeaning) : Type 0 where
   pub pins_left : total (λ (q : PassMeaning). q.pins_left) qs ≤ total (λ (p : PassMeaning). p.pins_left) ps
 
 -- a bench stays the same in what it needs to be parted and gathered
-pub record IsSameBench (m n : BenchMeaning) : Type 0 where
+pub record HasSamePins (m n : BenchMeaning) : Type 0 where
   pub sizes : n.sizes ≡ m.sizes
   pub pins_left : n.pins_left ≡ m.pins_left
 

@@ -1,7 +1,7 @@
 //! What a gathered bench tells of the rows of its page.
 
 ghost use Rattle.version_store.specs.Means.{bench_of};
-ghost use Rattle.version_store_soak.specs.Working.{IsSameBench};
+ghost use Rattle.version_store_soak.specs.Working.{HasSamePins};
 
 use crate::payload::fits;
 use pin_rule::content::AnyRow;
@@ -21,7 +21,7 @@ pub(crate) struct Rows {
 
 /// The key of the row at a place, if there is one, and whether the row fits.
 fn row_at(bench: &mut Bench<AnyRow>, place: u32) -> Option<(u64, bool)>
-    ensures { IsSameBench (bench_of bench.old) (bench_of bench.new) }
+    ensures { HasSamePins (bench_of bench.old) (bench_of bench.new) }
 {
     let version = bench.version();
     if place >= bench.places() {
@@ -51,7 +51,7 @@ pub(crate) fn read_rows(
     bench: &mut Bench<AnyRow>,
     keys: u64,
 ) -> Result<Rows, AllocError>
-    ensures { IsSameBench (bench_of bench.old) (bench_of bench.new) }
+    ensures { HasSamePins (bench_of bench.old) (bench_of bench.new) }
 {
     let mut marks = Vec::from_elem(alloc, false, keys.min(1_000_000) as usize)?;
     let mut rows = Rows {
