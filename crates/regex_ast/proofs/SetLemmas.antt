@@ -189,6 +189,12 @@ bit_in v i r h =
     let q : (i * 64 + r) / 64 ≡ i = omega arith in let m : (i * 64 + r) % 64 ≡ r = omega arith in
     rw (q, m) refl
 
+-- the bytes of a word
+pub has_in_word : (v : List ℕ) (i r : ℕ) → i < 4 → r < 64 → has (bytes_where (bit_of v)) (64 * i + r) ≡ (bit_at (slice_index v i) r == 1)
+has_in_word v i r within h =
+    let same : 64 * i + r ≡ i * 64 + r = omega arith in
+    ap (has (bytes_where (bit_of v))) same ∙ has_byte (bit_of v) (i * 64 + r) (omega arith) ∙ bit_in v i r h
+
 pub words-zero : (v : List ℕ) → length v ≡ 4 → ((i : ℕ) → i < 4 → slice_index v i < 2 ^ 64) → bytes_where (bit_of v) ≡ [] → (i : ℕ) → i < 4
     → slice_index v i ≡ 0
 words-zero v long small empty k h =

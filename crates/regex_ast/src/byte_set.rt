@@ -1,6 +1,7 @@
 //! Sets of bytes.
 
-ghost use Rattle.std.specs.Prelude.{◌≡◌, ◌↔◌, ◌<◌, ℕ, [], IsTrue, ◌||◌};
+ghost use Rattle.std.specs.Prelude.{◌≡◌, ◌↔◌, ◌<◌, ◌+◌, ◌*◌, ◌==◌, ℕ, [], IsTrue, ◌||◌};
+ghost use Rattle.std.specs.Int.{bit_at};
 ghost use Rattle.regex_ast.specs.Bytes.{has, only, with_range, complement};
 
 use std::marker::Model;
@@ -43,6 +44,14 @@ impl ByteSet {
         ensures { result ≡ has self.now byte }
     {
         self.words[usize::from(byte / 64)] >> (byte % 64) & 1 == 1
+    }
+
+    /// The bits of the 64 bytes from 64 times `number` on, the lowest being that of the first.
+    pub fn word(&self, number: usize) -> u64
+        requires { number < 4 }
+        ensures { (bit : ℕ) → bit < 64 → has self.now (64 * number + bit) ≡ (bit_at result bit == 1) }
+    {
+        self.words[number]
     }
 
     pub(crate) fn is_empty(&self) -> bool
