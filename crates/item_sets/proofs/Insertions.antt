@@ -1,5 +1,5 @@
 -- An item put at its place among others that ascend.
-use Rattle.std.proofs.Common.{◌≡◌, ℕ, zero, suc, ◌+◌, ◌<◌, ◌≤◌, ◌⊎◌, ◌↔◌, inl, inr, List, [], ◌∷◌, length, get_or, refl, sym, ◌∙◌, ap, subst, arith, Contains}
+use Rattle.std.proofs.Common.{◌≡◌, ℕ, zero, suc, ◌+◌, ◌<◌, ◌≤◌, ◌⊎◌, ◌↔◌, inl, inr, List, [], ◌∷◌, ◌++◌, ◌-◌, length, get_or, slice_get, Some, refl, sym, ◌∙◌, ap, subst, arith, Contains}
 use Rattle.std.proofs.Common.{Ok, Err}
 use Rattle.std.specs.List.{insert}
 use Rattle.std.specs.List.Sorted.{IsStrictlySortedBy, IsBinarySearchResult, IsNonDecreasingBy}
@@ -8,6 +8,8 @@ use Rattle.std.specs.declared.cmp.Ordering.{Ordering}
 use Rattle.std.specs.declared.cmp.Ordering.TheVariants.{Less, Equal, Greater}
 use Rattle.std.proofs.lemmas.List.Sorted.{searchable_from_sorted}
 use Rattle.std.proofs.lemmas.Map.Keys.{Less-from_sorted}
+use Rattle.std.proofs.lemmas.Bool.{cases_eq}
+use Rattle.std.proofs.lemmas.Option.{get_or_from_slice_get}
 use Rattle.std.proofs.lemmas.Map.Lookups.{exact_unsigned}
 use Rattle.forest.proofs.Ascending.{same_list, contains_here, contains_there, contains_cases}
 use Rattle.forest.proofs.Orderings.{then_equal}
@@ -119,3 +121,26 @@ pub inserted : (item : Item) (items : List Item) → IsStrictlySortedBy item_cmp
 inserted item items sorted at within h =
     let parts = h (along item items sorted) in
     inserted_between item items at within (λ k d l. parts.0 k d (omega arith) l) (λ k d l m. parts.1 k d l m)
+
+-- ---- behind all others
+
+behind_all : (item : Item) (items : List Item) → ((other : Item) → Contains items other → item_cmp other item ≡ Less)
+    → items ++ item ∷ [] ≡ with_item item items
+behind_all item [] below = refl
+behind_all item (first ∷ rest) below =
+    let more : item_cmp item first ≡ Greater = flipped first item Less (below first (contains_here first rest)) in
+    rw more (ap (λ later. first ∷ later) (behind_all item rest (λ other c. below other (contains_there first rest other c))))
+
+pub behind_last : (item : Item) (items : List Item) → IsStrictlySortedBy item_cmp items → (last : Item) → slice_get items (length items - 1) ≡ Some last
+    → item_cmp last item ≡ Less → items ++ item ∷ [] ≡ with_item item items
+behind_last item items sorted last at less = behind_all item items (λ other (k, within, is). elim (cases_eq k (length items - 1)) [
+  | inl e ↦
+      let same : last ≡ other = sym (get_or_from_slice_get items (length items - 1) last other at) ∙ ap (λ n. get_or items n other) (sym e) ∙ is in
+      subst (λ o. item_cmp o item ≡ Less) same less
+  | inr n ↦
+      let low : item_cmp (get_or items k other) (get_or items (length items - 1) other) ≡ Less =
+      Less-from_sorted item_cmp items k (length items - 1) other sorted (omega (arith, within, n)) (omega (arith, within)) in
+      let lower : item_cmp other last ≡ Less = subst (λ o. item_cmp o last ≡ Less) is
+      (subst (λ o. item_cmp (get_or items k other) o ≡ Less) (get_or_from_slice_get items (length items - 1) last other at) low) in
+      item_cmp_total.trans other last item lower less
+])

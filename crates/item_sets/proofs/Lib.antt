@@ -6,6 +6,7 @@ pub mod MoveSearches
 pub mod DistinctLists
 pub mod Insertions
 pub mod MoveLists
+pub mod Traces
 pub mod Walks
 pub mod Positions
 pub mod Added

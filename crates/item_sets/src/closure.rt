@@ -39,8 +39,8 @@ fn visit_kernel<L: Ledger>(
     requires formed { IsWellFormed grammar.now.grammar }
     requires items { AreItems grammar.now.grammar.rules kernel.now }
     ensures walk { OnOk result ((items : List Item)
-        → IsWalk grammar.now.grammar.rules items walk.old.symbols.keys walk.old.moves.items walk.old.reductions.items
-        → IsWalk grammar.now.grammar.rules (items ++ kernel.now) walk.new.symbols.keys walk.new.moves.items walk.new.reductions.items) }
+        → IsWalk grammar.now.grammar.rules items walk.old.symbols walk.old.moves.items walk.old.reductions.items
+        → IsWalk grammar.now.grammar.rules (items ++ kernel.now) walk.new.symbols walk.new.moves.items walk.new.reductions.items) }
     ensures steps { OnOk result (steps.new ≡ steps.old + length kernel.now) }
     ensures never_back { steps.old ≤ steps.new }
 {
@@ -60,10 +60,10 @@ fn visit_rules<L: Ledger>(
 ) -> Result<(), NoMemory>
     requires { IsWellFormed grammar.now.grammar }
     ensures walk { OnOk result ((items : List Item)
-        → IsWalk grammar.now.grammar.rules items walk.old.symbols.keys walk.old.moves.items walk.old.reductions.items
+        → IsWalk grammar.now.grammar.rules items walk.old.symbols walk.old.moves.items walk.old.reductions.items
         → IsWalk grammar.now.grammar.rules (items ++ added_items early.now (numbers_of_left grammar.now.grammar.rules symbol))
-        walk.new.symbols.keys walk.new.moves.items walk.new.reductions.items) }
-    ensures extends { OnOk result (Extends walk.old.symbols.keys walk.new.symbols.keys) }
+        walk.new.symbols walk.new.moves.items walk.new.reductions.items) }
+    ensures extends { OnOk result (Extends walk.old.symbols walk.new.symbols) }
     ensures steps { OnOk result (steps.new ≡ steps.old + length (added_items early.now (numbers_of_left grammar.now.grammar.rules symbol))) }
     ensures never_back { steps.old ≤ steps.new }
 {
@@ -92,7 +92,7 @@ pub(crate) fn closure_of<L: Ledger>(
     requires items { AreItems grammar.now.grammar.rules kernel.now }
     requires ascends { IsStrictlySortedBy item_cmp kernel.now }
     ensures closure { IfOk result (λ walk. (items : List Item) × IsClosureOf grammar.now.grammar.rules kernel.now items
-        × IsWalk grammar.now.grammar.rules items walk.symbols.keys walk.moves.items walk.reductions.items
+        × IsWalk grammar.now.grammar.rules items walk.symbols walk.moves.items walk.reductions.items
         × (steps.new ≡ steps.old + length items)) }
     ensures never_back { steps.old ≤ steps.new }
 {
@@ -100,7 +100,7 @@ pub(crate) fn closure_of<L: Ledger>(
     let mut walk = Walk::new(alloc);
     visit_kernel(&mut walk, grammar, kernel, steps)?;
     let mut done = 0;
-    while done < walk.symbols.len() {
+    while done < walk.symbols.as_slice().len() {
         let symbol = walk.symbols.as_slice()[done];
         visit_rules(&mut walk, grammar, &early, symbol, steps)?;
         done += 1;

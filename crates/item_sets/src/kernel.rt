@@ -1,6 +1,6 @@
 //! Kernels: the items that tell one state of a parser from another.
 
-ghost use Rattle.std.specs.Prelude.{◌≡◌, [], ◌∷◌, IfOk, OnOk};
+ghost use Rattle.std.specs.Prelude.{◌≡◌, [], ◌∷◌, ◌++◌, IsTrue, IfOk, OnOk};
 ghost use Rattle.std.specs.List.Sorted.{IsStrictlySortedBy};
 ghost use Rattle.item_sets.specs.Orders.{item_cmp, with_item};
 ghost use Rattle.item_sets.specs.Prefixes.{start_kernel};
@@ -33,6 +33,17 @@ impl Model for Kernel {
     ghost invariant = { λ kernel. IsStrictlySortedBy item_cmp kernel.items.items };
 }
 
+/// Whether the item comes behind all of these.
+fn is_behind(items: &[Item], item: Item) -> bool
+    requires { IsStrictlySortedBy item_cmp items.now }
+    ensures { IsTrue result → items.now ++ item ∷ [] ≡ with_item item items.now }
+{
+    match items.last() {
+        Some(last) => *last < item,
+        None => true,
+    }
+}
+
 impl Kernel {
     /// The kernel that a parse begins with.
     pub fn start(alloc: Global) -> Kernel
@@ -42,7 +53,7 @@ impl Kernel {
     }
 
     /// The kernel of one item.
-    pub(crate) fn of_one(alloc: Global, item: Item) -> Kernel
+    pub fn of_one(alloc: Global, item: Item) -> Kernel
         ensures { result ≡ item ∷ [] }
     {
         let mut items = SmallVec::new(alloc);
@@ -64,6 +75,10 @@ impl Kernel {
     pub(crate) fn insert(&mut self, item: Item) -> Result<(), NoMemory>
         ensures { OnOk result (self.new ≡ with_item item self.old) }
     {
+        if is_behind(self.items.as_slice(), item) {
+            self.items.push(item)?;
+            return Ok(());
+        }
         let Err(place) = self.items.as_slice().binary_search(&item) else {
             return Ok(());
         };

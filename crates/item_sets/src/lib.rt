@@ -13,6 +13,7 @@ mod expansion;
 mod item;
 mod kernel;
 mod laws;
+mod symbol_set;
 mod walk;
 
 pub use expanding::expand;

@@ -16,23 +16,23 @@ loop-done-init g c = record {
 pub loop-done-smaller : goal.loop-done-smaller
 loop-done-smaller g c =
     let numbers = numbered c.args.grammar.now.grammar c.requires.formed in
-    let most : length c.loop-done.walk.symbols.keys ≤ length (universe c.args.grammar.now.grammar.rules) =
+    let most : length c.loop-done.walk.symbols ≤ length (universe c.args.grammar.now.grammar.rules) =
     few _ numbers c.args.kernel.now c.requires.items _ _ _ _ _ c.loop-done.invariant.way in
-    let more : c.loop-done.done < length c.loop-done.walk.symbols.keys = search rules in
+    let more : c.loop-done.done < length c.loop-done.walk.symbols = search rules in
     let falls : length (universe c.args.grammar.now.grammar.rules) -
     (c.loop-done.done + 1) < length (universe c.args.grammar.now.grammar.rules) - c.loop-done.done = omega arith in falls
 
 pub loop-done-preserved : goal.loop-done-preserved
 loop-done-preserved g c =
     let numbers = numbered c.args.grammar.now.grammar c.requires.formed in
-    let more : c.loop-done.done < length c.loop-done.walk.symbols.keys = search rules in
+    let more : c.loop-done.done < length c.loop-done.walk.symbols = search rules in
     let visit = c.in_ok-visit_rules.ensures in
     record {
       early = c.loop-done.invariant.early;
       taken = _;
       way = turn _ numbers c.args.kernel.now c.requires.items _ _ _ c.loop-done.done c.loop-done.invariant.taken c.loop-done.invariant.way
-          c.requires.formed.rule_order c.deref.result.now c.as_slice.result.now _ _ _
-          (c.deref.ensures.value ∙ c.loop-done.invariant.early) c.as_slice.ensures.keys more visit.extends visit.walk;
+          c.requires.formed.rule_order c.deref.result.now c.as_slice-in-loop-done.result.now _ _ _
+          (c.deref.ensures.value ∙ c.loop-done.invariant.early) c.as_slice-in-loop-done.ensures more visit.extends visit.walk;
       steps = omega (arith, visit.steps, c.loop-done.invariant.steps);
     }
 
@@ -40,5 +40,5 @@ pub returns-clause-closure : goal.returns-clause-closure
 returns-clause-closure g c =
     let numbers = numbered c.args.grammar.now.grammar c.requires.formed in
     let way = c.loop-done.invariant.way in
-    let all : length c.loop-done.walk.symbols.keys ≤ c.loop-done.done = search rules in
+    let all : length c.loop-done.walk.symbols ≤ c.loop-done.done = search rules in
     (way.items, finished _ numbers c.args.kernel.now c.requires.items _ _ _ _ _ way all, way.walk, omega (arith, way.count, c.loop-done.invariant.steps))

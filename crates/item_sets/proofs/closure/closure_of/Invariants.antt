@@ -7,7 +7,7 @@ abbrev pub invariant-loop-done : goal.invariant-loop-done
 invariant-loop-done g l = record {
   early : l.early.items ≡ early_rules l.kernel;
   taken : ℕ;
-  way : IsOnTheWay l.grammar.grammar.rules l.kernel l.walk.symbols.keys l.walk.moves.items l.walk.reductions.items l.done taken;
+  way : IsOnTheWay l.grammar.grammar.rules l.kernel l.walk.symbols l.walk.moves.items l.walk.reductions.items l.done taken;
   steps : l.steps ≡ l.fn.steps + taken;
 }
 

@@ -5,9 +5,9 @@ use Rattle.item_sets.proofs.closure.visit_rules.Given as goal
 
 abbrev pub invariant-loop-number : goal.invariant-loop-number
 invariant-loop-number g l = record {
-  walk : (items : List Item) → IsWalk l.grammar.grammar.rules items l.fn.walk.symbols.keys l.fn.walk.moves.items l.fn.walk.reductions.items
+  walk : (items : List Item) → IsWalk l.grammar.grammar.rules items l.fn.walk.symbols l.fn.walk.moves.items l.fn.walk.reductions.items
       → IsWalk l.grammar.grammar.rules
-      (items ++ added_items l.early (take l.number-index l.number-items)) l.walk.symbols.keys l.walk.moves.items l.walk.reductions.items;
-  extends : Extends l.fn.walk.symbols.keys l.walk.symbols.keys;
+      (items ++ added_items l.early (take l.number-index l.number-items)) l.walk.symbols l.walk.moves.items l.walk.reductions.items;
+  extends : Extends l.fn.walk.symbols l.walk.symbols;
   steps : l.steps ≡ l.fn.steps + length (added_items l.early (take l.number-index l.number-items));
 }

@@ -16,4 +16,4 @@ pub returns-clause-walk : goal.returns-clause-walk
 returns-clause-walk g c = λ items walk.
     let some : next_of c.args.grammar.now.grammar.rules c.args.item ≡ Some c.in-Some.symbol = search rules in
     let step = met_some _ items _ _ _ walk c.args.item c.in-Some.symbol some in
-    rw (c.in_ok-put_at.ensures, c.in_ok-place.ensures.index, c.in_ok-place.ensures.keys) step
+    rw (c.in_ok-put_at.ensures, c.in_ok-place.ensures.place, c.in_ok-place.ensures.symbols) step
