@@ -71,7 +71,8 @@ module _ (z : Sizes) (marks : List Bool) (room : length marks ≡ z.versions * z
   pub page_else : (p row : ℕ) → row < z.rows → p ≢ page → is_marked z (cleared marks (page * z.rows) z.rows page_room) p row ≡ is_marked z marks p row
   page_else p row lt ne = cleared_else marks (page * z.rows) z.rows page_room (p * z.rows + row) (elim (cases_lt p page) [
     | inl below ↦ inl (before z.rows p page row below lt)
-    | inr ge ↦ inr (let m : suc page * z.rows ≤ p * z.rows = mul-le-mul_right z.rows (let k : suc page ≤ p = omega arith in k) in let d = suc-mul page z.rows in omega arith)
+    | inr ge ↦ inr (let m : suc page * z.rows ≤ p * z.rows = mul-le-mul_right z.rows (let k : suc page ≤ p = omega arith in k) in
+        let d = suc-mul page z.rows in omega arith)
   ])
 
 -- The rows that words of places name, one word more
