@@ -11,6 +11,7 @@ pub mod Chosen
 pub mod RowsByNumber
 pub mod NextVersions
 pub mod Dividing
+pub mod NotedPlaces
 pub mod MarkedRows
 pub mod Noting
 pub mod FreedRows

@@ -43,3 +43,9 @@ pub record FreesPage (c : Leaving) (carried : CarriedRows) (r : Role) (g : Givin
   pub goes : Goes v w (page_frees c.sizes (oldest r).carried c.page 0 places)
   pub known : w.known ≡ v.known
   pub role : w.role ≡ Some (role_at c.sizes r g (length places))
+
+-- the same of so many places, the first of the page
+pub record FreesFirst (c : Leaving) (carried : CarriedRows) (r : Role) (g : GivingUp) (count : ℕ) (v w : View) : Type 0 where
+  pub places : List ℕ
+  pub many : length places ≡ count
+  pub frees : FreesPage c carried r g places v w

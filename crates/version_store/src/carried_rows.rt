@@ -1,9 +1,10 @@
 //! Which rows were carried into the version of a page.
 
-ghost use Rattle.std.specs.Prelude.{◌≡◌, ◌≢◌, ◌<◌, ◌*◌, ℕ, suc, false, IfOk, length, slice_index};
+ghost use Rattle.std.specs.Prelude.{◌≡◌, ◌≢◌, ◌<◌, ◌≤◌, ◌+◌, ◌*◌, ◌++◌, [], ℕ, List, suc, true, false, IfOk};
+ghost use Rattle.std.specs.Prelude.{length, take, drop, replicate, slice_index};
 ghost use Rattle.pin_rule.specs.Making.{rows_of};
 ghost use Rattle.pin_rule.specs.Lists.{is_in};
-ghost use Rattle.version_store.specs.Marks.{is_marked, AreOther};
+ghost use Rattle.version_store.specs.Marks.{is_marked, AreMarked, AreOther};
 
 use crate::NoMemory;
 use pin_rule::sizes::Sizes;
@@ -18,6 +19,26 @@ pub(crate) struct CarriedRows {
     /// For each page, a mark for each row.
     marks: Vec<bool>,
     ghost room: { length marks.items ≡ sizes.versions * sizes.rows },
+}
+
+/// Whether eight words of places are 0, so that they name no row.
+fn are_empty(eight: &[u64]) -> bool
+    requires { length eight.now ≡ 8 }
+    ensures { result ≡ true → rows_of eight.now ≡ [] }
+{
+    let all = eight[0] | eight[1] | eight[2] | eight[3] | eight[4] | eight[5] | eight[6] | eight[7];
+    if all != 0 {
+        return false;
+    }
+    true
+}
+
+/// Leaves so many rows unmarked, from this mark on.
+fn unmark(marks: &mut [bool], start: usize, count: usize)
+    requires { start + count ≤ length marks.old }
+    ensures { marks.new ≡ take start marks.old ++ (replicate count false ++ drop (start + count) marks.old) }
+{
+    marks[start..start + count].fill(false);
 }
 
 impl CarriedRows {
@@ -60,8 +81,27 @@ impl CarriedRows {
         ensures else_ { (p row : ℕ) → row < self.old.sizes.rows → p ≢ page
             → is_marked self.new.sizes self.new.marks.items p row ≡ is_marked self.old.sizes self.old.marks.items p row }
     {
-        for row in 0..self.sizes.rows {
-            self.set(page, row, false);
+        let start = page as usize * self.sizes.rows as usize;
+        unmark(self.marks.as_mut_slice(), start, self.sizes.rows as usize);
+    }
+
+    /// Marks the rows that these words of places name, beside those that are
+    /// marked.
+    fn note_places(&mut self, page: u32, part: &[u64])
+        requires page { page < self.old.sizes.versions }
+        requires rows { (place row : ℕ) → slice_index part.now place ≡ suc row → row < self.old.sizes.rows }
+        ensures sizes { self.new.sizes ≡ self.old.sizes }
+        ensures noted { (before : List ℕ) → AreMarked self.old.sizes self.old.marks.items page before
+            → AreMarked self.new.sizes self.new.marks.items page (before ++ part.now) }
+        ensures else_ { (p row : ℕ) → row < self.old.sizes.rows → p ≢ page
+            → is_marked self.new.sizes self.new.marks.items p row ≡ is_marked self.old.sizes self.old.marks.items p row }
+    {
+        for place in 0..part.len() {
+            let word = part[place];
+            if word == 0 {
+                continue;
+            }
+            self.set(page, (word - 1) as u32, true);
         }
     }
 
@@ -77,12 +117,15 @@ impl CarriedRows {
             → is_marked self.new.sizes self.new.marks.items p row ≡ is_marked self.old.sizes self.old.marks.items p row }
     {
         self.clear(page);
-        for place in 0..places.len() {
-            let word = places[place];
-            if word == 0 {
+        let groups = places.len() / 8;
+        for group in 0..groups {
+            let at = group * 8;
+            let eight = &places[at..at + 8];
+            if are_empty(eight) {
                 continue;
             }
-            self.set(page, (word - 1) as u32, true);
+            self.note_places(page, eight);
         }
+        self.note_places(page, &places[groups * 8..]);
     }
 }

@@ -1,40 +1,45 @@
-use Rattle.std.proofs.Common.{◌≡◌, ◌<◌, ◌-◌, ◌+◌, ℕ, suc, take, slice_index, inl, inr, sym, ap, ◌∙◌, subst, arith}
-use mathlib.Core.Logic.{dite}
-use native.Mathlib.Decide.{ℕ_discrete}
+use Rattle.std.proofs.Common.{◌≡◌, ◌<◌, ◌+◌, ◌-◌, ◌*◌, ◌/◌, ℕ, length, take, sym, ◌∙◌, subst, arith}
 use Rattle.pin_rule.specs.declared.sizes.Sizes.{Sizes}
-use Rattle.pin_rule.specs.Lists.{is_in}
-use Rattle.pin_rule.specs.Making.{rows_of}
-use Rattle.slot_store.proofs.Passing.{row_met}
-use Rattle.version_store.specs.Marks.{is_marked}
-use Rattle.version_store.proofs.MarkedRows.{names_none, names_it, names_other}
+use Rattle.version_store.specs.Marks.{AreMarked}
+use Rattle.version_store.proofs.NotedPlaces.{eight_on, eight_none, rest_on, named_within}
 use Rattle.version_store.proofs.carried_rows.CarriedRows.note.Goals as goal
 
-pub overflow_cast-word : goal.overflow_cast-word
-overflow_cast-word c = let word : ℕ = slice_index c.args.places.now c.loop-place.place in
-    let lt = c.requires.rows c.loop-place.place (word - 1) (row_met word c.if-word-eq0.false) in let few = c.args.self.now.sizes.rows_in in
-    record { fits = omega arith }
+pub loop-group-init : goal.loop-group-init
+loop-group-init c = let e = c.clear.ensures in record {
+  sizes = e.sizes;
+  noted = λ row lt. e.here row (subst (λ (z : Sizes). row < z.rows) e.sizes lt);
+  others = e.else_;
+}
 
-pub set-requires-clause-row : goal.set-requires-clause-row
-set-requires-clause-row c = let word : ℕ = slice_index c.args.places.now c.loop-place.place in
-    subst (λ (z : Sizes). word - 1 < z.rows) (sym c.loop-place.invariant.sizes)
-    (c.requires.rows c.loop-place.place (word - 1) (row_met word c.if-word-eq0.false))
-
-pub loop-place-preserved-then-word-eq0 : goal.loop-place-preserved-then-word-eq0
-loop-place-preserved-then-word-eq0 c = let i = c.loop-place.invariant in record {
+pub loop-group-preserved-then-are_empty : goal.loop-group-preserved-then-are_empty
+loop-group-preserved-then-are_empty c = let i = c.loop-group.invariant in record {
   sizes = i.sizes;
-  noted = λ row lt. i.noted row lt ∙ sym (names_none c.args.places.now c.loop-place.place c.loop-place-test.true row c.if-word-eq0.true);
+  noted = λ row lt. i.noted row lt ∙ sym (eight_none c.args.places.now c.loop-group.group (c.are_empty.ensures c.if-are_empty.true) row);
   others = i.others;
 }
 
-pub loop-place-preserved : goal.loop-place-preserved
-loop-place-preserved c = let i = c.loop-place.invariant in let places = c.args.places.now in let n : ℕ = c.loop-place.place in
-    let word : ℕ = slice_index places n in let row : ℕ = word - 1 in let is : word ≡ suc row = row_met word c.if-word-eq0.false in
-    let e = c.set.ensures in let old = c.loop-place.self in record {
+pub note_places-requires-clause-rows : goal.note_places-requires-clause-rows
+note_places-requires-clause-rows c = λ place row is. let at : ℕ = c.loop-group.group * 8 in
+    subst (λ (z : Sizes). row < z.rows) (sym c.loop-group.invariant.sizes)
+    (c.requires.rows (at + place) row (named_within c.args.places.now at (at + 8 - at) place row is))
+
+pub loop-group-preserved : goal.loop-group-preserved
+loop-group-preserved c = let i = c.loop-group.invariant in let e = c.note_places.ensures in let places = c.args.places.now in
+    let new = c.note_places.new.self in record {
       sizes = e.sizes ∙ i.sizes;
-      noted = λ r lt. dite (ℕ_discrete r row)
-          (λ same. ap (λ (k : ℕ). is_marked c.set.new.self.sizes c.set.new.self.marks.items c.args.page k) same ∙ e.here
-          ∙ sym (names_it places n c.loop-place-test.true row is) ∙ ap (λ (k : ℕ). is_in k (rows_of (take (n + 1) places))) (sym same))
-          (λ ne. e.else_ c.args.page r (subst (λ (z : Sizes). r < z.rows) (sym i.sizes) lt) (inr ne) ∙ i.noted r lt
-          ∙ sym (names_other places n c.loop-place-test.true row r is ne));
-      others = λ p r lt ne. e.else_ p r (subst (λ (z : Sizes). r < z.rows) (sym i.sizes) lt) (inl ne) ∙ i.others p r lt ne;
+      noted = subst (AreMarked new.sizes new.marks.items c.args.page) (sym (eight_on places c.loop-group.group))
+          (e.noted (take (c.loop-group.group * 8) places) i.noted);
+      others = λ p row lt ne. e.else_ p row (subst (λ (z : Sizes). row < z.rows) (sym i.sizes) lt) ne ∙ i.others p row lt ne;
     }
+
+pub note_places-requires-2-clause-rows : goal.note_places-requires-2-clause-rows
+note_places-requires-2-clause-rows c = λ place row is. let places = c.args.places.now in let at : ℕ = length places / 8 * 8 in
+    subst (λ (z : Sizes). row < z.rows) (sym c.loop-group.invariant.sizes)
+    (c.requires.rows (at + place) row (named_within places at (length places - at) place row is))
+
+pub returns-clause-here : goal.returns-clause-here
+returns-clause-here c = λ row lt. let i = c.loop-group.invariant in let e = c.note_places-2.ensures in let places = c.args.places.now in
+    let new = c.note_places-2.new.self in let group : ℕ = c.loop-group.group in
+    let all : group ≡ length places / 8 = (let most = c.loop-group.auto.group-end in let out = c.loop-group-test.false in omega arith) in
+    subst (AreMarked new.sizes new.marks.items c.args.page) (rest_on places group (length places / 8) all) (e.noted (take (group * 8) places) i.noted)
+    row (subst (λ (z : Sizes). row < z.rows) (sym (e.sizes ∙ i.sizes)) lt)
