@@ -21,7 +21,7 @@ use Rattle.isg_states.proofs.MarkLists.{each_of, all_of, contains_none}
 
 -- ---- one candidate more
 
-chosen : Candidate → ℕ → List Mark
+pub chosen : Candidate → ℕ → List Mark
 chosen c byte = if has c.class.now byte then c.mark ∷ [] else []
 
 with_cons : (c : Candidate) (others : List Candidate) (byte : ℕ) → marks_with (c ∷ others) byte ≡ chosen c byte ++ marks_with others byte
@@ -37,11 +37,15 @@ with_push (x ∷ cs) c byte =
     with_cons x (cs ++ c ∷ []) byte ∙ ap (λ t. chosen x byte ++ t) (with_push cs c byte)
     ∙ sym (append_assoc (chosen x byte) (marks_with cs byte) (chosen c byte)) ∙ ap (λ t. t ++ chosen c byte) (sym (with_cons x cs byte))
 
-one_more : (cs : List Candidate) (i : ℕ) (c : Candidate) (byte : ℕ) → i < length cs → c ≡ get_or cs i c
+pub one_more : (cs : List Candidate) (i : ℕ) (c : Candidate) (byte : ℕ) → i < length cs → c ≡ get_or cs i c
     → marks_with (take (i + 1) cs) byte ≡ marks_with (take i cs) byte ++ chosen c byte
 one_more cs i c byte within is =
     ap (λ t. marks_with t byte) (take_more cs i c within) ∙ with_push (take i cs) (get_or cs i c) byte ∙ ap (λ x. marks_with (take i cs) byte ++ chosen x byte)
     (sym is)
+
+pub chosen_same : (c : Candidate) (a b : ℕ) → has c.class.now a ≡ has c.class.now b → chosen c a ≡ chosen c b
+unfolding chosen
+chosen_same c a b e = ap (λ h. if h then c.mark ∷ [] else []) e
 
 pub with_more : (cs : List Candidate) (i : ℕ) (c : Candidate) (byte : ℕ) → i < length cs → c ≡ get_or cs i c → has c.class.now byte ≡ true
     → marks_with (take (i + 1) cs) byte ≡ marks_with (take i cs) byte ++ c.mark ∷ []

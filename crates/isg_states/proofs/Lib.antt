@@ -8,3 +8,4 @@ pub mod Tables
 pub mod CandidateLists
 pub mod RangeLists
 pub mod Winners
+pub mod ClassEnds

@@ -1,6 +1,6 @@
 -- Lists of marks in the order of their numbers, as one goes in.
 use Rattle.std.proofs.Common.{◌≡◌, ℕ, zero, suc, ◌+◌, ◌*◌, ◌<◌, ◌≤◌, ◌⊎◌, inl, inr, ◌↔◌, List, [], ◌∷◌, ◌++◌, length, get_or, take, drop, refl, sym, ◌∙◌, ap}
-use Rattle.std.proofs.Common.{subst, arith, Contains, Err}
+use Rattle.std.proofs.Common.{subst, arith, Contains, Err, ◌-◌, append-nil, slice_get, Some}
 use Rattle.std.proofs.lemmas.Bool.{cases_lt}
 use Rattle.std.proofs.lemmas.List.{take-append-drop, get_or-take, get_or-drop, length-take, length-drop}
 use Rattle.std.proofs.lemmas.List.Elements.{Contains-append_left, Contains-append_right, Contains-append_cases}
@@ -8,7 +8,8 @@ use Rattle.std.proofs.lemmas.List.Sorted.{IsNonDecreasingBy-from_default}
 use Rattle.std.proofs.lemmas.Map.Keys.{Less-from_sorted}
 use Rattle.std.proofs.lemmas.Map.Lookups.{exact_unsigned}
 use Rattle.std.specs.Ordering.{nat_cmp, ordering_reverse, ordering_index}
-use Rattle.std.specs.Cmp.{nat_cmp_total}
+use Rattle.std.specs.Cmp.{nat_cmp_total, nat_cmp_is}
+use Rattle.std.proofs.lemmas.Option.{slice_get-get_or}
 use Rattle.std.specs.declared.cmp.Ordering.{Ordering}
 use Rattle.std.specs.declared.cmp.Ordering.TheVariants.{Less, Equal, Greater}
 use Rattle.std.specs.List.{AllByRecursion, HoldsAt, insert}
@@ -16,6 +17,7 @@ use Rattle.std.specs.List.Sorted.{IsStrictlySortedBy, IsBinarySearchResult, IsNo
 use Rattle.forest.specs.declared.symbols.SymbolId.{SymbolId}
 use Rattle.forest.specs.declared.rules.RuleId.{RuleId}
 use Rattle.forest.proofs.Ascending.{contains_here, contains_there, contains_cases}
+use Rattle.edit_log.proofs.PlainLists.{nat_cmp_less}
 use Rattle.edit_log.specs.declared.definitions.DefId.{DefId}
 use Rattle.edit_log.specs.declared.definitions.DefId.TheVariants.{Literal as literal, Named as named}
 use Rattle.isg_states.specs.declared.mark.Mark.{Mark}
@@ -154,3 +156,46 @@ module _ (xs : List Mark) (x : Mark) (sorted : IsStrictlySortedBy mark_cmp xs) w
           order = sorted_with (take at xs) (drop at xs) x (subst (IsStrictlySortedBy mark_cmp) (sym whole) sorted) below_at above_at;
           members = λ y. subst (λ ys. Contains (insert xs at x) y ↔ (Contains ys y ⊎ (y ≡ x))) whole (members_with (take at xs) (drop at xs) x y);
         }
+
+-- ---- a mark behind a list
+
+less_of : (a b : Mark) → mark_number a < mark_number b → mark_cmp a b ≡ Less
+less_of a b below = sym (nat_cmp_is (mark_number a) (mark_number b) Less below)
+
+below_of : (a b : Mark) → mark_cmp a b ≡ Less → mark_number a < mark_number b
+below_of a b less = nat_cmp_less (mark_number a) (mark_number b) less
+
+get_last : (xs : List Mark) (last d : Mark) → 0 < length xs → slice_get xs (length xs - 1) ≡ Some last → get_or xs (length xs - 1) d ≡ last
+get_last xs last d some there = same_some (get_or xs (length xs - 1) d) last (sym (slice_get-get_or xs (length xs - 1) d (omega arith)) ∙ there) where
+  same_some : (a b : Mark) → Some a ≡ Some b → a ≡ b
+  same_some a b e = cc
+
+-- the last one is below the mark: so each is
+pub below_all : (xs : List Mark) (last x : Mark) → IsStrictlySortedBy mark_cmp xs → slice_get xs (length xs - 1) ≡ Some last
+    → mark_number last < mark_number x → (y : Mark) → Contains xs y → mark_cmp y x ≡ Less
+below_all xs last x sorted there below y (k, within, is) =
+    let at : get_or xs (length xs - 1) y ≡ last = get_last xs last y (omega arith) there in
+    elim (cases_lt k (length xs - 1)) [
+      | inl before ↦ (
+          let upto : mark_cmp (get_or xs k y) (get_or xs (length xs - 1) y) ≡ Less =
+          Less-from_sorted mark_cmp xs k (length xs - 1) y sorted before (omega arith) in
+          let from_y : mark_cmp y last ≡ Less = subst (λ z. mark_cmp y z ≡ Less) at (subst (λ z. mark_cmp z (get_or xs (length xs - 1) y) ≡ Less) is upto) in
+          nat_cmp_total.trans (mark_number y) (mark_number last) (mark_number x) from_y (less_of last x below))
+      | inr behind ↦ (
+          let here : length xs - 1 ≡ k = omega arith in
+          let same : last ≡ y = sym at ∙ ap (λ i. get_or xs i y) here ∙ is in
+          subst (λ z. mark_cmp z x ≡ Less) same (less_of last x below))
+    ]
+
+-- each is below the mark: so the last one is
+pub last_below : (xs : List Mark) (last x : Mark) → slice_get xs (length xs - 1) ≡ Some last → ((y : Mark) → Contains xs y → mark_cmp y x ≡ Less)
+    → mark_number last < mark_number x
+last_below [] last x there all = absurd cc
+last_below (y ∷ ys) last x there all = below_of last x (all last (length (y ∷ ys) - 1, omega arith, get_last (y ∷ ys) last last (omega arith) there))
+
+pub put_last : (xs : List Mark) (x : Mark) → IsStrictlySortedBy mark_cmp xs → ((y : Mark) → Contains xs y → mark_cmp y x ≡ Less)
+    → ListsMarks (λ y. Contains xs y ⊎ (y ≡ x)) (xs ++ x ∷ [])
+put_last xs x sorted below = record {
+  order = sorted_with xs [] x (subst (IsStrictlySortedBy mark_cmp) (sym (append-nil xs)) sorted) below (λ y c. absurd (contains_none y c));
+  members = λ y. subst (λ ys. Contains (xs ++ x ∷ []) y ↔ (Contains ys y ⊎ (y ≡ x))) (append-nil xs) (members_with xs [] x y);
+}

@@ -1,6 +1,6 @@
--- Ranges as bytes come to them one by one.
-use Rattle.std.proofs.Common.{◌≡◌, ℕ, suc, ◌+◌, ◌-◌, ◌<◌, ◌≤◌, ◌⊎◌, inl, inr, List, [], ◌∷◌, ◌++◌, length, get_or, slice_get, slice_set, Option, Some, None}
-use Rattle.std.proofs.Common.{refl, sym, ap, ◌∙◌, subst, arith, append_assoc, length-append, Contains}
+-- Ranges as bytes come to them, one by one or all those at once that lead to the same marks.
+use Rattle.std.proofs.Common.{◌≡◌, ℕ, zero, suc, ◌+◌, ◌-◌, ◌<◌, ◌≤◌, ◌⊎◌, inl, inr, List, [], ◌∷◌, ◌++◌, length, get_or, slice_get, slice_set}
+use Rattle.std.proofs.Common.{Option, Some, None, refl, sym, ap, ◌∙◌, subst, arith, append_assoc, length-append, Contains}
 use Rattle.std.proofs.lemmas.Bool.{cases_lt}
 use Rattle.std.proofs.lemmas.List.Elements.{Contains-append_left, Contains-append_right, Contains-append_cases}
 use Rattle.std.proofs.lemmas.Option.{slice_get-get_or}
@@ -11,7 +11,7 @@ use Rattle.isg_states.specs.declared.scan_key.ScanKey.{ScanKey}
 use Rattle.isg_states.specs.declared.scan_key.ScanKey.TheVariants.{Start, Set}
 use Rattle.isg_states.specs.Marks.{ListsMarks}
 use Rattle.isg_states.specs.Expansion.{Range, LeadsTo, AreApart, IsScanExpansionOf}
-use Rattle.isg_states.specs.Candidates.{Adjoins, IsWithByte, TellsRange, TellsBelow}
+use Rattle.isg_states.specs.Candidates.{Adjoins, IsWithRange, TellsRange, TellsBelow}
 use Rattle.isg_states.proofs.MarkLists.{each_of, all_of, contains_none}
 
 same_set : (a b : List Mark) (k : ScanKey) → k ≡ Set a → k ≡ Set b → a ≡ b
@@ -136,10 +136,10 @@ get_last [] last d k e = subst (λ n. get_or (last ∷ []) n d ≡ last) (sym e)
 get_last (b ∷ before) last d k e = subst (λ n. get_or (b ∷ (before ++ last ∷ [])) n d ≡ last) (sym e) (get_last before last d (length before) refl)
 
 -- the last range goes on in place
-pub set_goes_on : (ranges : List Range) (byte : ℕ) (marks : List Mark) (k : ℕ) (last : Range) → Adjoins ranges byte marks → k ≡ length ranges - 1
+pub set_goes_on : (ranges : List Range) (low high : ℕ) (marks : List Mark) (k : ℕ) (last : Range) → Adjoins ranges low marks → k ≡ length ranges - 1
     → last ≡ get_or ranges k last
-    → IsWithByte ranges byte marks (slice_set ranges k (last.0, byte, last.2))
-set_goes_on ranges byte marks k last g place is =
+    → IsWithRange ranges low high marks (slice_set ranges k (last.0, high, last.2))
+set_goes_on ranges low high marks k last g place is =
     let here : Range = (g.1, g.2, Set marks) in
     let len : length ranges ≡ length g.0 + 1 = ap length g.3 ∙ length-append g.0 (here ∷ []) in
     let at : k ≡ length g.0 = omega arith in
@@ -150,8 +150,8 @@ set_goes_on ranges byte marks k last g place is =
       g.2,
       g.3,
       g.4,
-      ap (λ rs. slice_set rs k (last.0, byte, last.2)) g.3 ∙ set_last g.0 here (last.0, byte, last.2) k at ∙ ap
-          (λ (r : Range). g.0 ++ (r.0, byte, r.2) ∷ []) same,
+      ap (λ rs. slice_set rs k (last.0, high, last.2)) g.3 ∙ set_last g.0 here (last.0, high, last.2) k at ∙ ap
+          (λ (r : Range). g.0 ++ (r.0, high, r.2) ∷ []) same,
     )
 
 module _ (led : ℕ → List Mark) where
@@ -171,7 +171,7 @@ module _ (led : ℕ → List Mark) where
     nothing (b ∷ before) after one next k = absurd cc
 
   -- a byte that leads nowhere
-  pub tells_skip : (n : ℕ) (ranges : List Range) → TellsBelow led n ranges → length (led n) ≡ 0 → TellsBelow led (n + 1) ranges
+  tells_skip : (n : ℕ) (ranges : List Range) → TellsBelow led n ranges → length (led n) ≡ 0 → TellsBelow led (n + 1) ranges
   tells_skip n ranges t none = record {
     each = λ range c. range_upto n (n + 1) range (omega arith) (t.each range c);
     whole = λ byte small some. elim (cases_lt byte n) [
@@ -278,10 +278,59 @@ module _ (led : ℕ → List Mark) where
           somewhere = subst (λ m. 0 < length m) (same_set was.marks marks (Set marks) was.is refl) was.somewhere;
         }
 
-  pub tells_more : (n : ℕ) (old new : List Range) (marks : List Mark) → TellsBelow led n old → led n ≡ marks → 0 < length marks
-      → IsWithByte old n marks new → TellsBelow led (n + 1) new
-  tells_more n old new marks t is some (inl k) = subst (TellsBelow led (n + 1)) (sym k.5) (extend n k.0 k.1 k.2 marks (subst (TellsBelow led n) k.3 t) k.4 is)
-  tells_more n old new marks t is some (inr k) = subst (TellsBelow led (n + 1)) (sym k.1) (push n old marks t is some k.0)
+  -- the last range goes on over more bytes
+  lengthen : (count n : ℕ) (before : List Range) (first : ℕ) (marks : List Mark) → TellsBelow led (n + 1) (before ++ (first, n, Set marks) ∷ [])
+      → ((byte : ℕ) → n ≤ byte → byte ≤ n + count → led byte ≡ marks)
+      → TellsBelow led (n + count + 1) (before ++ (first, n + count, Set marks) ∷ [])
+  lengthen zero n before first marks t same = subst (λ m. TellsBelow led (m + 1) (before ++ (first, m, Set marks) ∷ []))
+      (let e : n ≡ n + zero = omega arith in e) t
+  lengthen (suc count) n before first marks t same = subst (λ m. TellsBelow led (m + 1) (before ++ (first, m, Set marks) ∷ []))
+      (let e : n + count + 1 ≡ n + suc count = omega arith in e)
+      (extend (n + count + 1) before first (n + count) marks
+      (lengthen count n before first marks t (λ byte from to. same byte from (omega arith)))
+      refl
+      (same (n + count + 1) (omega arith) (omega arith)))
+
+  -- the bytes from low to high lead to the same marks
+  pub tells_more : (low high : ℕ) (old new : List Range) (marks : List Mark) → low ≤ high → TellsBelow led low old → ((byte : ℕ) → low ≤ byte → byte ≤ high
+      → led byte ≡ marks)
+      → 0 < length marks → IsWithRange old low high marks new → TellsBelow led (high + 1) new
+  tells_more low high old new marks up t same some with = subst (λ h. TellsBelow led (h + 1) new) top (elim with [
+    | inl k ↦ subst (TellsBelow led (low + count + 1)) (ap (λ h. k.0 ++ (k.1, h, Set marks) ∷ []) top ∙ sym k.5)
+        (lengthen count low k.0 k.1 marks (extend low k.0 k.1 k.2 marks (subst (TellsBelow led low) k.3 t) k.4 here) all)
+    | inr k ↦ subst (TellsBelow led (low + count + 1)) (ap (λ h. old ++ (low, h, Set marks) ∷ []) top ∙ sym k.1)
+        (lengthen count low old low marks (push low old marks t here some k.0) all)
+  ]) where
+    count : ℕ
+    count = high - low
+
+    top : low + count ≡ high
+    top = omega arith
+
+    here : led low ≡ marks
+    here = same low (omega arith) up
+
+    all : (byte : ℕ) → low ≤ byte → byte ≤ low + count → led byte ≡ marks
+    all byte from to = same byte from (omega arith)
+
+  -- the bytes from n on lead nowhere
+  skips : (count n : ℕ) (ranges : List Range) → TellsBelow led n ranges → ((byte : ℕ) → n ≤ byte → byte < n + count → length (led byte) ≡ 0)
+      → TellsBelow led (n + count) ranges
+  skips zero n ranges t none = subst (λ m. TellsBelow led m ranges) (let e : n ≡ n + zero = omega arith in e) t
+  skips (suc count) n ranges t none = subst (λ m. TellsBelow led m ranges) (let e : n + count + 1 ≡ n + suc count = omega arith in e)
+      (tells_skip (n + count) ranges (skips count n ranges t (λ byte from to. none byte from (omega arith))) (none (n + count) (omega arith) (omega arith)))
+
+  -- the bytes from low to high lead nowhere
+  pub tells_no_more : (low high : ℕ) (ranges : List Range) (marks : List Mark) → low ≤ high → TellsBelow led low ranges → ((byte : ℕ) → low ≤ byte
+      → byte ≤ high → led byte ≡ marks)
+      → length marks ≡ 0 → TellsBelow led (high + 1) ranges
+  tells_no_more low high ranges marks up t same none = subst (λ m. TellsBelow led m ranges) top
+      (skips count low ranges t (λ byte from to. (ap length (same byte from (omega arith)) ∙ none))) where
+        count : ℕ
+        count = high + 1 - low
+
+        top : low + count ≡ high + 1
+        top = omega arith
 
   some_mark : (marks : List Mark) (mark : Mark) → Contains marks mark → 0 < length marks
   some_mark marks mark c = let below = c.1 in omega arith

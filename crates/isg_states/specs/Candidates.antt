@@ -1,5 +1,6 @@
 -- What the code that computes an expansion works with, as plain lists.
-use Rattle.std.specs.Prelude.{ℕ, ◌≡◌, ◌+◌, ◌<◌, ◌≤◌, ◌⊎◌, if◌then◌else◌, List, [], ◌∷◌, ◌++◌, length, map, IsTrue, Contains, slice_index_or}
+use Rattle.std.specs.Prelude.{ℕ, ◌≡◌, ◌+◌, ◌*◌, ◌<◌, ◌≤◌, ◌⊎◌, if◌then◌else◌, List, [], ◌∷◌, ◌++◌, length, map, IsTrue, Contains, slice_index_or}
+use Rattle.std.specs.Int.{bit_at}
 use Rattle.regex_ast.specs.Bytes.{has}
 use Rattle.regex_ast.specs.Positions.{Table, IsTableOf}
 use Rattle.regex_ast.specs.declared.limits.TheConstants.{POSITION_LIMIT}
@@ -41,16 +42,21 @@ abbrev pub marks_with : List Candidate → ℕ → List Mark
 marks_with [] byte = []
 marks_with (c ∷ others) byte = if has c.class.now byte then c.mark ∷ marks_with others byte else marks_with others byte
 
+-- among the 64 bytes of this number, one and the next lead to the same marks wherever the bit of the first is not set
+abbrev pub AreEnds : List Candidate → ℕ → ℕ → Type 0
+AreEnds candidates number ends =
+    (bit : ℕ) → bit < 63 → bit_at ends bit ≡ 0 → marks_with candidates (64 * number + bit + 1) ≡ marks_with candidates (64 * number + bit)
+
 -- the last range ends directly before the byte and leads to these marks
 abbrev pub Adjoins : List Range → ℕ → List Mark → Type 0
 Adjoins ranges byte marks = (before : List Range) × (low : ℕ) × (high : ℕ) × (ranges ≡ before ++ (low, high, Set marks) ∷ []) × (high + 1 ≡ byte)
 
--- the byte goes to the last range, where that goes on, and otherwise to one of its own
-abbrev pub IsWithByte : List Range → ℕ → List Mark → List Range → Type 0
-IsWithByte old byte marks new =
-    ((before : List Range) × (low : ℕ) × (high : ℕ) × (old ≡ before ++ (low, high, Set marks) ∷ []) × (high + 1 ≡ byte)
-    × (new ≡ before ++ (low, byte, Set marks) ∷ []))
-    ⊎ ((Adjoins old byte marks → ⊥) × (new ≡ old ++ (byte, byte, Set marks) ∷ []))
+-- the bytes from low to high go to the last range, where that goes on, and otherwise to one of their own
+abbrev pub IsWithRange : List Range → ℕ → ℕ → List Mark → List Range → Type 0
+IsWithRange old low high marks new =
+    ((before : List Range) × (first : ℕ) × (last : ℕ) × (old ≡ before ++ (first, last, Set marks) ∷ []) × (last + 1 ≡ low)
+    × (new ≡ before ++ (first, high, Set marks) ∷ []))
+    ⊎ ((Adjoins old low marks → ⊥) × (new ≡ old ++ (low, high, Set marks) ∷ []))
 
 -- each byte of the range leads to the marks of its key
 pub record TellsRange (led : ℕ → List Mark) (limit : ℕ) (range : Range) : Type 0 where

@@ -1,12 +1,13 @@
 //! Bytes that lead to the same marks, joined to ranges.
 
-ghost use Rattle.std.specs.Prelude.{◌≡◌, ◌↔◌, IsTrue, IfOk, OnOk};
+ghost use Rattle.std.specs.Prelude.{◌≡◌, ◌↔◌, ◌+◌, ◌*◌, ◌<◌, IsTrue, IfOk, OnOk};
 ghost use Rattle.std.specs.List.Sorted.{IsStrictlySortedBy};
 ghost use Rattle.isg_states.specs.Marks.{mark_cmp, AreAscending};
-ghost use Rattle.isg_states.specs.Candidates.{marks_of, marks_with, Adjoins, IsWithByte, TellsBelow};
+ghost use Rattle.isg_states.specs.Candidates.{marks_of, marks_with, Adjoins, IsWithRange, TellsBelow};
 
 use crate::NoMemory;
 use crate::candidates::{Candidate, with_byte};
+use crate::ends::{end_from, ends_of};
 use crate::mark::Mark;
 use crate::marks::Marks;
 use crate::scan_key::ScanKey;
@@ -28,23 +29,53 @@ fn goes_on(ranges: &[(u8, u8, ScanKey)], byte: u8, marks: &[Mark]) -> bool
     }
 }
 
-/// Tells that the byte leads to these marks: the last range goes on, or a new one begins.
-fn add_byte(
+/// Tells that the bytes from `low` to `high` lead to these marks: the last range goes on, or a new one begins.
+fn add_range(
     alloc: Global,
     ranges: &mut Vec<(u8, u8, ScanKey)>,
-    byte: u8,
+    low: u8,
+    high: u8,
     marks: &[Mark],
 ) -> Result<(), NoMemory>
     requires { AreAscending marks.now }
-    ensures { OnOk result (IsWithByte ranges.old.items byte marks.now ranges.new.items) }
+    ensures { OnOk result (IsWithRange ranges.old.items low high marks.now ranges.new.items) }
 {
-    if goes_on(ranges, byte, marks) {
+    if goes_on(ranges, low, marks) {
         let last = ranges.len() - 1;
-        ranges[last].1 = byte;
+        ranges[last].1 = high;
         return Ok(());
     }
     let key = ScanKey::Set(Marks::of(alloc, marks)?);
-    ranges.push((byte, byte, key))?;
+    ranges.push((low, high, key))?;
+    Ok(())
+}
+
+/// Tells where the 64 bytes from 64 times `number` on lead, all those at once between which no class changes.
+fn add_word(
+    alloc: Global,
+    candidates: &[Candidate],
+    number: usize,
+    marks: &mut Vec<Mark>,
+    ranges: &mut Vec<(u8, u8, ScanKey)>,
+) -> Result<(), NoMemory>
+    requires order { IsStrictlySortedBy mark_cmp (marks_of candidates.now) }
+    requires number { number < 4 }
+    ensures { OnOk result (TellsBelow (marks_with candidates.now) (64 * number) ranges.old.items
+        → TellsBelow (marks_with candidates.now) (64 * number + 64) ranges.new.items) }
+{
+    let ends = ends_of(candidates, number);
+    let start = (64 * number) as u8;
+    let mut low = 0;
+    while low < 64 {
+        let high = end_from(ends, low);
+        let first = start + low as u8;
+        with_byte(candidates, first, marks)?;
+        let led = marks.as_slice();
+        if !led.is_empty() {
+            add_range(alloc, ranges, first, start + high as u8, led)?;
+        }
+        low = high + 1;
+    }
     Ok(())
 }
 
@@ -58,12 +89,8 @@ pub(crate) fn byte_ranges(
 {
     let mut ranges = Vec::new(alloc);
     let mut marks = Vec::with_capacity(alloc, candidates.len())?;
-    for byte in 0..256usize {
-        with_byte(candidates, byte as u8, &mut marks)?;
-        let led = marks.as_slice();
-        if !led.is_empty() {
-            add_byte(alloc, &mut ranges, byte as u8, led)?;
-        }
+    for number in 0..4usize {
+        add_word(alloc, candidates, number, &mut marks, &mut ranges)?;
     }
     Ok(ranges)
 }

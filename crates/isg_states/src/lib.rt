@@ -9,6 +9,7 @@ use std::alloc::AllocError;
 
 mod byte_ranges;
 mod candidates;
+mod ends;
 mod expansion;
 mod laws;
 mod mark;

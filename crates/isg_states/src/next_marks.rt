@@ -1,7 +1,8 @@
 //! The positions that can come next from a state, whatever the byte.
 
-ghost use Rattle.std.specs.Prelude.{◌≡◌, ◌+◌, ◌≤◌, ◌<◌, ◌⊎◌, ℕ, length, IfOk, OnOk, IfSome, IsTrue, Contains};
+ghost use Rattle.std.specs.Prelude.{◌≡◌, ◌↔◌, ◌+◌, ◌≤◌, ◌<◌, ◌⊎◌, ℕ, length, IfOk, OnOk, IfSome, IsTrue, Contains};
 ghost use Rattle.std.specs.List.Sorted.{IsStrictlySortedBy};
+ghost use Rattle.std.specs.declared.cmp.Ordering.TheVariants.{Less};
 ghost use Rattle.regex_ast.specs.Bytes.{has};
 ghost use Rattle.edit_log.specs.Live.{IsLive};
 ghost use Rattle.edit_log.specs.declared.definitions.DefId.{DefId};
@@ -35,6 +36,17 @@ pub(crate) fn live_positions(grammar: &Grammar, definition: DefId) -> &Positions
     }
 }
 
+/// Whether the mark belongs behind all of these.
+fn is_above(marks: &[Mark], mark: Mark) -> bool
+    requires { IsStrictlySortedBy mark_cmp marks.now }
+    ensures { IsTrue result ↔ ((other : Mark) → Contains marks.now other → mark_cmp other mark ≡ Less) }
+{
+    let Some(last) = marks.last() else {
+        return true;
+    };
+    last.number() < mark.number()
+}
+
 /// Adds the mark where it belongs, if it is not there. Then it is one step.
 fn add_mark<L: Ledger>(
     found: &mut Vec<Mark>,
@@ -48,6 +60,12 @@ fn add_mark<L: Ledger>(
     ensures steps { OnOk result (steps.new + length found.old.items ≡ steps.old + length found.new.items) }
     ensures counted { steps.old ≤ steps.new }
 {
+    // Most come in their order.
+    if is_above(found, mark) {
+        found.push(mark)?;
+        steps.take();
+        return Ok(());
+    }
     let number = mark.number();
     match found.binary_search_by(|other| other.number().cmp(&number)) {
         Ok(_) => Ok(()),
