@@ -1,10 +1,12 @@
--- Which rows eight words of places name, and the marks once those of a page were cleared.
+-- Which rows eight words of places name, the marks once those of a page were cleared, and words that are set back to 0.
 use Rattle.std.proofs.Common.{◌≡◌, ◌⊎◌, ℕ, zero, suc, ◌+◌, ◌-◌, ◌*◌, ◌<◌, ◌≤◌, List, [], ◌∷◌, ◌++◌, inl, inr, length, take, drop, replicate, slice_index}
-use Rattle.std.proofs.Common.{get_or, append-nil, refl, sym, ap, ◌∙◌, arith}
+use Rattle.std.proofs.Common.{set, get_or, get_or-set_same, get_or-set_other, append-nil, refl, sym, ap, ◌∙◌, subst, arith}
 use Rattle.std.proofs.lemmas.Bool.{cases_lt}
-use Rattle.std.proofs.lemmas.List.{places, take-take, drop-take, take-append-drop, take_rest, get_or-take, get_or-drop}
+use Rattle.std.proofs.lemmas.List.{places, same_lists, take-take, drop-take, take-append-drop, take_rest, get_or-take, get_or-drop, get_or-replicate}
+use Rattle.std.proofs.lemmas.List.{get_or_default, get_or_past, length-take, length-drop, length-replicate}
 use Rattle.std.proofs.lemmas.Nat.{le_or_l, le_or_r}
 use Rattle.std.specs.Prelude.{Bool, false, bit_or}
+use borrow.Rule.Slice.PartMut.{put_mid}
 use Rattle.pin_rule.specs.Lists.{is_in}
 use Rattle.pin_rule.specs.Making.{rows_of}
 
@@ -13,7 +15,7 @@ use Rattle.pin_rule.specs.Making.{rows_of}
 or_parts : (a b : ℕ) → bit_or a b ≡ 0 → (a ≡ 0) × (b ≡ 0)
 or_parts a b e = ((let h = le_or_l a b in omega arith), (let h = le_or_r a b in omega arith))
 
-none_named : (xs : List ℕ) → ((i : ℕ) → i < length xs → slice_index xs i ≡ 0) → rows_of xs ≡ []
+pub none_named : (xs : List ℕ) → ((i : ℕ) → i < length xs → slice_index xs i ≡ 0) → rows_of xs ≡ []
 none_named [] h = refl
 none_named (zero ∷ xs) h = none_named xs (λ i lt. h (suc i) (omega arith))
 none_named (suc x ∷ xs) h = absurd (let e = h 0 (omega arith) in omega arith)
@@ -31,11 +33,13 @@ below_eight P a b c d e f g h (suc (suc (suc (suc (suc (suc (suc (suc i)))))))) 
 
 pub eight_empty : (xs : List ℕ) → length xs ≡ 8
     → bit_or (bit_or (bit_or (bit_or (bit_or (bit_or (bit_or (slice_index xs 0) (slice_index xs 1)) (slice_index xs 2)) (slice_index xs 3)) (slice_index xs 4))
-    (slice_index xs 5)) (slice_index xs 6)) (slice_index xs 7) ≡ 0 → rows_of xs ≡ []
-eight_empty xs many e = let h = or_parts _ (slice_index xs 7) e in let g = or_parts _ (slice_index xs 6) h.0 in let f = or_parts _ (slice_index xs 5) g.0 in
+    (slice_index xs 5)) (slice_index xs 6)) (slice_index xs 7) ≡ 0 → (i : ℕ) → slice_index xs i ≡ 0
+eight_empty xs many e i = let h = or_parts _ (slice_index xs 7) e in let g = or_parts _ (slice_index xs 6) h.0 in let f = or_parts _ (slice_index xs 5) g.0 in
     let t = or_parts _ (slice_index xs 4) f.0 in let d = or_parts _ (slice_index xs 3) t.0 in let c = or_parts _ (slice_index xs 2) d.0 in
-    let b = or_parts (slice_index xs 0) (slice_index xs 1) c.0 in
-    none_named xs (λ i lt. below_eight (λ k. slice_index xs k ≡ 0) b.0 b.1 c.1 d.1 t.1 f.1 g.1 h.1 i (omega arith))
+    let b = or_parts (slice_index xs 0) (slice_index xs 1) c.0 in elim (cases_lt i 8) [
+      | inl lt ↦ below_eight (λ k. slice_index xs k ≡ 0) b.0 b.1 c.1 d.1 t.1 f.1 g.1 h.1 i lt
+      | inr ge ↦ get_or_past xs i 0 (omega arith)
+    ]
 
 -- Eight places more
 
@@ -87,3 +91,58 @@ module _ (marks : List Bool) (start count : ℕ) (room : start + count ≤ lengt
 
   pub cleared_long : length cleared ≡ length marks
   cleared_long = grind (arith, places)
+
+-- Words that are set back to 0
+
+length-replicate_zero : (n : ℕ) → length (replicate n (let z : ℕ = 0 in z)) ≡ n
+length-replicate_zero n = length-replicate n 0
+
+-- all words are 0
+pub all_zero : (xs : List ℕ) (n : ℕ) → length xs ≡ n → ((k : ℕ) → k < n → slice_index xs k ≡ 0) → xs ≡ replicate n 0
+all_zero xs n many h = same_lists xs (replicate n 0) (many ∙ sym (length-replicate_zero n)) (λ k d lt. get_or_default xs k d 0 lt ∙ h k (omega arith)
+    ∙ sym (get_or-replicate n k 0 d (omega arith)))
+
+-- the same words from one on
+pub same_from : (xs ys : List ℕ) (at : ℕ) → length xs ≡ length ys → ((k : ℕ) → at ≤ k → slice_index xs k ≡ slice_index ys k) → drop at xs ≡ drop at ys
+same_from xs ys at many h = same_lists (drop at xs) (drop at ys) (let a = length-drop at xs in let b = length-drop at ys in omega arith)
+    (λ k d lt. let a = length-drop at xs in get_or-drop at xs k d ∙ get_or_default xs (at + k) d 0 (omega arith) ∙ h (at + k) (omega arith)
+    ∙ get_or_default ys (at + k) 0 d (omega arith) ∙ sym (get_or-drop at ys k d))
+
+-- a word within some that are 0
+pub zero_within : (xs : List ℕ) (at n k : ℕ) → ((i : ℕ) → slice_index (take n (drop at xs)) i ≡ 0) → at ≤ k → k < at + n → slice_index xs k ≡ 0
+zero_within xs at n k h ge lt = ap (slice_index xs) (let r : k ≡ at + (k - at) = omega arith in r)
+    ∙ sym (get_or-take n (drop at xs) (k - at) 0 (omega arith) ∙ get_or-drop at xs (k - at) 0) ∙ h (k - at)
+
+-- some words were set to 0
+module _ (xs ys : List ℕ) (at n : ℕ) (room : at + n ≤ length xs) (zeros : ys ≡ replicate (length (take n (drop at xs))) 0) where
+  ys_many : length ys ≡ n
+  ys_many = ap length zeros ∙ length-replicate_zero (length (take n (drop at xs))) ∙ (let a = length-take n (drop at xs) in let b = length-drop at xs in omega arith)
+
+  ys_zero : ys ≡ replicate n 0
+  ys_zero = zeros ∙ ap (λ (k : ℕ). replicate k (let z : ℕ = 0 in z)) (sym (length-replicate_zero (length (take n (drop at xs)))) ∙ ap length (sym zeros) ∙ ys_many)
+
+  pub put_long : length (put_mid at n xs ys) ≡ length xs
+  put_long = let many = ys_many in grind (arith, places)
+
+  pub put_before : (k : ℕ) → k < at → slice_index (put_mid at n xs ys) k ≡ slice_index xs k
+  put_before k lt = grind (arith, places)
+
+  pub put_within : (k : ℕ) → at ≤ k → k < at + n → slice_index (put_mid at n xs ys) k ≡ 0
+  put_within k ge lt = let many = ys_many in subst (λ (l : List ℕ). slice_index (put_mid at n xs l) k ≡ 0) (sym ys_zero) (grind (arith, places))
+
+  pub put_after : (k : ℕ) → at + n ≤ k → slice_index (put_mid at n xs ys) k ≡ slice_index xs k
+  put_after k ge = let many = ys_many in grind (arith, places)
+
+-- the next word was set to 0, or was 0
+module _ (xs : List ℕ) (i : ℕ) (lt : i < length xs) (emptied : (k : ℕ) → k < i → slice_index xs k ≡ 0) where
+  pub emptied_on : slice_index xs i ≡ 0 → (k : ℕ) → k < i + 1 → slice_index xs k ≡ 0
+  emptied_on e k below = elim (cases_lt k i) [ inl l ↦ emptied k l | inr ge ↦ ap (slice_index xs) (let r : k ≡ i = omega arith in r) ∙ e ]
+
+  pub emptied_set : (k : ℕ) → k < i + 1 → slice_index (set xs i 0) k ≡ 0
+  emptied_set k below = elim (cases_lt k i) [
+    | inl l ↦ get_or-set_other xs i k 0 0 (λ e. omega arith) ∙ emptied k l
+    | inr ge ↦ ap (slice_index (set xs i 0)) (let r : k ≡ i = omega arith in r) ∙ get_or-set_same xs i 0 0 lt
+  ]
+
+  pub left_set : (k : ℕ) → i + 1 ≤ k → slice_index (set xs i 0) k ≡ slice_index xs k
+  left_set k ge = get_or-set_other xs i k 0 0 (λ e. omega arith)

@@ -21,10 +21,10 @@ pub(crate) struct CarriedRows {
     ghost room: { length marks.items ≡ sizes.versions * sizes.rows },
 }
 
-/// Whether eight words of places are 0, so that they name no row.
+/// Whether eight words of places are all 0, so that they name no row.
 fn are_empty(eight: &[u64]) -> bool
     requires { length eight.now ≡ 8 }
-    ensures { result ≡ true → rows_of eight.now ≡ [] }
+    ensures { result ≡ true → (i : ℕ) → slice_index eight.now i ≡ 0 }
 {
     let all = eight[0] | eight[1] | eight[2] | eight[3] | eight[4] | eight[5] | eight[6] | eight[7];
     if all != 0 {
@@ -86,13 +86,14 @@ impl CarriedRows {
     }
 
     /// Marks the rows that these words of places name, beside those that are
-    /// marked.
-    fn note_places(&mut self, page: u32, part: &[u64])
+    /// marked, and sets the words to 0.
+    fn note_places(&mut self, page: u32, part: &mut [u64])
         requires page { page < self.old.sizes.versions }
-        requires rows { (place row : ℕ) → slice_index part.now place ≡ suc row → row < self.old.sizes.rows }
+        requires rows { (place row : ℕ) → slice_index part.old place ≡ suc row → row < self.old.sizes.rows }
         ensures sizes { self.new.sizes ≡ self.old.sizes }
         ensures noted { (before : List ℕ) → AreMarked self.old.sizes self.old.marks.items page before
-            → AreMarked self.new.sizes self.new.marks.items page (before ++ part.now) }
+            → AreMarked self.new.sizes self.new.marks.items page (before ++ part.old) }
+        ensures emptied { part.new ≡ replicate (length part.old) 0 }
         ensures else_ { (p row : ℕ) → row < self.old.sizes.rows → p ≢ page
             → is_marked self.new.sizes self.new.marks.items p row ≡ is_marked self.old.sizes self.old.marks.items p row }
     {
@@ -101,18 +102,20 @@ impl CarriedRows {
             if word == 0 {
                 continue;
             }
+            part[place] = 0;
             self.set(page, (word - 1) as u32, true);
         }
     }
 
     /// Marks the rows that these words of places name, and no other row of the
-    /// page.
-    pub(crate) fn note(&mut self, page: u32, places: &[u64])
+    /// page. The words are 0 afterwards.
+    pub(crate) fn note(&mut self, page: u32, places: &mut [u64])
         requires page { page < self.old.sizes.versions }
-        requires rows { (place row : ℕ) → slice_index places.now place ≡ suc row → row < self.old.sizes.rows }
+        requires rows { (place row : ℕ) → slice_index places.old place ≡ suc row → row < self.old.sizes.rows }
         ensures sizes { self.new.sizes ≡ self.old.sizes }
         ensures here { (row : ℕ) → row < self.old.sizes.rows
-            → is_marked self.new.sizes self.new.marks.items page row ≡ is_in row (rows_of places.now) }
+            → is_marked self.new.sizes self.new.marks.items page row ≡ is_in row (rows_of places.old) }
+        ensures emptied { places.new ≡ replicate (length places.old) 0 }
         ensures else_ { (p row : ℕ) → row < self.old.sizes.rows → p ≢ page
             → is_marked self.new.sizes self.new.marks.items p row ≡ is_marked self.old.sizes self.old.marks.items p row }
     {
@@ -120,12 +123,11 @@ impl CarriedRows {
         let groups = places.len() / 8;
         for group in 0..groups {
             let at = group * 8;
-            let eight = &places[at..at + 8];
-            if are_empty(eight) {
+            if are_empty(&places[at..at + 8]) {
                 continue;
             }
-            self.note_places(page, eight);
+            self.note_places(page, &mut places[at..at + 8]);
         }
-        self.note_places(page, &places[groups * 8..]);
+        self.note_places(page, &mut places[groups * 8..]);
     }
 }

@@ -51,7 +51,7 @@ impl<C: Content> Editor<C> {
         );
         let taken = (met % 4_294_967_296) as u32;
         self.lives
-            .add(version + 1, next, taken, self.places.as_slice());
+            .add(version + 1, next, taken, self.places.as_mut_slice());
         version + 1
     }
 

@@ -1,6 +1,6 @@
 //! The one user of a table that makes versions.
 
-ghost use Rattle.std.specs.Prelude.{◌≡◌, ◌≢◌, ◌≤◌, ◌+◌, Some, None, length};
+ghost use Rattle.std.specs.Prelude.{◌≡◌, ◌≢◌, ◌≤◌, ◌+◌, Some, None, length, replicate};
 ghost use Rattle.pin_rule.specs.Hands.{view_of};
 ghost use Rattle.pin_rule.specs.Views.{now};
 ghost use Rattle.version_store.specs.Roles.{role_of};
@@ -15,7 +15,7 @@ use std::alloc::Global;
 /// The one user of a table that makes versions. It pins none.
 ///
 /// It keeps the live versions. One buffer is for a row that is read, and one for
-/// the places of the page in the making.
+/// the places of the page in the making, which is all 0 between edits.
 #[derive(Drop)]
 pub struct Editor<C: Content> {
     /// Where the memory of its passes comes from.
@@ -30,7 +30,7 @@ pub struct Editor<C: Content> {
     pub(crate) left: u32,
     /// A row that is read lies at its start.
     pub(crate) row: Vec<u64>,
-    /// The places of the page in the making.
+    /// The places of the page in the making, all 0 between edits.
     pub(crate) places: Vec<u64>,
     ghost measured: { (view_of hand).sizes ≡ sizes },
     ghost shared: { (view_of hand).share ≢ 0 },
@@ -45,7 +45,7 @@ pub struct Editor<C: Content> {
     ghost log_in: { lives.newest.version ≤ sizes.log },
     ghost counted: { left ≡ (view_of hand).pins_left },
     ghost row_room: { length row.items ≡ sizes.width },
-    ghost places_room: { length places.items ≡ sizes.places },
+    ghost places_empty: { places.items ≡ replicate sizes.places 0 },
 }
 
 impl<C: Content> Editor<C> {

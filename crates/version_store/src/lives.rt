@@ -33,7 +33,7 @@ pub(crate) struct Lives {
 }
 
 impl Lives {
-    ghost use Rattle.std.specs.Prelude.{suc, List, [], ◌∷◌, true, false, IfOk, slice_index};
+    ghost use Rattle.std.specs.Prelude.{suc, List, [], ◌∷◌, true, false, IfOk, replicate, slice_index};
     ghost use Rattle.pin_rule.specs.declared.view.Live.{Live};
     ghost use Rattle.pin_rule.specs.declared.view.Older.{Older};
     ghost use Rattle.pin_rule.specs.GivingUp.{last_of, before_last};
@@ -124,16 +124,18 @@ impl Lives {
     }
 
     /// The next version is the newest one. These rows were carried into it, and
-    /// so many pins were taken on the version before.
-    pub(crate) fn add(&mut self, version: u32, page: u32, taken: u32, places: &[u64])
+    /// so many pins were taken on the version before. The words of the places
+    /// are 0 afterwards.
+    pub(crate) fn add(&mut self, version: u32, page: u32, taken: u32, places: &mut [u64])
         requires room { length self.old.older.items + 1 < self.old.sizes.versions }
         requires page { page < self.old.sizes.versions }
-        requires rows { (place row : ℕ) → slice_index places.now place ≡ suc row → row < self.old.sizes.rows }
+        requires rows { (place row : ℕ) → slice_index places.old place ≡ suc row → row < self.old.sizes.rows }
         ensures sizes { self.new.sizes ≡ self.old.sizes }
         ensures noted { (newest : Live) (older : List Older) (known : List (ℕ × ℕ)) → IsNoted newest older known self.old
             → ¬ (In page (pages_noted self.old.newest self.old.older.items))
-            → IsNoted (record { version = version; page = page; base = known_release known page; carried = rows_of places.now })
+            → IsNoted (record { version = version; page = page; base = known_release known page; carried = rows_of places.old })
             (record { live = newest; taken = taken } ∷ older) known self.new }
+        ensures emptied { places.new ≡ replicate (length places.old) 0 }
     {
         self.carried.note(page, places);
         self.older.push_reserved(OlderVersion {

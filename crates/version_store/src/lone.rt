@@ -1,6 +1,6 @@
 //! A bench that has pinned its version.
 
-ghost use Rattle.std.specs.Prelude.{◌≡◌, ◌≢◌, Some, None, [], length};
+ghost use Rattle.std.specs.Prelude.{◌≡◌, ◌≢◌, Some, None, [], length, replicate};
 ghost use Rattle.pin_rule.specs.Hands.{view_of};
 ghost use Rattle.pin_rule.specs.Views.{whole};
 ghost use Rattle.slot_store.specs.PinnedHands.{view_in, site_in, buffer_in};
@@ -26,7 +26,7 @@ pub struct Lone<C: Content> {
     pub(crate) hand: PinnedHand<C>,
     /// The one version that is live.
     pub(crate) lives: Lives,
-    /// Room for the places of a page in the making.
+    /// Room for the places of a page in the making, all 0.
     pub(crate) places: Vec<u64>,
     ghost has_all: { (view_in hand).share ≡ whole },
     ghost editor: { (view_in hand).role ≡ Some (role_of (view_in hand)) },
@@ -38,7 +38,7 @@ pub struct Lone<C: Content> {
     ghost at_version: { (role_of (view_in hand)).newest.version ≡ (site_in hand).version },
     ghost at_page: { (role_of (view_in hand)).newest.page ≡ (site_in hand).page },
     ghost row_room: { length (buffer_in hand) ≡ (site_in hand).sizes.width },
-    ghost places_room: { length places.items ≡ (site_in hand).sizes.places },
+    ghost places_empty: { places.items ≡ replicate (site_in hand).sizes.places 0 },
     ghost all_known: { ∥ IsWholeKnown (site_in hand).sizes (view_in hand).known ∥₁ },
 }
 

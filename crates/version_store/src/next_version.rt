@@ -1,6 +1,6 @@
 //! How the next version is made.
 
-ghost use Rattle.std.specs.Prelude.{◌≡◌, ◌<◌, ◌↔◌, [], ◌∷◌, ◌++◌, ℕ, List, None, length};
+ghost use Rattle.std.specs.Prelude.{◌≡◌, ◌<◌, ◌↔◌, [], ◌∷◌, ◌++◌, ℕ, List, None, length, replicate};
 ghost use Rattle.pin_rule.specs.declared.content.Entry.{Entry};
 ghost use Rattle.pin_rule.specs.Hands.{view_of, table_of};
 ghost use Rattle.pin_rule.specs.Views.{whole, pages_taken};
@@ -20,7 +20,8 @@ use pin_rule::content::Content;
 use pin_rule::hand::Hand;
 
 /// Makes the next version the current one, with this entry and the rows that
-/// are kept. Answers the word that named the version before.
+/// are kept. The places are empty at first. Answers the word that named the
+/// version before.
 pub(crate) fn make_next<C: Content, H: Chooser<C>>(
     hand: &mut Hand<C>,
     current: Current,
@@ -37,7 +38,7 @@ pub(crate) fn make_next<C: Content, H: Chooser<C>>(
     requires lawful { C.lawful ((view_of hand.old).log ++ record { words = entry.now } ∷ []) }
     requires leads { H.leads chooser.old (view_of hand.old).log ((view_of hand.old).log ++ record { words = entry.now } ∷ []) }
     requires buffer { length buffer.old ≡ current.sizes.width }
-    requires places { length places.old ≡ current.sizes.places }
+    requires places { places.old ≡ replicate current.sizes.places 0 }
     ensures table { table_of hand.new ≡ table_of hand.old }
     ensures made { MakesNext (H.keeps chooser.old) current (view_of hand.old) (view_of hand.new) entry.now places.new result }
     ensures asked { (view_of hand.old).share ≡ whole → IsWholeKnown current.sizes (view_of hand.old).known
@@ -48,7 +49,6 @@ pub(crate) fn make_next<C: Content, H: Chooser<C>>(
     ensures same_keeps { (words : List ℕ) → H.keeps chooser.new words ↔ H.keeps chooser.old words }
 {
     write_entry(hand, current, entry);
-    places.fill(0);
     choose_rows(hand, current, chooser, buffer, places);
     write_page(hand, current, places);
     hand.swap_current(current.version + 1, current.next)

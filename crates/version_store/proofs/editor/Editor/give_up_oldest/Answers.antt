@@ -98,7 +98,7 @@ invariant_of-self g c = let e = c.args.self.now in let k = c.load_release-met in
       log_in = e.log_in;
       counted = e.counted ∙ sym goes.stays.pins_left;
       row_room = e.row_room;
-      places_room = e.places_room;
+      places_empty = e.places_empty;
     }
 
 pub returns-then-released-oldest-clause-stays : goal.returns-then-released-oldest-clause-stays
@@ -237,7 +237,7 @@ invariant_of-self-3 g c = let e = c.args.self.now in let k = c.load_release-met 
       log_in = subst (λ (y : LiveVersion). y.version ≤ e.sizes.log) (sym e.noted.newest_is ∙ left.newest_is) e.log_in;
       counted = e.counted ∙ sym goes.stays.pins_left;
       row_room = e.row_room;
-      places_room = e.places_room;
+      places_empty = e.places_empty;
     }
 
 pub returns-clause-gone : goal.returns-clause-gone

@@ -1,6 +1,7 @@
-use Rattle.std.proofs.Common.{◌≡◌, ◌<◌, ◌+◌, ◌%◌, ◌∷◌, [], ℕ, suc, List, length, length-append, slice_index, inl, sym, refl, ap, ◌∙◌, subst, arith}
+use Rattle.std.proofs.Common.{◌≡◌, ◌<◌, ◌+◌, ◌%◌, ◌∷◌, [], ℕ, suc, List, length, length-append, replicate, slice_index, inl, sym, refl, ap, ◌∙◌, subst, arith}
 use Rattle.std.proofs.lemmas.List.{with_items_is}
 use Rattle.std.specs.Prelude.{Some}
+use Rattle.std.specs.Vec.{with_items}
 use Rattle.pin_rule.specs.declared.sizes.Sizes.{Sizes}
 use Rattle.pin_rule.specs.declared.view.Role.{Role}
 use Rattle.pin_rule.specs.Hands.{view_of}
@@ -33,7 +34,7 @@ add-requires-clause-room g c = let e = c.args.self.now in let m = older_many (ro
 
 pub add-requires-clause-rows : goal.add-requires-clause-rows
 add-requires-clause-rows g c = λ place row is. let e = c.args.self.now in let k = c.make_next-met in
-    let same : c.as_slice.result.now ≡ k.new.places = c.as_slice.ensures.value
+    let same : c.as_mut_slice-3.result.now ≡ k.new.places = c.as_mut_slice-3.ensures.value
     ∙ with_items_is e.places k.new.places (k.auto.places ∙ c.as_mut_slice-2.ensures.len) in
     subst (λ (z : Sizes). row < z.rows) (sym e.lives_measured) (k.ensures.made.rows_in place row (ap (λ (l : List ℕ). slice_index l place) (sym same) ∙ is))
 
@@ -41,11 +42,11 @@ pub invariant_of-self : goal.invariant_of-self
 invariant_of-self g c = let e = c.args.self.now in let k = c.make_next-met in let made = k.ensures.made in let v = view_of e.hand in
     let w = view_of k.new.hand in
     let n : ℕ = e.lives.newest.version in let page : ℕ = c.spare_page-next.result in let next : suc n ≡ n + 1 = omega arith in
-    let written : c.as_slice.result.now ≡ k.new.places = c.as_slice.ensures.value
+    let written : c.as_mut_slice-3.result.now ≡ k.new.places = c.as_mut_slice-3.ensures.value
     ∙ with_items_is e.places k.new.places (k.auto.places ∙ c.as_mut_slice-2.ensures.len) in
     let same = ap role_or_first made.role in let r = role_of v in
     let added = c.add.ensures.noted r.newest r.older r.released e.noted c.spare_page-next.ensures.spare in
-    let noted = noted_for (record { version = n + 1; page = page; base = known_release r.released page; carried = rows_of c.as_slice.result.now })
+    let noted = noted_for (record { version = n + 1; page = page; base = known_release r.released page; carried = rows_of c.as_mut_slice-3.result.now })
     (record { live = r.newest; taken = k.result % 4294967296 } ∷ r.older) r.released c.add.new.self added (role_of w)
     (ap (λ (y : Role). y.newest) same
     ∙ (λ i. record { version = next i; page = page; base = known_release r.released page; carried = rows_of (sym written i) }))
@@ -66,5 +67,6 @@ invariant_of-self g c = let e = c.args.self.now in let k = c.make_next-met in le
           let z = ap (λ (y : Sizes). y.log) e.measured in omega arith);
       counted = e.counted ∙ sym made.stays.pins_left;
       row_room = ap length (with_items_is e.row k.new.buffer (k.auto.buffer ∙ c.as_mut_slice.ensures.len)) ∙ k.ensures.buffer;
-      places_room = ap length (with_items_is e.places k.new.places (k.auto.places ∙ c.as_mut_slice-2.ensures.len)) ∙ k.ensures.places;
+      places_empty = with_items_is (with_items e.places k.new.places) c.add.new.places (c.add.auto.places ∙ c.as_mut_slice-3.ensures.len) ∙ c.add.ensures.emptied
+          ∙ ap (λ (n : ℕ). replicate n (let z : ℕ = 0 in z)) (ap length written ∙ k.ensures.places);
     }

@@ -1,4 +1,4 @@
-use Rattle.std.proofs.Common.{◌≡◌, length, sym, ap, ◌∙◌, subst}
+use Rattle.std.proofs.Common.{◌≡◌, ℕ, length, replicate, sym, ap, ◌∙◌, subst}
 use Rattle.std.specs.Prelude.{Option, Some}
 use Rattle.pin_rule.specs.declared.sizes.Sizes.{Sizes}
 use Rattle.pin_rule.specs.declared.view.Role.{Role}
@@ -32,7 +32,7 @@ invariant_of-self g c = let p = c.args.self.now in let h = p.hand in let q = c.p
       at_version = ap (λ (o : Option Role). (role_or_first o).newest.version) role ∙ p.at_version ∙ sym (ap (λ (y : Site). y.version) same.1);
       at_page = ap (λ (o : Option Role). (role_or_first o).newest.page) role ∙ p.at_page ∙ sym (ap (λ (y : Site). y.page) same.1);
       row_room = ap (λ b. length b.items) e.buffer ∙ p.row_room ∙ ap (λ (y : Sizes). y.width) sizes;
-      places_room = p.places_room ∙ ap (λ (y : Sizes). y.places) sizes;
+      places_empty = p.places_empty ∙ ap (λ (y : Sizes). replicate y.places (let z : ℕ = 0 in z)) sizes;
       all_known = ∣ subst (λ (y : Sizes). IsWholeKnown y w.known) sizes whole_known ∣₁;
     }
 
