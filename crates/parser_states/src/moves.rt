@@ -34,7 +34,9 @@ fn add_items(items: &mut Vec<Item>, more: &[Item]) -> Result<Part, NoMemory>
     ensures { IfOk result (AddsItems more.now items.old.items items.new.items) }
 {
     let first = items.len();
-    items.extend_from_slice(more)?;
+    for item in more {
+        items.push(*item)?;
+    }
     part_between(first, items.len())
 }
 

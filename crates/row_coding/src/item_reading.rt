@@ -30,6 +30,9 @@ fn read_kernel(alloc: Global, words: &[u64], items: &mut Buffer) -> Result<Kerne
     requires { AreItemWords words.now }
     ensures { IfOk result (λ kernel. kernel ≡ map item_of words.now) }
 {
+    if words.len() == 1 {
+        return Ok(Kernel::of_one(alloc, item_of(words[0])));
+    }
     items.clear();
     for word in words {
         items.push(item_of(*word))?;
