@@ -31,7 +31,8 @@ loop-offset-preserved g c =
     let part = c.args.part.now in let i : ℕ = c.loop-offset.offset in let first : ℕ = c.args.first in let u = view_of c.write_place_at.new.self in record {
       table = c.write_place_at.ensures.table ∙ c.loop-offset.invariant.table;
       wrote = λ v before editor many w. subst (WritesPage c.args.current v u)
-          (sym (ap (λ (l : List ℕ). before ++ l) (take_more part i 0 c.loop-offset-test.true) ∙ sym (append_assoc before (take i part) (slice_index part i ∷ []))))
+          (sym (ap (λ (l : List ℕ). before ++ l) (take_more part i 0 c.loop-offset-test.true)
+          ∙ sym (append_assoc before (take i part) (slice_index part i ∷ []))))
           (more c.args.current v editor (view_of c.loop-offset.hand) (before ++ take i part) (first + i) (slice_index part i)
           (at before part first i many c.loop-offset-test.true) (c.loop-offset.invariant.wrote v before editor many w) u c.write_place_at.ensures.view);
     }
