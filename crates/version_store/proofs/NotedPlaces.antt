@@ -116,10 +116,12 @@ zero_within xs at n k h ge lt = ap (slice_index xs) (let r : k ≡ at + (k - at)
 -- some words were set to 0
 module _ (xs ys : List ℕ) (at n : ℕ) (room : at + n ≤ length xs) (zeros : ys ≡ replicate (length (take n (drop at xs))) 0) where
   ys_many : length ys ≡ n
-  ys_many = ap length zeros ∙ length-replicate_zero (length (take n (drop at xs))) ∙ (let a = length-take n (drop at xs) in let b = length-drop at xs in omega arith)
+  ys_many = ap length zeros ∙ length-replicate_zero (length (take n (drop at xs)))
+      ∙ (let a = length-take n (drop at xs) in let b = length-drop at xs in omega arith)
 
   ys_zero : ys ≡ replicate n 0
-  ys_zero = zeros ∙ ap (λ (k : ℕ). replicate k (let z : ℕ = 0 in z)) (sym (length-replicate_zero (length (take n (drop at xs)))) ∙ ap length (sym zeros) ∙ ys_many)
+  ys_zero = zeros ∙ ap (λ (k : ℕ). replicate k (let z : ℕ = 0 in z))
+      (sym (length-replicate_zero (length (take n (drop at xs)))) ∙ ap length (sym zeros) ∙ ys_many)
 
   pub put_long : length (put_mid at n xs ys) ≡ length xs
   put_long = let many = ys_many in grind (arith, places)

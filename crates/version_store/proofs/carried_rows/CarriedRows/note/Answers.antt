@@ -1,4 +1,5 @@
-use Rattle.std.proofs.Common.{◌≡◌, ◌<◌, ◌≤◌, ◌+◌, ◌-◌, ◌*◌, ◌++◌, ◌/◌, ℕ, suc, List, length, take, drop, slice_index, inl, inr, refl, sym, ap, ◌∙◌, subst, arith}
+use Rattle.std.proofs.Common.{◌≡◌, ◌<◌, ◌≤◌, ◌+◌, ◌-◌, ◌*◌, ◌++◌, ◌/◌, ℕ, suc, List, length, take, drop, slice_index, inl, inr}
+use Rattle.std.proofs.Common.{refl, sym, ap, ◌∙◌, subst, arith}
 use Rattle.std.proofs.lemmas.Bool.{cases_lt}
 use Rattle.std.proofs.Math.Nat.{div-mul-le_self}
 use Rattle.pin_rule.specs.declared.sizes.Sizes.{Sizes}
@@ -101,7 +102,8 @@ returns-clause-here c = λ row lt. let i = c.loop-group.invariant in let e = c.n
 
 pub returns-clause-emptied : goal.returns-clause-emptied
 returns-clause-emptied c = let i = c.loop-group.invariant in let m : ℕ = length c.args.places.now in let at : ℕ = m / 8 * 8 in let xs = c.loop-group.places in
-    let n : ℕ = length xs - at in let ys = c.note_places-2.new.part in let inside = rest_in (length xs) m i.many in let zeros = c.note_places-2.ensures.emptied in
+    let n : ℕ = length xs - at in let ys = c.note_places-2.new.part in let inside = rest_in (length xs) m i.many in
+    let zeros = c.note_places-2.ensures.emptied in
     all_zero _ m (put_long xs ys at n inside zeros ∙ i.many) (λ k lt. elim (cases_lt k at) [
       | inl below ↦ put_before xs ys at n inside zeros k below ∙ i.emptied k (let out = c.loop-group-test.false in omega arith)
       | inr ge ↦ put_within xs ys at n inside zeros k ge (let many = i.many in omega arith)

@@ -67,6 +67,6 @@ invariant_of-self g c = let e = c.args.self.now in let k = c.make_next-met in le
           let z = ap (λ (y : Sizes). y.log) e.measured in omega arith);
       counted = e.counted ∙ sym made.stays.pins_left;
       row_room = ap length (with_items_is e.row k.new.buffer (k.auto.buffer ∙ c.as_mut_slice.ensures.len)) ∙ k.ensures.buffer;
-      places_empty = with_items_is (with_items e.places k.new.places) c.add.new.places (c.add.auto.places ∙ c.as_mut_slice-3.ensures.len) ∙ c.add.ensures.emptied
-          ∙ ap (λ (n : ℕ). replicate n (let z : ℕ = 0 in z)) (ap length written ∙ k.ensures.places);
+      places_empty = with_items_is (with_items e.places k.new.places) c.add.new.places (c.add.auto.places ∙ c.as_mut_slice-3.ensures.len)
+          ∙ c.add.ensures.emptied ∙ ap (λ (n : ℕ). replicate n (let z : ℕ = 0 in z)) (ap length written ∙ k.ensures.places);
     }
