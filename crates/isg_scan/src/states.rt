@@ -50,10 +50,10 @@ fn accepted_by(grammar: &Grammar, key: &ScanKey) -> Option<DefKind>
 }
 
 /// Writes the entry at the bytes from `low` to `high` of the state.
-fn fill(table: &mut [u32], state: usize, low: u8, high: u8, entry: u32)
+fn fill(table: &mut Vec<u32>, state: usize, low: u8, high: u8, entry: u32)
     requires order { low ≤ high }
-    requires inside { 256 * state + high < length table.old }
-    ensures { IsFilled table.old table.new (256 * state + low) (256 * state + high) entry }
+    requires inside { 256 * state + high < length table.old.items }
+    ensures { IsFilled table.old.items table.new.items (256 * state + low) (256 * state + high) entry }
 {
     let row = ROW * state;
     for place in row + usize::from(low)..row + usize::from(high) + 1 {
@@ -129,11 +129,11 @@ impl States {
         match led(graph, &self.keys.as_slice()[state], byte, steps)? {
             Some((low, high, target)) => {
                 let entry = self.entry_for(graph.grammar(), target)?;
-                fill(self.table.as_mut_slice(), state, low, high, entry);
+                fill(&mut self.table, state, low, high, entry);
                 Ok(entry)
             }
             None => {
-                fill(self.table.as_mut_slice(), state, byte, byte, NOWHERE);
+                fill(&mut self.table, state, byte, byte, NOWHERE);
                 Ok(NOWHERE)
             }
         }

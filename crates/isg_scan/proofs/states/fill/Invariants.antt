@@ -3,4 +3,4 @@ use Rattle.isg_scan.proofs.Fills.{IsFilledTo}
 use Rattle.isg_scan.proofs.states.fill.Given as goal
 
 abbrev pub invariant-loop-place : goal.invariant-loop-place
-invariant-loop-place l = IsFilledTo l.initial.table l.table (l.row + l.low) l.place l.entry
+invariant-loop-place l = IsFilledTo l.initial.table.items l.table.items (l.row + l.low) l.place l.entry
